@@ -1,0 +1,25 @@
+-- Cells and bodies: 64 bytes each, starting at 64 times their number.
+use Prim.Native.Nat.{ℕ, _+_}
+use mathlib.Core.Bool.{Bool}
+use mathlib.Core.List.{List}
+use lib.Dec.{eqb}
+use lib.ListN.{getD, take, drop}
+use Rattle.words.specs.Scan.{all}
+use Rattle.words.specs.Layout.{cellAt}
+use Rattle.words.specs.Stores.{Store, _≔_, tab}
+
+-- the bytes of cell or body c
+abbrev pub cellBytes : List ℕ → ℕ → List ℕ
+cellBytes s c = take 64 (drop (cellAt c) s)
+
+-- do two cells' bytes agree?
+unfoldable pub sameCell : List ℕ → List ℕ → Bool
+sameCell a b = all 64 (λ k. eqb (getD a k 0) (getD b k 0))
+
+-- copy the 64 bytes of s over the first 64, rising
+unfoldable pub copyPlan : List ℕ → List Store
+copyPlan s = tab 64 (λ j. j ≔ getD s j 0)
+
+-- copy cell `from` of s over cell `to`, rising
+unfoldable pub cellPlan : List ℕ → ℕ → ℕ → List Store
+cellPlan s from to = tab 64 (λ j. cellAt to + j ≔ getD s (cellAt from + j) 0)

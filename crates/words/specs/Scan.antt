@@ -1,0 +1,18 @@
+-- Scans over the numbers below a bound.
+use Prim.Native.Nat.{ℕ, zero, suc, _+_}
+use mathlib.Core.Bool.{Bool, true, false, cond, _&&_}
+
+-- does f hold of every number below n?
+unfoldable pub all : ℕ → (ℕ → Bool) → Bool
+all zero f = true
+all (suc n) f = all n f && f n
+
+-- the least number below n of which f holds, or n
+unfoldable pub first : ℕ → (ℕ → Bool) → ℕ
+first zero f = zero
+first (suc n) f = cond (f zero) zero (suc (first n (λ k. f (suc k))))
+
+-- of how many numbers below n f holds
+unfoldable pub count : ℕ → (ℕ → Bool) → ℕ
+count zero f = zero
+count (suc n) f = cond (f n) (suc (count n f)) (count n f)

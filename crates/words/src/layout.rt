@@ -1,0 +1,70 @@
+// Where everything stands in the three lent buffers. The numbers of document 01's table stand here and in specs/Layout.antt alone.
+ghost use mathlib.Core.Path.{_≡_};
+ghost use Prim.Native.Nat.{_≤_, _<_};
+ghost use Rattle.words.specs.Layout.{slotsOf, handleAt, firstAt, secondAt, pairsAt, maxLive, maxSlots};
+
+pub const MAX_CELLS: usize = 65536;
+
+pub const MAX_BODIES: usize = 4096;
+
+pub const MAX_SLOTS: usize = 4096;
+
+pub const MAX_LIVE: u32 = 8;
+
+// Word 0 of every store.
+pub const MAGIC: u32 = 0xCD511E01;
+
+// The number of each word of the head.
+pub const MAGIC_AT: usize = 0;
+
+pub const CELLS_AT: usize = 1;
+
+pub const SLOTS_AT: usize = 2;
+
+pub const BODIES_AT: usize = 3;
+
+pub const LIVE_AT: usize = 4;
+
+pub const NEXT_AT: usize = 5;
+
+pub const PENDING_AT: usize = 6;
+
+pub const ZERO_AT: usize = 7;
+
+// How many entry slots a table of so many words has. A table too short for any has 0.
+pub fn slots_of(words: usize) -> usize
+    ensures { λ r. ⌜ r ≡ slotsOf words ⌝ }
+{
+    if words < 36 { 0 } else { (words - 36) / 6 }
+}
+
+// The word of the handle of live domain k, counted from 0 at the outermost.
+pub fn handle_at(k: usize) -> usize
+    requires { ⌜ k ≤ maxLive ⌝ }
+    ensures { λ r. ⌜ r ≡ handleAt k ⌝ }
+{
+    8 + k
+}
+
+// The two words of entry i.
+pub fn first_at(slots: usize, i: usize) -> usize
+    requires { ⌜ (i < slots) × (slots ≤ maxSlots) ⌝ }
+    ensures { λ r. ⌜ r ≡ firstAt slots i ⌝ }
+{
+    16 + 2 * i
+}
+
+pub fn second_at(slots: usize, i: usize) -> usize
+    requires { ⌜ (i < slots) × (slots ≤ maxSlots) ⌝ }
+    ensures { λ r. ⌜ r ≡ secondAt slots i ⌝ }
+{
+    17 + 2 * i
+}
+
+// Where the entries end and the pairs begin.
+pub fn pairs_at(slots: usize) -> usize
+    requires { ⌜ slots ≤ maxSlots ⌝ }
+    ensures { λ r. ⌜ r ≡ pairsAt slots ⌝ }
+{
+    16 + 2 * slots
+}

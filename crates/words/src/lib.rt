@@ -1,0 +1,147 @@
+// Words and bytes stored under a budget of steps, and the journal.
+//
+// A function that stores under a budget makes the first `budget` stores of its plan, and all of them where the budget suffices. Nothing
+// asks whether a phase was stopped: the next one is passed what remains, which is 0 then. The budget stays a number of the run down to
+// each table word, so that no store is dead to the compiler.
+ghost use mathlib.Core.Path.{_≡_};
+ghost use Prim.Native.Nat.{ℕ, _+_, _-_, _*_, _≤_, _<_, min};
+ghost use lib.ListN.{length, take, getD};
+ghost use Rattle.words.specs.Layout.{cellAt, pendingAt};
+ghost use Rattle.words.specs.Stores.{stores};
+ghost use Rattle.words.specs.Journal.{pairPlan, applyPlan, publishPlan, finishPlan, journalSteps};
+ghost use Rattle.words.specs.Cells.{cellBytes, sameCell, copyPlan, cellPlan};
+
+pub mod layout;
+
+use layout::PENDING_AT;
+
+// The lesser of two numbers.
+pub fn least(a: usize, b: usize) -> usize
+    ensures { λ r. ⌜ r ≡ min a b ⌝ }
+{
+    if a <= b { a } else { b }
+}
+
+// What remains of a budget once so many steps are spent, or 0.
+pub fn remaining(budget: usize, spent: usize) -> usize
+    ensures { λ r. ⌜ r ≡ budget - spent ⌝ }
+{
+    if spent <= budget { budget - spent } else { 0 }
+}
+
+// A word as a usize.
+pub fn wide(x: u32) -> usize
+    ensures { λ r. ⌜ r ≡ x ⌝ }
+{
+    x as usize
+}
+
+// Do two parts of 64 bytes agree? All of them are compared, so that the compiler can compare many at once.
+pub fn same_bytes(a: &[u8], b: &[u8]) -> bool
+    requires { ⌜ (length (now a) ≡ 64) × (length (now b) ≡ 64) ⌝ }
+    ensures { λ r. ⌜ r ≡ sameCell (now (a .entry)) (now (b .entry)) ⌝ }
+{
+    let mut same = true;
+    let mut k: usize = 0;
+    while k < 64 {
+        same = same & (a[k] == b[k]);
+        k += 1;
+    }
+    same
+}
+
+// Does cell `cell` of one buffer hold what cell `other` of another holds?
+pub fn same_cell(buffer: &[u8], cell: usize, others: &[u8], other: usize) -> bool
+    requires { ⌜ (cellAt cell + 64 ≤ length (now buffer)) × (cellAt other + 64 ≤ length (now others)) ⌝ }
+    ensures { λ r. ⌜ r ≡ sameCell (cellBytes (now (buffer .entry)) cell) (cellBytes (now (others .entry)) other) ⌝ }
+{
+    let a = 64 * cell;
+    let b = 64 * other;
+    same_bytes(&buffer[a..a + 64], &others[b..b + 64])
+}
+
+// Copies the 64 bytes of src over those of dst, at most budget of them.
+pub fn copy_bytes(src: &[u8], dst: &mut [u8], budget: usize)
+    requires { ⌜ (length (now src) ≡ 64) × (length (now dst) ≡ 64) ⌝ }
+    ensures { λ _. ⌜ now (dst .exit) ≡ stores (take budget (copyPlan (now (src .entry)))) (now (dst .entry)) ⌝ }
+{
+    let n = least(budget, 64);
+    let mut j = 0;
+    while j < n {
+        dst[j] = src[j];
+        j += 1;
+    }
+}
+
+// Copies cell `from` of src over cell `to` of dst, at most budget bytes of it.
+pub fn copy_cell(src: &[u8], from: usize, dst: &mut [u8], to: usize, budget: usize)
+    requires { ⌜ (cellAt from + 64 ≤ length (now src)) × (cellAt to + 64 ≤ length (now dst)) ⌝ }
+    ensures { λ _. ⌜ now (dst .exit) ≡ stores (take budget (cellPlan (now (src .entry)) from to)) (now (dst .entry)) ⌝ }
+{
+    let a = 64 * from;
+    let b = a + 64;
+    let d = 64 * to;
+    let e = d + 64;
+    copy_bytes(&src[a..b], &mut dst[d..e], budget);
+}
+
+// Writes one pair, a word's number and its new value, at index i.
+pub fn write_pair(table: &mut [u32], i: usize, word: u32, value: u32, budget: usize)
+    requires { ⌜ i + 1 < length (now table) ⌝ }
+    ensures { λ _. ⌜ now (table .exit) ≡ stores (take budget (pairPlan i word value)) (now (table .entry)) ⌝ }
+{
+    if budget == 0 {
+        return;
+    }
+    table[i] = word;
+    if budget == 1 {
+        return;
+    }
+    table[i + 1] = value;
+}
+
+// Puts p pairs in place and then clears word 6.
+pub fn apply_pending(table: &mut [u32], first: usize, p: usize, budget: usize)
+    requires { ⌜ (first + 2 * p ≤ length (now table)) × (pendingAt < first) × ((j : ℕ) → j < p → getD (now table) (first + 2 * j) 0 < first) ⌝ }
+    ensures { λ _. ⌜ now (table .exit) ≡ stores (take budget (applyPlan (now (table .entry)) first p)) (now (table .entry)) ⌝ }
+{
+    let n = least(budget, p);
+    let mut j = 0;
+    while j < n {
+        let i = first + 2 * j;
+        let word = table[i] as usize;
+        table[word] = table[i + 1];
+        j += 1;
+    }
+    if n < budget {
+        table[PENDING_AT] = 0;
+    }
+}
+
+// Makes p written pairs pending by storing their number in word 6, and then applies them.
+pub fn publish(table: &mut [u32], first: usize, p: u32, budget: usize)
+    requires { ⌜ (first + 2 * p ≤ length (now table)) × (pendingAt < first) × ((j : ℕ) → j < p → getD (now table) (first + 2 * j) 0 < first) ⌝ }
+    ensures { λ _. ⌜ now (table .exit) ≡ stores (take budget (publishPlan (now (table .entry)) first p)) (now (table .entry)) ⌝ }
+{
+    if budget == 0 {
+        return;
+    }
+    table[PENDING_AT] = p;
+    apply_pending(table, first, p as usize, budget - 1);
+}
+
+// After the writing of p pairs under a budget: finishes the journal on what remains of it, and returns the steps of the whole journal uncut.
+pub fn finish_journal(table: &mut [u32], first: usize, p: usize, budget: usize) -> usize
+    requires { ⌜ (p ≤ 8202) × (2 * p ≤ budget → (first + 2 * p ≤ length (now table)) × (pendingAt < first) × ((j : ℕ) → j < p → getD (now table) (first + 2 * j) 0 < first)) ⌝ }
+    ensures made { λ r. ⌜ r ≡ journalSteps p ⌝ }
+    ensures words { λ _. ⌜ now (table .exit) ≡ stores (take (budget - 2 * p) (finishPlan (now (table .entry)) first p)) (now (table .entry)) ⌝ }
+{
+    if p == 0 {
+        return 0;
+    }
+    if budget < 2 * p {
+        return 3 * p + 2;
+    }
+    publish(table, first, p as u32, budget - 2 * p);
+    3 * p + 2
+}
