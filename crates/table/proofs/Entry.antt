@@ -1,0 +1,66 @@
+-- Laws of the search for an entry. Assumes nothing.
+use Prim.Native.Nat.{ℕ, suc, _+_, _*_, _/_, _%_, _≤_, _<_}
+use mathlib.Core.Path.{_≡_, refl, sym, ap, subst, _∙_}
+use native.Mathlib.Omega.{arith}
+use borrow.Author.Tests.{eq-eqb, ne-eqb, eqb-true, eqb-false, lt-ltb, le-ltb, ltb-true, ltb-false}
+use mathlib.Core.Bool.{Bool, true, false, not, _&&_}
+use mathlib.Core.List.{List}
+use lib.ListN.{getD}
+use lib.Dec.{ltb, leb, eqb}
+use Rattle.words.specs.Scan.{first}
+use Rattle.words.proofs.Scan.{first-at, first-le, first-hit, first-miss, first-ext, and-split, and-join, is-false, true≢, not-lt, not-above}
+use Rattle.table.specs.Entry.{word1, depthOf, cellOf, names, findIn, holdsIn}
+
+module _ (e : ℕ) (t : List ℕ) (d c : ℕ) where
+  pub names-both : (w : ℕ) → names d c w ≡ true → (depthOf w ≡ d) × (cellOf w ≡ c)
+  names-both w h = let s = and-split (eqb (depthOf w) d) (eqb (cellOf w) c) h in (eqb-true _ _ (s .0), eqb-true _ _ (s .1))
+
+  pub names-make : (w : ℕ) → depthOf w ≡ d → cellOf w ≡ c → names d c w ≡ true
+  names-make w p q = and-join _ _ (eq-eqb _ _ p) (eq-eqb _ _ q)
+
+  pub find-le : findIn e t d c ≤ e
+  unfolding findIn
+  find-le = first-le e _
+
+  pub find-hit : findIn e t d c < e → (depthOf (word1 e t (findIn e t d c)) ≡ d) × (cellOf (word1 e t (findIn e t d c)) ≡ c)
+  unfolding findIn
+  find-hit h = names-both _ (first-hit e (λ i. names d c (word1 e t i)) h)
+
+  pub find-miss : (j : ℕ) → j < findIn e t d c → names d c (word1 e t j) ≡ false
+  unfolding findIn
+  find-miss j h = first-miss e (λ i. names d c (word1 e t i)) j h
+
+  pub find-some : (j : ℕ) → j < e → depthOf (word1 e t j) ≡ d → cellOf (word1 e t j) ≡ c → findIn e t d c ≤ j
+  find-some j l p q = not-above (findIn e t d c) j (λ h. true≢ (names-make _ p q) (find-miss j h))
+
+  pub find-none : ((j : ℕ) → j < e → depthOf (word1 e t j) ≡ d → cellOf (word1 e t j) ≡ c → ⊥) → findIn e t d c ≡ e
+  unfolding findIn
+  find-none h =
+      first-at e (λ i. names d c (word1 e t i)) e (omega arith)
+      (λ j l. is-false (names d c (word1 e t j)) (λ p. let n = names-both _ p in h j l (n .0) (n .1)))
+      (λ l. absurd (not-lt e e l (omega arith)))
+
+  pub find-at : (i : ℕ) → i ≤ e → ((j : ℕ) → j < i → names d c (word1 e t j) ≡ false) → (i < e → names d c (word1 e t i) ≡ true) → findIn e t d c ≡ i
+  unfolding findIn
+  find-at i l h k = first-at e (λ i. names d c (word1 e t i)) i l h k
+
+  pub holds-true : findIn e t d c < e → holdsIn e t d c ≡ true
+  unfolding holdsIn
+  holds-true h = lt-ltb _ _ h
+
+  pub holds-false : e ≤ findIn e t d c → holdsIn e t d c ≡ false
+  unfolding holdsIn
+  holds-false h = le-ltb _ _ h
+
+  pub holds-found : holdsIn e t d c ≡ true → findIn e t d c < e
+  unfolding holdsIn
+  holds-found h = ltb-true _ _ h
+
+  pub holds-none : holdsIn e t d c ≡ false → e ≤ findIn e t d c
+  unfolding holdsIn
+  holds-none h = ltb-false _ _ h
+
+-- the search reads the first words alone
+pub find-ext : (e : ℕ) (t u : List ℕ) (d c : ℕ) → ((k : ℕ) → k < e → names d c (word1 e u k) ≡ names d c (word1 e t k)) → findIn e u d c ≡ findIn e t d c
+unfolding findIn
+find-ext e t u d c h = first-ext e _ _ h

@@ -1,0 +1,11 @@
+-- Laws that belong to no one function.
+pub mod Entry
+pub mod Rule
+pub mod Agree
+pub mod Change
+pub mod Keep
+pub mod Marks
+pub mod Parts
+pub mod Pairs
+pub mod Checks
+pub mod Head

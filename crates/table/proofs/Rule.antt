@@ -1,0 +1,202 @@
+-- The table's rule as facts, and that the computed test and the facts say the same. Assumes nothing.
+use Prim.Native.Nat.{ℕ, zero, suc, _+_, _-_, _*_, _/_, _%_, _≤_, _<_}
+use mathlib.Core.Bool.{Bool, true, false, cond, not, _&&_, _||_}
+use mathlib.Core.List.{List}
+use mathlib.Core.Path.{_≡_, refl, sym, ap, subst, _∙_}
+use native.Mathlib.Omega.{arith}
+use lib.ListN.{getD}
+use lib.Dec.{ltb, leb, eqb}
+use borrow.Author.Tests.{lt-ltb, le-ltb, le-leb, lt-leb, eq-eqb, ne-eqb, ltb-true, ltb-false, leb-true, leb-false, eqb-true, eqb-false}
+use Rattle.words.specs.Layout.{maxLive, pairsAt}
+use Rattle.words.specs.Journal.{effective}
+use Rattle.words.specs.Scan.{all}
+use Rattle.words.proofs.Scan.{all-at, all-make, and-split, and-join, by-bool, is-false, true≢}
+use Rattle.table.specs.Entry.{live, nextHandle, word1, word2, depthOf, viaOf, cellOf, unusedOf, parent, findIn, holdsIn}
+use Rattle.table.specs.Rule.{handleOk, headOk, kindOk, entryOk, parentOk, apart, apartBefore, ruleOk, pairsOk, tableOk}
+
+-- ---- the facts
+pub record Used (m e b : ℕ) (t : List ℕ) (i : ℕ) : Type 0 where
+  pub low : 1 ≤ depthOf (word1 e t i)
+  pub high : depthOf (word1 e t i) ≤ live t
+  pub spare : unusedOf (word1 e t i) ≡ 0
+  pub cell : cellOf (word1 e t i) < m
+  pub copy : viaOf (word1 e t i) ≡ 0 → word2 e t i < b
+  pub second : (viaOf (word1 e t i) ≡ 0 → ⊥) → word2 e t i ≡ 0
+  pub inner : (viaOf (word1 e t i) ≡ 0 → ⊥) → 2 ≤ depthOf (word1 e t i)
+
+pub record Apart (e : ℕ) (t : List ℕ) (j i : ℕ) : Type 0 where
+  pub cells : depthOf (word1 e t j) ≡ depthOf (word1 e t i) → cellOf (word1 e t j) ≡ cellOf (word1 e t i) → ⊥
+  pub bodies : viaOf (word1 e t j) ≡ 0 → viaOf (word1 e t i) ≡ 0 → word2 e t j ≡ word2 e t i → ⊥
+
+pub record Rule (m e b : ℕ) (t : List ℕ) : Type 0 where
+  pub live : live t ≤ maxLive
+  pub next : 1 ≤ nextHandle t
+  pub handles : (k : ℕ) → k < maxLive → handleOk t k ≡ true
+  pub free : (i : ℕ) → i < e → word1 e t i ≡ 0 → word2 e t i ≡ 0
+  pub used : (i : ℕ) → i < e → (word1 e t i ≡ 0 → ⊥) → Used m e b t i
+  pub outer : (i : ℕ) → i < e → (viaOf (word1 e t i) ≡ 0 → ⊥) → findIn e t (parent (depthOf (word1 e t i))) (cellOf (word1 e t i)) < e
+  pub apart-from : (i : ℕ) → i < e → (j : ℕ) → j < i → (word1 e t i ≡ 0 → ⊥) → (word1 e t j ≡ 0 → ⊥) → Apart e t j i
+
+-- ---- the two agree
+module _ (m e b : ℕ) (t : List ℕ) where
+  pub entry-free : (i : ℕ) → entryOk m e b t i ≡ true → word1 e t i ≡ 0 → word2 e t i ≡ 0
+  unfolding entryOk
+  entry-free i h z = eqb-true _ _ (rw (eq-eqb _ _ z) at h)
+
+  pub entry-used : (i : ℕ) → entryOk m e b t i ≡ true → (word1 e t i ≡ 0 → ⊥) → Used m e b t i
+  unfolding entryOk kindOk
+  entry-used i h z =
+      let h1 = rw (ne-eqb _ _ z) at h in
+      let s1 = and-split _ _ h1 in
+      let s2 = and-split _ _ (s1 .1) in
+      let s3 = and-split _ _ (s2 .1) in
+      let s4 = and-split _ _ (s3 .1) in
+      record {
+        low = leb-true _ _ (s1 .0);
+        high = leb-true _ _ (s2 .0);
+        spare = eqb-true _ _ (s3 .0);
+        cell = ltb-true _ _ (s4 .0);
+        copy = λ v. ltb-true _ _ (rw (eq-eqb _ _ v) at (s4 .1));
+        second = λ v. let k = rw (ne-eqb _ _ v) at (s4 .1) in eqb-true _ _ (and-split (eqb (word2 e t i) 0) (leb 2 (depthOf (word1 e t i))) k .0);
+        inner = λ v. let k = rw (ne-eqb _ _ v) at (s4 .1) in leb-true _ _ (and-split (eqb (word2 e t i) 0) (leb 2 (depthOf (word1 e t i))) k .1);
+      }
+
+  pub entry-make : (i : ℕ) → (word1 e t i ≡ 0 → word2 e t i ≡ 0) → ((word1 e t i ≡ 0 → ⊥) → Used m e b t i) → entryOk m e b t i ≡ true
+  unfolding entryOk kindOk
+  entry-make i f g =
+      by-bool (eqb (word1 e t i) 0)
+      (λ z. rw z (eq-eqb _ _ (f (eqb-true _ _ z))))
+      (λ z.
+      let u = g (eqb-false _ _ z) in
+      let kind : kindOk e b t i ≡ true =
+      by-bool (eqb (viaOf (word1 e t i)) 0)
+      (λ y. rw y (lt-ltb _ _ (u .copy (eqb-true _ _ y))))
+      (λ y. rw y (and-join _ _ (eq-eqb _ _ (u .second (eqb-false _ _ y))) (le-leb _ _ (u .inner (eqb-false _ _ y))))) in
+      rw z
+      (and-join _ _ (le-leb _ _ (u .low))
+      (and-join _ _ (le-leb _ _ (u .high)) (and-join _ _ (eq-eqb _ _ (u .spare)) (and-join _ _ (lt-ltb _ _ (u .cell)) kind)))))
+
+  pub outer-facts : (i : ℕ) → parentOk e t i ≡ true → (viaOf (word1 e t i) ≡ 0 → ⊥) → findIn e t (parent (depthOf (word1 e t i))) (cellOf (word1 e t i)) < e
+  unfolding parentOk holdsIn
+  outer-facts i h v = ltb-true _ _ (rw (ne-eqb _ _ v) at h)
+
+  pub outer-make : (i : ℕ) → ((viaOf (word1 e t i) ≡ 0 → ⊥) → findIn e t (parent (depthOf (word1 e t i))) (cellOf (word1 e t i)) < e) → parentOk e t i ≡ true
+  unfolding parentOk holdsIn
+  outer-make i f =
+      by-bool (eqb (viaOf (word1 e t i)) 0) (λ y. rw y) (λ y. rw y (lt-ltb _ _ (f (eqb-false _ _ y))))
+
+  not-and : (x y : Bool) → not (x && y) ≡ true → x ≡ true → y ≡ true → ⊥
+  not-and x y h p q = true≢ h (rw (p, q))
+
+  not-and-make : (x y : Bool) → (x ≡ true → y ≡ true → ⊥) → not (x && y) ≡ true
+  not-and-make true true h = absurd (h refl refl)
+  not-and-make true false h = refl
+  not-and-make false y h = refl
+
+  or-false : (x y : Bool) → x ≡ false → y ≡ false → (x || y) ≡ false
+  or-false x y p q = rw (p, q)
+
+  or-true-l : (x y : Bool) → x ≡ true → (x || y) ≡ true
+  or-true-l x y p = rw p
+
+  or-true-r : (x y : Bool) → y ≡ true → (x || y) ≡ true
+  or-true-r true y p = refl
+  or-true-r false y p = p
+
+  pub apart-facts : (i j : ℕ) → apart e t j i ≡ true → (word1 e t i ≡ 0 → ⊥) → (word1 e t j ≡ 0 → ⊥) → Apart e t j i
+  unfolding apart
+  apart-facts i j h ui uj =
+      let h1 = rw (or-false _ _ (ne-eqb _ _ ui) (ne-eqb _ _ uj)) at h in
+      let s = and-split _ _ h1 in
+      record {
+        cells = λ p q. not-and _ _ (s .0) (eq-eqb _ _ p) (eq-eqb _ _ q);
+        bodies = λ p q r. not-and _ _ (s .1) (eq-eqb _ _ p) (and-join _ _ (eq-eqb _ _ q) (eq-eqb _ _ r));
+      }
+
+  pub apart-make : (i j : ℕ) → ((word1 e t i ≡ 0 → ⊥) → (word1 e t j ≡ 0 → ⊥) → Apart e t j i) → apart e t j i ≡ true
+  unfolding apart
+  apart-make i j h =
+      by-bool (eqb (word1 e t i) 0)
+      (λ z. rw z)
+      (λ z.
+      by-bool (eqb (word1 e t j) 0) (λ y. rw (z, y))
+      (λ y.
+      let a = h (eqb-false _ _ z) (eqb-false _ _ y) in
+      rw (z, y)
+      (and-join _ _ (not-and-make _ _ (λ p q. a .cells (eqb-true _ _ p) (eqb-true _ _ q)))
+      (not-and-make _ _ (λ p q. let s = and-split _ _ q in a .bodies (eqb-true _ _ p) (eqb-true _ _ (s .0)) (eqb-true _ _ (s .1)))))))
+
+  pub ok-facts : ruleOk m e b t ≡ true → Rule m e b t
+  unfolding ruleOk headOk
+  ok-facts h =
+      let s1 = and-split _ _ h in
+      let s2 = and-split _ _ (s1 .1) in
+      let s3 = and-split _ _ (s2 .1) in
+      let h1 = and-split _ _ (s1 .0) in
+      let h2 = and-split _ _ (h1 .1) in
+      record {
+        live = leb-true _ _ (h1 .0);
+        next = leb-true _ _ (h2 .0);
+        handles = all-at maxLive (handleOk t) (h2 .1);
+        free = λ i l. entry-free i (all-at e (entryOk m e b t) (s2 .0) i l);
+        used = λ i l. entry-used i (all-at e (entryOk m e b t) (s2 .0) i l);
+        outer = λ i l. outer-facts i (all-at e (parentOk e t) (s3 .0) i l);
+        apart-from = λ i l j k. apart-facts i j (all-at i (λ (j : ℕ). apart e t j i) (all-at e (apartBefore e t) (s3 .1) i l) j k);
+      }
+
+  pub head-make : live t ≤ maxLive → 1 ≤ nextHandle t → ((k : ℕ) → k < maxLive → handleOk t k ≡ true) → headOk t ≡ true
+  unfolding headOk
+  head-make a b f = and-join _ _ (le-leb _ _ a) (and-join _ _ (le-leb _ _ b) (all-make maxLive (handleOk t) f))
+
+  pub ok-make : Rule m e b t → ruleOk m e b t ≡ true
+  unfolding ruleOk
+  ok-make h =
+      and-join _ _ (head-make (h .live) (h .next) (h .handles))
+      (and-join _ _ (all-make e (entryOk m e b t) (λ i l. entry-make i (h .free i l) (h .used i l)))
+      (and-join _ _ (all-make e (parentOk e t) (λ i l. outer-make i (h .outer i l)))
+      (all-make e (apartBefore e t) (λ i l. all-make i (λ (j : ℕ). apart e t j i) (λ j k. apart-make i j (h .apart-from i l j k))))))
+
+  pub ok-not : (Rule m e b t → ⊥) → ruleOk m e b t ≡ false
+  ok-not h = is-false (ruleOk m e b t) (λ p. h (ok-facts p))
+
+  -- what a check that goes test by test cites
+  pub ok-all : headOk t ≡ true → ((i : ℕ) → i < e → entryOk m e b t i ≡ true) → ((i : ℕ) → i < e → parentOk e t i ≡ true) → ((i : ℕ) → i < e → apartBefore e t i ≡ true) → ruleOk m e b t ≡ true
+  unfolding ruleOk
+  ok-all h l o a = and-join _ _ h (and-join _ _ (all-make e (entryOk m e b t) l) (and-join _ _ (all-make e (parentOk e t) o) (all-make e (apartBefore e t) a)))
+
+  pub no-head : headOk t ≡ false → ruleOk m e b t ≡ false
+  unfolding ruleOk
+  no-head h = rw h
+
+  pub parts : ruleOk m e b t ≡ true → (headOk t ≡ true) × (all e (entryOk m e b t) ≡ true) × (all e (parentOk e t) ≡ true) × (all e (apartBefore e t) ≡ true)
+  unfolding ruleOk
+  parts h =
+      let s1 = and-split _ _ h in
+      let s2 = and-split _ _ (s1 .1) in
+      let s3 = and-split _ _ (s2 .1) in
+      (s1 .0, s2 .0, s3 .0, s3 .1)
+
+  pub no-entry : (i : ℕ) → i < e → entryOk m e b t i ≡ false → ruleOk m e b t ≡ false
+  no-entry i l h = is-false (ruleOk m e b t) (λ p. true≢ (all-at e (entryOk m e b t) (parts p .1) i l) h)
+
+  pub no-outer : (i : ℕ) → i < e → parentOk e t i ≡ false → ruleOk m e b t ≡ false
+  no-outer i l h = is-false (ruleOk m e b t) (λ p. true≢ (all-at e (parentOk e t) (parts p .2) i l) h)
+
+  pub no-apart : (i : ℕ) → i < e → apartBefore e t i ≡ false → ruleOk m e b t ≡ false
+  no-apart i l h = is-false (ruleOk m e b t) (λ p. true≢ (all-at e (apartBefore e t) (parts p .3) i l) h)
+
+  -- an entry that passes by itself and is via parent is not outermost
+  pub via-inner : (i : ℕ) → entryOk m e b t i ≡ true → (viaOf (word1 e t i) ≡ 0 → ⊥) → 2 ≤ depthOf (word1 e t i)
+  via-inner i h v = entry-used i h (λ z. v (rw z)) .inner v
+
+-- ---- question 4
+module _ (m e b : ℕ) (t : List ℕ) where
+  pub table-facts : tableOk m e b t ≡ true → (pairsOk e t ≡ true) × Rule m e b (effective (pairsAt e) t)
+  unfolding tableOk
+  table-facts h =
+      let s = and-split (pairsOk e t) (ruleOk m e b (effective (pairsAt e) t)) h in
+      (s .0, ok-facts m e b (effective (pairsAt e) t) (s .1))
+
+  pub table-make : pairsOk e t ≡ true → Rule m e b (effective (pairsAt e) t) → tableOk m e b t ≡ true
+  unfolding tableOk
+  table-make p h = and-join _ _ p (ok-make m e b (effective (pairsAt e) t) h)

@@ -1,0 +1,66 @@
+-- Document 01, "Three lent buffers": the words of an entry, and which entry is found for a depth and a cell.
+-- e is the table's number of entry slots, t its words.
+use Prim.Native.Nat.{ℕ, _-_, _/_, _%_}
+use mathlib.Core.Bool.{Bool, _&&_}
+use mathlib.Core.List.{List}
+use lib.ListN.{getD, set}
+use lib.Dec.{ltb, eqb}
+use Rattle.words.specs.Layout.{liveAt, nextAt, handleAt, firstAt, secondAt}
+use Rattle.words.specs.Scan.{first}
+
+-- how many domains are live, the next handle, and the handle of live domain k, counted from 0 at the outermost
+abbrev pub live : List ℕ → ℕ
+live t = getD t liveAt 0
+
+abbrev pub nextHandle : List ℕ → ℕ
+nextHandle t = getD t nextAt 0
+
+abbrev pub handle : List ℕ → ℕ → ℕ
+handle t k = getD t (handleAt k) 0
+
+-- the two words of entry i
+abbrev pub word1 : ℕ → List ℕ → ℕ → ℕ
+word1 e t i = getD t (firstAt e i) 0
+
+abbrev pub word2 : ℕ → List ℕ → ℕ → ℕ
+word2 e t i = getD t (secondAt e i) 0
+
+-- bits 28 to 31 of the first word: the domain's depth, 1 at the outermost, 0 in a free entry
+abbrev pub depthOf : ℕ → ℕ
+depthOf w = w / 268_435_456
+
+-- bit 27: 1 for read-write
+abbrev pub writableOf : ℕ → ℕ
+writableOf w = w / 134_217_728 % 2
+
+-- bit 26: 1 for via parent
+abbrev pub viaOf : ℕ → ℕ
+viaOf w = w / 67_108_864 % 2
+
+-- bits 16 to 25, which are zero
+abbrev pub unusedOf : ℕ → ℕ
+unusedOf w = w / 65_536 % 1_024
+
+-- bits 0 to 15: the cell
+abbrev pub cellOf : ℕ → ℕ
+cellOf w = w % 65_536
+
+-- the depth of the parent (document 01: the next domain out)
+abbrev pub parent : ℕ → ℕ
+parent d = d - 1
+
+-- does an entry's first word name this depth and this cell?
+abbrev pub names : ℕ → ℕ → ℕ → Bool
+names d c w = eqb (depthOf w) d && eqb (cellOf w) c
+
+-- the first entry of depth d and cell c, or e where there is none
+unfoldable pub findIn : ℕ → List ℕ → ℕ → ℕ → ℕ
+findIn e t d c = first e (λ i. names d c (word1 e t i))
+
+-- does the domain at depth d hold cell c?
+unfoldable pub holdsIn : ℕ → List ℕ → ℕ → ℕ → Bool
+holdsIn e t d c = ltb (findIn e t d c) e
+
+-- the table with the two words of entry i replaced
+unfoldable pub setEntry : ℕ → List ℕ → ℕ → ℕ → ℕ → List ℕ
+setEntry e t i w v = set (set t (firstAt e i) w) (secondAt e i) v

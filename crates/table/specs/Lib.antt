@@ -1,0 +1,5 @@
+-- The definitions that the contracts of `table` cite.
+pub mod Entry
+pub mod Checks
+pub mod Rule
+pub mod Marks

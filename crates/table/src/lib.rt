@@ -1,0 +1,410 @@
+// The table's rule: questions 1, 2 and 4 of document 01, for a table of any contents.
+//
+// Question 4 takes one pass over the entries for each live depth, with a mark for each cell, and one with a mark for each body, so
+// that it does not compare each entry with each. While pairs are pending it looks at a copy in which they are in place.
+use words::layout::BODIES_AT;
+use words::layout::CELLS_AT;
+use words::layout::LIVE_AT;
+use words::layout::MAGIC;
+use words::layout::MAGIC_AT;
+use words::layout::MAX_BODIES;
+use words::layout::MAX_CELLS;
+use words::layout::MAX_LIVE;
+use words::layout::MAX_SLOTS;
+use words::layout::NEXT_AT;
+use words::layout::PENDING_AT;
+use words::layout::SLOTS_AT;
+use words::layout::ZERO_AT;
+use words::layout::first_at;
+use words::layout::handle_at;
+use words::layout::pairs_at;
+use words::layout::second_at;
+use words::layout::slots_of;
+use words::wide;
+ghost use mathlib.Core.Path.{_≡_};
+ghost use mathlib.Core.Bool.{true, false, cond, _&&_};
+ghost use Prim.Native.Nat.{ℕ, _+_, _-_, _*_, _<_, _≤_};
+ghost use lib.ListN.{length, getD};
+ghost use lib.Dec.{ltb, leb, eqb};
+ghost use Rattle.words.specs.Layout.{pairsAt, tableWords, maxSlots, maxBodies, maxCells, maxLive, handleAt};
+ghost use Rattle.words.specs.Scan.{all};
+ghost use Rattle.words.specs.Stores.{stores};
+ghost use Rattle.words.specs.Journal.{nameOk, namesOk, pairs, effective};
+ghost use Rattle.table.specs.Entry.{live, names, word1, word2, viaOf, depthOf};
+ghost use Rattle.table.specs.Checks.{lengthsOk, headerOk};
+ghost use Rattle.table.specs.Rule.{handleOk, headOk, entryOk, pairsOk, ruleOk, tableOk};
+ghost use Rattle.table.specs.Marks.{Marks, Distinct, DepthOk, DepthsOk, Marked, ViaInner, IsCopy, copyWord, markCell, cellFits, markBody, bodyFits, zeros};
+
+// ---- questions 1 and 2
+
+// Are the three lengths allowed?
+pub fn lengths_ok(memory: usize, bodies: usize, table: usize) -> bool
+    ensures { λ r. ⌜ r ≡ lengthsOk memory bodies table ⌝ }
+{
+    let m = memory / 64;
+    let b = bodies / 64;
+    let e = slots_of(table);
+    (((1 <= m) & (m <= MAX_CELLS)) & (memory == 64 * m))
+        & ((((1 <= b) & (b <= MAX_BODIES)) & (bodies == 64 * b))
+            & (((1 <= e) & (e <= MAX_SLOTS)) & (table == 36 + 6 * e)))
+}
+
+// Are words 0 to 3 and 7 right for buffers with so many bytes?
+pub fn header_ok(memory: usize, bodies: usize, table: &[u32]) -> bool
+    requires { ⌜ handleAt maxLive ≤ length (now table) ⌝ }
+    ensures { λ r. ⌜ r ≡ headerOk memory bodies (now (table .entry)) ⌝ }
+{
+    let slots = slots_of(table.len());
+    (table[MAGIC_AT] == MAGIC)
+        & ((wide(table[CELLS_AT]) == memory / 64)
+            & ((wide(table[SLOTS_AT]) == slots)
+                & ((wide(table[BODIES_AT]) == bodies / 64) & (table[ZERO_AT] == 0))))
+}
+
+// ---- the words of an entry
+
+// The first word of entry i: its depth, its label, its kind and its cell.
+pub fn first_word(table: &[u32], slots: usize, i: usize) -> u32
+    requires { ⌜ (i < slots) × (slots ≤ maxSlots) × (pairsAt slots ≤ length (now table)) ⌝ }
+    ensures { λ r. ⌜ r ≡ word1 slots (now (table .entry)) i ⌝ }
+{
+    table[first_at(slots, i)]
+}
+
+// The second word of entry i: its body.
+pub fn second_word(table: &[u32], slots: usize, i: usize) -> u32
+    requires { ⌜ (i < slots) × (slots ≤ maxSlots) × (pairsAt slots ≤ length (now table)) ⌝ }
+    ensures { λ r. ⌜ r ≡ word2 slots (now (table .entry)) i ⌝ }
+{
+    table[second_at(slots, i)]
+}
+
+// Does an entry's first word name this depth and this cell?
+pub fn named(word: u32, depth: u32, cell: u32) -> bool
+    ensures { λ r. ⌜ r ≡ names depth cell word ⌝ }
+{
+    (word / 268435456 == depth) & (word % 65536 == cell)
+}
+
+// ---- the head
+
+// Is the word of handle k right: above the handle before it and below the next handle, or 0 where no domain is live?
+fn handle_ok(table: &[u32], k: usize) -> bool
+    requires { ⌜ (handleAt maxLive ≤ length (now table)) × (k < maxLive) ⌝ }
+    ensures { λ r. ⌜ r ≡ handleOk (now (table .entry)) k ⌝ }
+{
+    let handle = table[handle_at(k)];
+    if wide(table[LIVE_AT]) <= k {
+        return handle == 0;
+    }
+    let given = handle < table[NEXT_AT];
+    if k == 0 {
+        return (0 < handle) & given;
+    }
+    (table[handle_at(k - 1)] < handle) & given
+}
+
+// Is every handle's word right?
+fn handles_ok(table: &[u32]) -> bool
+    requires { ⌜ handleAt maxLive ≤ length (now table) ⌝ }
+    ensures { λ r. ⌜ r ≡ all maxLive (handleOk (now (table .entry))) ⌝ }
+{
+    let mut k: usize = 0;
+    while k < MAX_LIVE as usize {
+        if !handle_ok(table, k) {
+            return false;
+        }
+        k += 1;
+    }
+    true
+}
+
+// Are words 4, 5 and 8 to 15 right?
+pub fn head_ok(table: &[u32]) -> bool
+    requires { ⌜ handleAt maxLive ≤ length (now table) ⌝ }
+    ensures { λ r. ⌜ r ≡ headOk (now (table .entry)) ⌝ }
+{
+    (table[LIVE_AT] <= MAX_LIVE) & ((1 <= table[NEXT_AT]) & handles_ok(table))
+}
+
+// ---- an entry by itself
+
+// Is the second word of an entry in use right for its kind: a body, or 0 for via parent, which is never outermost?
+fn kind_ok(word: u32, second: u32, bodies: usize) -> bool
+    ensures { λ r. ⌜ r ≡ cond (eqb (viaOf word) 0) (ltb second bodies) (eqb second 0 && leb 2 (depthOf word)) ⌝ }
+{
+    if word / 67108864 % 2 == 0 {
+        return wide(second) < bodies;
+    }
+    (second == 0) & (2 <= word / 268435456)
+}
+
+// Are the two words of entry i right by themselves?
+fn entry_ok(table: &[u32], cells: usize, slots: usize, bodies: usize, i: usize) -> bool
+    requires { ⌜ (i < slots) × (slots ≤ maxSlots) × (pairsAt slots ≤ length (now table)) ⌝ }
+    ensures { λ r. ⌜ r ≡ entryOk cells slots bodies (now (table .entry)) i ⌝ }
+{
+    let word = first_word(table, slots, i);
+    let second = second_word(table, slots, i);
+    if word == 0 {
+        return second == 0;
+    }
+    let depth = word / 268435456;
+    (1 <= depth)
+        & ((depth <= table[LIVE_AT])
+            & ((word / 65536 % 1024 == 0)
+                & ((wide(word % 65536) < cells) & kind_ok(word, second, bodies))))
+}
+
+// Is every entry right by itself?
+fn entries_ok(table: &[u32], cells: usize, slots: usize, bodies: usize) -> bool
+    requires { ⌜ (slots ≤ maxSlots) × (pairsAt slots ≤ length (now table)) ⌝ }
+    ensures { λ r. ⌜ r ≡ all slots (entryOk cells slots bodies (now (table .entry))) ⌝ }
+{
+    let mut i: usize = 0;
+    while i < slots {
+        if !entry_ok(table, cells, slots, bodies, i) {
+            return false;
+        }
+        i += 1;
+    }
+    true
+}
+
+// ---- entries beside each other: the cells
+
+// Marks the cell of an entry of this depth. False where the depth has the cell already, or where a via parent entry's parent lacks it:
+// a parent that holds the cell has marked it in the pass before.
+fn mark_cell(seen: &mut [u8], word: u32, depth: u8) -> bool
+    requires { ⌜ (length (now seen) ≡ maxCells) × (1 ≤ depth) ⌝ }
+    ensures { λ r. ⌜ (r ≡ cellFits depth word (now (seen .entry))) × (now (seen .exit) ≡ markCell depth word (now (seen .entry))) ⌝ }
+{
+    if word / 268435456 != depth as u32 {
+        return true;
+    }
+    let cell = wide(word % 65536);
+    let before = seen[cell];
+    seen[cell] = depth;
+    (before != depth) & ((word / 67108864 % 2 == 0) | (before == depth - 1))
+}
+
+// The pass of one depth, after those of the depths outside it.
+fn mark_depth(table: &[u32], slots: usize, depth: u8, seen: &mut [u8]) -> bool
+    requires { ⌜ (slots ≤ maxSlots) × (pairsAt slots ≤ length (now table)) × (length (now seen) ≡ maxCells) × (1 ≤ depth) ⌝ }
+    requires { ⌜ ViaInner slots (now table) × Marked slots (now table) (depth - 1) (now seen) ⌝ }
+    ensures { λ r. ⌜ (r ≡ true → DepthOk slots (now (table .entry)) depth × Marked slots (now (table .entry)) depth (now (seen .exit))) × (r ≡ false → DepthOk slots (now (table .entry)) depth → ⊥) ⌝ }
+{
+    let mut i: usize = 0;
+    while i < slots {
+        let word = first_word(table, slots, i);
+        if !mark_cell(seen, word, depth) {
+            return false;
+        }
+        i += 1;
+    }
+    true
+}
+
+// The passes of all live depths, the outermost first.
+fn mark_depths(table: &[u32], slots: usize, seen: &mut [u8]) -> bool
+    requires { ⌜ (slots ≤ maxSlots) × (pairsAt slots ≤ length (now table)) × (length (now seen) ≡ maxCells) × (live (now table) ≤ maxLive) ⌝ }
+    requires { ⌜ ViaInner slots (now table) × Marked slots (now table) 0 (now seen) ⌝ }
+    ensures { λ r. ⌜ (r ≡ true → DepthsOk slots (now (table .entry))) × (r ≡ false → DepthsOk slots (now (table .entry)) → ⊥) ⌝ }
+{
+    let mut depth: u8 = 1;
+    while depth as u32 <= table[LIVE_AT] {
+        if !mark_depth(table, slots, depth, seen) {
+            return false;
+        }
+        depth += 1;
+    }
+    true
+}
+
+// No cell is marked. A function of its own, so that the checker does not write the list out.
+fn no_cells() -> [u8; 65536]
+    ensures { λ r. ⌜ r ≡ zeros 65536 ⌝ }
+{
+    [0u8; 65536]
+}
+
+// Has no depth a cell twice, and does every via parent entry rest on its parent?
+fn cells_ok(table: &[u32], slots: usize) -> bool
+    requires { ⌜ (slots ≤ maxSlots) × (pairsAt slots ≤ length (now table)) × (live (now table) ≤ maxLive) × ViaInner slots (now table) ⌝ }
+    ensures { λ r. ⌜ (r ≡ true → DepthsOk slots (now (table .entry))) × (r ≡ false → DepthsOk slots (now (table .entry)) → ⊥) ⌝ }
+{
+    let mut seen = no_cells();
+    mark_depths(table, slots, &mut seen)
+}
+
+// ---- entries beside each other: the bodies
+
+// Marks the body of an entry that is a copy. False where another copy has it already.
+fn mark_body(used: &mut [u8], word: u32, second: u32) -> bool
+    requires { ⌜ (copyWord word ≡ true → second < length (now used)) ⌝ }
+    ensures { λ r. ⌜ (r ≡ bodyFits word second (now (used .entry))) × (now (used .exit) ≡ markBody word second (now (used .entry))) ⌝ }
+{
+    let copy = (word != 0) & (word / 67108864 % 2 == 0);
+    if !copy {
+        return true;
+    }
+    let body = wide(second);
+    let before = used[body];
+    used[body] = 1;
+    before != 1
+}
+
+// Marks the bodies of all copies, also where two share one, and says whether none do.
+pub fn mark_bodies(table: &[u32], slots: usize, used: &mut [u8]) -> bool
+    requires { ⌜ (slots ≤ maxSlots) × (pairsAt slots ≤ length (now table)) × (length (now used) ≡ maxBodies) ⌝ }
+    requires { ⌜ ((i : ℕ) → i < slots → IsCopy slots (now table) i → word2 slots (now table) i < maxBodies) ⌝ }
+    requires { ⌜ Marks (IsCopy slots (now table)) (word2 slots (now table)) 1 0 (now used) ⌝ }
+    ensures { λ r. ⌜ Marks (IsCopy slots (now (table .entry))) (word2 slots (now (table .entry))) 1 slots (now (used .exit)) × (r ≡ true → Distinct (IsCopy slots (now (table .entry))) (word2 slots (now (table .entry))) slots) × (r ≡ false → Distinct (IsCopy slots (now (table .entry))) (word2 slots (now (table .entry))) slots → ⊥) ⌝ }
+{
+    let mut single = true;
+    let mut i: usize = 0;
+    while i < slots {
+        let word = first_word(table, slots, i);
+        let second = second_word(table, slots, i);
+        single = mark_body(used, word, second) & single;
+        i += 1;
+    }
+    single
+}
+
+// No body is marked. A function of its own, so that the checker does not write the list out.
+pub fn no_bodies() -> [u8; 4096]
+    ensures { λ r. ⌜ r ≡ zeros 4096 ⌝ }
+{
+    [0u8; 4096]
+}
+
+// Do no two copies share a body?
+fn bodies_ok(table: &[u32], slots: usize) -> bool
+    requires { ⌜ (slots ≤ maxSlots) × (pairsAt slots ≤ length (now table)) ⌝ }
+    requires { ⌜ ((i : ℕ) → i < slots → IsCopy slots (now table) i → word2 slots (now table) i < maxBodies) ⌝ }
+    ensures { λ r. ⌜ (r ≡ true → Distinct (IsCopy slots (now (table .entry))) (word2 slots (now (table .entry))) slots) × (r ≡ false → Distinct (IsCopy slots (now (table .entry))) (word2 slots (now (table .entry))) slots → ⊥) ⌝ }
+{
+    let mut used = no_bodies();
+    mark_bodies(table, slots, &mut used)
+}
+
+// ---- the rule of a table with no pending pairs
+
+// Are words 4, 5, 8 to 15 and the entries right?
+pub fn rule_ok(table: &[u32], cells: usize, slots: usize, bodies: usize) -> bool
+    requires { ⌜ (slots ≤ maxSlots) × (pairsAt slots ≤ length (now table)) × (bodies ≤ maxBodies) ⌝ }
+    ensures { λ r. ⌜ r ≡ ruleOk cells slots bodies (now (table .entry)) ⌝ }
+{
+    if !head_ok(table) {
+        return false;
+    }
+    if !entries_ok(table, cells, slots, bodies) {
+        return false;
+    }
+    if !cells_ok(table, slots) {
+        return false;
+    }
+    bodies_ok(table, slots)
+}
+
+// ---- pending pairs
+
+// May a pair name this word?
+fn name_ok(first: usize, word: usize) -> bool
+    ensures { λ r. ⌜ r ≡ nameOk first word ⌝ }
+{
+    ((word == LIVE_AT) | (word == NEXT_AT)) | ((handle_at(0) <= word) & (word < first))
+}
+
+// Do so many pairs from word `first` on name words that they may, strictly rising?
+fn names_ok(table: &[u32], first: usize, count: usize) -> bool
+    requires { ⌜ first + 2 * count ≤ length (now table) ⌝ }
+    ensures { λ r. ⌜ r ≡ namesOk first 0 (pairs (now (table .entry)) first count) ⌝ }
+{
+    let mut last: usize = 0;
+    let mut j: usize = 0;
+    while j < count {
+        let word = wide(table[first + 2 * j]);
+        if !name_ok(first, word) {
+            return false;
+        }
+        if word <= last {
+            return false;
+        }
+        last = word;
+        j += 1;
+    }
+    true
+}
+
+// Are the pending pairs right?
+pub fn pairs_ok(table: &[u32], slots: usize) -> bool
+    requires { ⌜ (slots ≤ maxSlots) × (length (now table) ≡ tableWords slots) ⌝ }
+    ensures { λ r. ⌜ r ≡ pairsOk slots (now (table .entry)) ⌝ }
+{
+    let count = wide(table[PENDING_AT]);
+    if 2 * slots + 10 < count {
+        return false;
+    }
+    names_ok(table, pairs_at(slots), count)
+}
+
+// Copies the words in front of the pairs.
+fn copy_words(table: &[u32], count: usize, copy: &mut [u32])
+    requires { ⌜ (count ≤ length (now table)) × (count ≤ length (now copy)) ⌝ }
+    ensures { λ _. ⌜ ((k : ℕ) → k < count → getD (now (copy .exit)) k 0 ≡ getD (now (table .entry)) k 0) ⌝ }
+{
+    let mut i: usize = 0;
+    while i < count {
+        copy[i] = table[i];
+        i += 1;
+    }
+}
+
+// Puts so many pairs in place in a copy of the words in front of them.
+fn put_pairs(table: &[u32], first: usize, count: usize, copy: &mut [u32])
+    requires { ⌜ (first + 2 * count ≤ length (now table)) × (first ≤ length (now copy)) ⌝ }
+    requires { ⌜ ((j : ℕ) → j < count → getD (now table) (first + 2 * j) 0 < first) × ((k : ℕ) → k < first → getD (now copy) k 0 ≡ getD (now table) k 0) ⌝ }
+    ensures { λ _. ⌜ ((k : ℕ) → k < first → getD (now (copy .exit)) k 0 ≡ getD (stores (pairs (now (table .entry)) first count) (now (table .entry))) k 0) ⌝ }
+{
+    let mut j: usize = 0;
+    while j < count {
+        let at = first + 2 * j;
+        copy[wide(table[at])] = table[at + 1];
+        j += 1;
+    }
+}
+
+// A copy to be filled. A function of its own, so that the checker does not write the list out.
+fn no_words() -> [u32; 8208]
+    ensures { λ r. ⌜ r ≡ zeros 8208 ⌝ }
+{
+    [0u32; 8208]
+}
+
+// The rule of the table that pending pairs mean: of a copy in which they are in place.
+fn pending_ok(table: &[u32], cells: usize, slots: usize, bodies: usize) -> bool
+    requires { ⌜ (slots ≤ maxSlots) × (length (now table) ≡ tableWords slots) × (bodies ≤ maxBodies) × (pairsOk slots (now table) ≡ true) ⌝ }
+    ensures { λ r. ⌜ r ≡ ruleOk cells slots bodies (effective (pairsAt slots) (now (table .entry))) ⌝ }
+{
+    let first = pairs_at(slots);
+    let mut copy = no_words();
+    copy_words(table, first, &mut copy);
+    put_pairs(table, first, wide(table[PENDING_AT]), &mut copy);
+    rule_ok(&copy, cells, slots, bodies)
+}
+
+// Question 4: is the table right, pending pairs included? With none pending it is its own meaning, and no copy is made.
+pub fn table_ok(table: &[u32], cells: usize, slots: usize, bodies: usize) -> bool
+    requires { ⌜ (slots ≤ maxSlots) × (length (now table) ≡ tableWords slots) × (bodies ≤ maxBodies) ⌝ }
+    ensures { λ r. ⌜ r ≡ tableOk cells slots bodies (now (table .entry)) ⌝ }
+{
+    if !pairs_ok(table, slots) {
+        return false;
+    }
+    if table[PENDING_AT] == 0 {
+        return rule_ok(table, cells, slots, bodies);
+    }
+    pending_ok(table, cells, slots, bodies)
+}
