@@ -1,0 +1,94 @@
+-- Laws of a scan that begins at a place: `firstFrom n from f` is the least number from `from` on and below n of which f holds, or n.
+-- Assumes nothing.
+use Prim.Native.Nat.{ℕ, zero, suc, _+_, _-_, _≤_, _<_}
+use mathlib.Core.Bool.{Bool, true, false}
+use mathlib.Core.Path.{_≡_, sym, ap, subst}
+use native.Mathlib.Omega.{arith}
+use borrow.Author.Tests.{eqb-true, eqb-false, ltb-true, ltb-false}
+use lib.Dec.{ltb, eqb}
+use Rattle.words.specs.Scan.{first, count}
+use Rattle.words.proofs.Scan.{first-at, first-le, first-hit, first-miss, first-ext, by-bool}
+use Rattle.words.proofs.Scan.{count-more}
+
+abbrev pub firstFrom : ℕ → ℕ → (ℕ → Bool) → ℕ
+firstFrom n from f = from + first (n - from) (λ k. f (from + k))
+
+-- f holds of none of the numbers from `from` on and below i
+abbrev pub Failing : (ℕ → Bool) → ℕ → ℕ → Type 0
+Failing f from i = (k : ℕ) → from ≤ k → k < i → f k ≡ false
+
+pub failing-none : (f : ℕ → Bool) (from : ℕ) → Failing f from from
+failing-none f from k l h = absurd (never l h)
+  where
+    never : {k from : ℕ} → from ≤ k → k < from → ⊥
+    never l h = omega arith
+
+pub failing-more : (f : ℕ → Bool) (from i : ℕ) → Failing f from i → f i ≡ false → Failing f from (i + 1)
+failing-more f from i h here k l s =
+    by-bool (eqb k i)
+    (λ p. rw (eqb-true k i p) here)
+    (λ p. h k l (omega (arith, eqb-false k i p)))
+
+module _ (n from : ℕ) (f : ℕ → Bool) where
+  pub from-at : (i : ℕ) → from ≤ i → i ≤ n → Failing f from i → (i < n → f i ≡ true) → firstFrom n from f ≡ i
+  from-at i low high h t =
+      let back : from + (i - from) ≡ i = omega arith in
+      let s : first (n - from) (λ k. f (from + k)) ≡ i - from =
+      first-at _ _ _ (omega arith) (λ j l. h (from + j) (omega arith) (omega arith)) (λ l. rw back (t (omega arith))) in
+      rw s back
+
+  pub from-ge : from ≤ firstFrom n from f
+  from-ge = omega arith
+
+  pub from-hit : firstFrom n from f < n → f (firstFrom n from f) ≡ true
+  from-hit l = first-hit (n - from) (λ k. f (from + k)) (omega arith)
+
+  pub from-miss : Failing f from (firstFrom n from f)
+  from-miss k l h =
+      let back : from + (k - from) ≡ k = omega arith in
+      subst (λ (x : ℕ). f x ≡ false) back (first-miss (n - from) (λ k. f (from + k)) (k - from) (omega arith))
+
+  pub from-le : from ≤ n → firstFrom n from f ≤ n
+  from-le l = omega (arith, first-le (n - from) (λ k. f (from + k)))
+
+pub from-ext : (n from : ℕ) (f g : ℕ → Bool) → ((k : ℕ) → from ≤ k → k < n → f k ≡ g k) → firstFrom n from f ≡ firstFrom n from g
+from-ext n from f g h = ap (λ (x : ℕ). from + x) (first-ext (n - from) _ _ (λ k l. h (from + k) (omega arith) (omega arith)))
+
+-- ---- how many lie before and behind
+
+-- a loop that counts: the next number passes, or it does not
+module _ (f : ℕ → Bool) (i n : ℕ) (so-far : n ≡ count i f) where
+  pub count-yes : f i ≡ true → n + 1 ≡ count (i + 1) f
+  count-yes h = rw (count-more, h, so-far)
+
+  pub count-no : f i ≡ false → n ≡ count (i + 1) f
+  count-no h = rw (count-more, h, so-far)
+
+pub count-stop : (n from : ℕ) (f : ℕ → Bool) → from ≤ n → Failing f from n → count n f ≡ count from f
+unfolding count
+count-stop zero from f l h = let z : 0 ≡ from = omega arith in ap (λ (x : ℕ). count x f) z
+count-stop (suc n) from f l h =
+    by-bool (eqb from (suc n))
+    (λ p. ap (λ (x : ℕ). count x f) (sym (eqb-true from (suc n) p)))
+    (λ p.
+    let low : from ≤ n = omega (arith, eqb-false from (suc n) p) in
+    rw (h n low (omega arith)) (count-stop n from f low (λ k a b. h k a (omega arith))))
+
+module _ (n from : ℕ) (f : ℕ → Bool) where
+  -- passing the one that is found passes one
+  pub from-passed : firstFrom n from f < n → count (suc (firstFrom n from f)) f ≡ suc (count from f)
+  unfolding count
+  from-passed l =
+      rw (from-hit n from f l) (ap suc (count-stop (firstFrom n from f) from f (from-ge n from f) (from-miss n from f)))
+
+  -- while not all of them are passed, another is found
+  pub from-left : from ≤ n → count from f < count n f → firstFrom n from f < n
+  from-left l h =
+      by-bool (ltb (firstFrom n from f) n) (λ p. ltb-true (firstFrom n from f) n p)
+      (λ p.
+      let le : n ≤ firstFrom n from f = ltb-false (firstFrom n from f) n p in
+      let same = count-stop n from f l (λ k a b. from-miss n from f k a (omega arith)) in
+      absurd (never same h))
+    where
+      never : {a b : ℕ} → a ≡ b → b < a → ⊥
+      never q l = omega arith

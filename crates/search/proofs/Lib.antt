@@ -1,0 +1,6 @@
+-- Laws that belong to no one function.
+pub mod From
+pub mod Holders
+pub mod Value
+pub mod Change
+pub mod Free

@@ -1,0 +1,40 @@
+-- Free entry slots and free bodies.
+use Prim.Native.Nat.{ℕ, _+_, _-_}
+use mathlib.Core.Bool.{Bool, not, _&&_}
+use mathlib.Core.List.{List}
+use lib.Dec.{ltb, eqb}
+use lib.ListN.{getD}
+use Rattle.words.specs.Scan.{first, count}
+use Rattle.table.specs.Entry.{word1, word2, viaOf}
+
+-- an entry's first word is 0 when it is free
+abbrev pub slotFree : ℕ → List ℕ → ℕ → Bool
+slotFree e t i = eqb (word1 e t i) 0
+
+abbrev pub isCopy : ℕ → List ℕ → ℕ → Bool
+isCopy e t i = not (slotFree e t i) && eqb (viaOf (word1 e t i)) 0
+
+-- body k is some copy's
+unfoldable pub bodyUsed : ℕ → List ℕ → ℕ → Bool
+bodyUsed e t k = ltb (first e (λ i. isCopy e t i && eqb (word2 e t i) k)) e
+
+abbrev pub bodyFree : ℕ → List ℕ → ℕ → Bool
+bodyFree e t k = not (bodyUsed e t k)
+
+-- live entries (question 16), and copies in use (question 17)
+unfoldable pub usedSlots : ℕ → List ℕ → ℕ
+usedSlots e t = count e (λ i. not (slotFree e t i))
+
+unfoldable pub copies : ℕ → List ℕ → ℕ
+copies e t = count e (isCopy e t)
+
+-- the lowest free slot from `from` on, or e; the lowest free one of b bodies from `from` on, or b
+unfoldable pub freeSlotFrom : ℕ → List ℕ → ℕ → ℕ
+freeSlotFrom e t from = from + first (e - from) (λ k. slotFree e t (from + k))
+
+unfoldable pub freeBodyFrom : ℕ → ℕ → List ℕ → ℕ → ℕ
+freeBodyFrom e b t from = from + first (b - from) (λ k. bodyFree e t (from + k))
+
+-- of b bodies, the lowest from `from` on that has not the mark 1 of a body in use, or b
+unfoldable pub unmarkedFrom : ℕ → List ℕ → ℕ → ℕ
+unmarkedFrom b used from = from + first (b - from) (λ k. not (eqb (getD used (from + k) 0) 1))
