@@ -1,0 +1,4 @@
+-- What the calls mean, on abstract states.
+pub mod State
+pub mod Answer
+pub mod Calls

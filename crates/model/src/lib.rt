@@ -1,0 +1,1 @@
+// No code: what the calls mean, on abstract states. The definitions are in specs/.
