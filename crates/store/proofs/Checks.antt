@@ -1,0 +1,147 @@
+-- Laws of the questions: what a passed question tells, and that the questions on the shape read no word that a pair may name.
+-- Assumes nothing.
+use Prim.Native.Nat.{ℕ, zero, suc, _+_, _-_, _*_, _≤_, _<_}
+use mathlib.Core.Bool.{Bool, true, false, cond, _&&_}
+use mathlib.Core.List.{List}
+use mathlib.Core.Path.{_≡_, refl, sym, ap, subst, _∙_}
+use native.Mathlib.Omega.{arith}
+use borrow.Author.Tests.{eq-eqb, eqb-true, eqb-false, ltb-true}
+use lib.Dec.{eqb, ltb}
+use lib.ListN.{length, getD}
+use Rattle.words.specs.Layout.{cellsOf, slotsOf, maxLive, magicAt, cellsAt, slotsAt, bodiesAt, zeroAt, handleAt, pairsAt}
+use Rattle.words.specs.Journal.{pending, effective}
+use Rattle.words.proofs.Scan.{and-split, and-join}
+use Rattle.words.proofs.Journal.{effective-idle}
+use Rattle.table.specs.Entry.{live, nextHandle}
+use Rattle.table.specs.Checks.{lengthsOk, headerOk}
+use Rattle.table.specs.Rule.{pairsOk, ruleOk, tableOk}
+use Rattle.table.proofs.Rule.{Rule, ok-facts, ok-make}
+use Rattle.table.proofs.Checks.{Lengths, lengths-facts}
+use Rattle.model.specs.Answer.{ask, orElse}
+use Rattle.store.specs.Checks.{shapeCheck, tableCheck, makeCheck, openCheck, storeCheck, createCheck}
+
+-- ---- one question after another
+
+pub ask-yes : (b : Bool) (n rest : ℕ) → 0 < n → ask b n rest ≡ 0 → b ≡ true
+ask-yes true n rest h e = refl
+ask-yes false n rest h e = absurd (omega arith)
+
+pub ask-go : (b : Bool) (n rest : ℕ) → b ≡ true → ask b n rest ≡ rest
+ask-go true n rest e = refl
+ask-go false n rest e = absurd (eqb-false 0 0 (sym e) refl)
+
+pub ask-stop : (b : Bool) (n rest : ℕ) → b ≡ false → ask b n rest ≡ n
+ask-stop true n rest e = absurd (eqb-false 0 0 e refl)
+ask-stop false n rest e = refl
+
+-- the rest of a chain of questions whose first was answered by yes
+pub ask-rest : (b : Bool) (n rest : ℕ) → 0 < n → ask b n rest ≡ 0 → rest ≡ 0
+ask-rest true n rest h e = e
+ask-rest false n rest h e = absurd (omega arith)
+
+pub orElse-go : (m n : ℕ) → m ≡ 0 → orElse m n ≡ n
+orElse-go zero n e = refl
+orElse-go (suc m) n e = absurd (omega arith)
+
+pub orElse-stop : (m n : ℕ) → (m ≡ 0 → ⊥) → orElse m n ≡ m
+orElse-stop zero n e = absurd (e refl)
+orElse-stop (suc m) n e = refl
+
+pub orElse-both : (m n : ℕ) → orElse m n ≡ 0 → (m ≡ 0) × (n ≡ 0)
+orElse-both zero n e = (refl, e)
+orElse-both (suc m) n e = absurd (omega arith)
+
+-- ---- what passed questions tell
+
+module _ (memory bodies : ℕ) (t : List ℕ) where
+  pub shape-lengths : shapeCheck memory bodies t ≡ 0 → lengthsOk memory bodies (length t) ≡ true
+  unfolding shapeCheck
+  shape-lengths e = ask-yes (lengthsOk memory bodies (length t)) 1 (ask (headerOk memory bodies t) 2 0) (omega arith) e
+
+  pub shape-facts : shapeCheck memory bodies t ≡ 0 → Lengths memory bodies (length t)
+  shape-facts e = lengths-facts memory bodies (length t) (shape-lengths e)
+
+  pub shape-header : shapeCheck memory bodies t ≡ 0 → headerOk memory bodies t ≡ true
+  unfolding shapeCheck
+  shape-header e =
+      ask-yes (headerOk memory bodies t) 2 0 (omega arith)
+      (ask-rest (lengthsOk memory bodies (length t)) 1 (ask (headerOk memory bodies t) 2 0) (omega arith) e)
+
+  pub shape-make : lengthsOk memory bodies (length t) ≡ true → headerOk memory bodies t ≡ true → shapeCheck memory bodies t ≡ 0
+  unfolding shapeCheck
+  shape-make p q = rw (p, q)
+
+  pub table-yes : tableCheck memory bodies t ≡ 0 → tableOk (cellsOf memory) (slotsOf (length t)) (cellsOf bodies) t ≡ true
+  unfolding tableCheck
+  table-yes e = ask-yes (tableOk (cellsOf memory) (slotsOf (length t)) (cellsOf bodies) t) 4 0 (omega arith) e
+
+  -- the two parts of question 4
+  pub table-pairs : tableCheck memory bodies t ≡ 0 → pairsOk (slotsOf (length t)) t ≡ true
+  unfolding tableOk
+  table-pairs e = and-split (pairsOk (slotsOf (length t)) t) _ (table-yes e) .0
+
+  pub table-rule : tableCheck memory bodies t ≡ 0 → Rule (cellsOf memory) (slotsOf (length t)) (cellsOf bodies) (effective (pairsAt (slotsOf (length t))) t)
+  unfolding tableOk
+  table-rule e = ok-facts _ _ _ _ (and-split (pairsOk (slotsOf (length t)) t) _ (table-yes e) .1)
+
+  pub table-make : pairsOk (slotsOf (length t)) t ≡ true → Rule (cellsOf memory) (slotsOf (length t)) (cellsOf bodies) (effective (pairsAt (slotsOf (length t))) t)
+      → tableCheck memory bodies t ≡ 0
+  unfolding tableCheck tableOk
+  table-make p r = rw (p, ok-make _ _ _ _ r)
+
+  pub open-shape : openCheck memory bodies t ≡ 0 → shapeCheck memory bodies t ≡ 0
+  unfolding openCheck
+  open-shape e = orElse-both (shapeCheck memory bodies t) (tableCheck memory bodies t) e .0
+
+  pub open-table : openCheck memory bodies t ≡ 0 → tableCheck memory bodies t ≡ 0
+  unfolding openCheck
+  open-table e = orElse-both (shapeCheck memory bodies t) (tableCheck memory bodies t) e .1
+
+  pub open-make : shapeCheck memory bodies t ≡ 0 → tableCheck memory bodies t ≡ 0 → openCheck memory bodies t ≡ 0
+  unfolding openCheck
+  open-make p q = rw (p, q)
+
+  -- a table that passes questions 1 to 4
+  pub store-shape : storeCheck memory bodies t ≡ 0 → shapeCheck memory bodies t ≡ 0
+  unfolding storeCheck
+  store-shape e = orElse-both (shapeCheck memory bodies t) (ask (eqb (pending t) 0) 3 (tableCheck memory bodies t)) e .0
+
+  pub store-idle : storeCheck memory bodies t ≡ 0 → pending t ≡ 0
+  unfolding storeCheck
+  store-idle e =
+      eqb-true (pending t) 0
+      (ask-yes (eqb (pending t) 0) 3 (tableCheck memory bodies t) (omega arith)
+      (orElse-both (shapeCheck memory bodies t) (ask (eqb (pending t) 0) 3 (tableCheck memory bodies t)) e .1))
+
+  pub store-table : storeCheck memory bodies t ≡ 0 → tableCheck memory bodies t ≡ 0
+  unfolding storeCheck
+  store-table e =
+      ask-rest (eqb (pending t) 0) 3 (tableCheck memory bodies t) (omega arith)
+      (orElse-both (shapeCheck memory bodies t) (ask (eqb (pending t) 0) 3 (tableCheck memory bodies t)) e .1)
+
+  pub store-opens : storeCheck memory bodies t ≡ 0 → openCheck memory bodies t ≡ 0
+  store-opens e = open-make (store-shape e) (store-table e)
+
+  pub create-store : createCheck memory bodies t ≡ 0 → storeCheck memory bodies t ≡ 0
+  unfolding createCheck
+  create-store e = orElse-both (storeCheck memory bodies t) _ e .0
+
+  create-rest : createCheck memory bodies t ≡ 0 → ask (ltb (live t) maxLive) 9 (ask (ltb (nextHandle t) 4_294_967_295) 10 0) ≡ 0
+  unfolding createCheck
+  create-rest e = orElse-both (storeCheck memory bodies t) (ask (ltb (live t) maxLive) 9 (ask (ltb (nextHandle t) 4_294_967_295) 10 0)) e .1
+
+  pub create-live : createCheck memory bodies t ≡ 0 → live t < maxLive
+  create-live e = ltb-true _ _ (ask-yes (ltb (live t) maxLive) 9 (ask (ltb (nextHandle t) 4_294_967_295) 10 0) (omega arith) (create-rest e))
+
+  pub create-next : createCheck memory bodies t ≡ 0 → nextHandle t < 4_294_967_295
+  create-next e =
+      ltb-true _ _ (ask-yes (ltb (nextHandle t) 4_294_967_295) 10 0 (omega arith)
+      (ask-rest (ltb (live t) maxLive) 9 (ask (ltb (nextHandle t) 4_294_967_295) 10 0) (omega arith) (create-rest e)))
+
+-- ---- questions 1 and 2 read the length and words 0 to 3 and 7
+
+pub shape-kept : (memory bodies : ℕ) (t u : List ℕ) → length u ≡ length t → ((i : ℕ) → i ≤ bodiesAt → getD u i 0 ≡ getD t i 0) → getD u zeroAt 0 ≡ getD t zeroAt 0
+    → shapeCheck memory bodies u ≡ shapeCheck memory bodies t
+unfolding shapeCheck headerOk
+shape-kept memory bodies t u l h z =
+    rw (l, h magicAt (omega arith), h cellsAt (omega arith), h slotsAt (omega arith), h bodiesAt (omega arith), z)

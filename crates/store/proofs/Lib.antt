@@ -1,0 +1,11 @@
+-- Laws that belong to no one function.
+pub mod Checks
+pub mod Outcome
+pub mod State
+pub mod Cuts
+pub mod Creating
+pub mod Making
+pub mod Means
+pub mod Handles
+pub mod Standing
+pub mod Bounds

@@ -1,0 +1,279 @@
+-- The outcome of each call, as the plan of its stores gives it, is what the call means. Assumes nothing.
+use Prim.Native.Nat.{ℕ, zero, suc, _+_, _-_, _*_, _≤_, _<_}
+use mathlib.Core.Bool.{Bool, true, false, cond}
+use mathlib.Core.List.{List, [], _∷_, map}
+use mathlib.Core.Option.{Option, none, some}
+use mathlib.Core.Path.{_≡_, refl, sym, ap, subst, _∙_}
+use native.Mathlib.Omega.{arith}
+use borrow.Author.Tests.{eq-eqb, ne-eqb, le-leb, lt-leb, lt-ltb, le-ltb, eqb-true, ltb-true}
+use lib.Dec.{leb, ltb, eqb}
+use lib.ListN.{length, getD, take, length-take}
+use lib.Seq.{getD-take, take-nil}
+use Rattle.words.specs.Layout.{liveAt, nextAt, pairsAt, slotsOf, cellsOf, tableWords, maxLive, handleAt, maxPairs}
+use Rattle.words.specs.Stores.{Store, _≔_, stores, tab}
+use Rattle.words.specs.Journal.{pending, namesOk, effective, openPlan, applyPlan, journal, journaled}
+use Rattle.words.proofs.Scan.{by-bool, by-le}
+use Rattle.words.proofs.Plans.{length-tab, length-stores}
+use Rattle.words.proofs.Pairs.{open-idle, open-pending, length-applyPlan}
+use Rattle.words.proofs.Journal.{effective-idle}
+use Rattle.table.specs.Entry.{live, nextHandle}
+use Rattle.table.specs.Checks.{lengthsOk}
+use Rattle.table.proofs.Rule.{Rule}
+use Rattle.table.proofs.Checks.{Lengths, lengths-facts}
+use Rattle.model.specs.State.{State}
+use Rattle.model.specs.Answer.{Report, refused, done, ended, ask, orElse, View, view}
+use Rattle.model.specs.Calls.{Effect, viewed, change, orRefuse, fresh, makeSteps, makeState, openSteps, created, createEffect}
+use Rattle.store.specs.Outcome.{Buffers, buffers, inTable, Outcome, outcome, leaves, Call, perform, unless}
+use Rattle.store.specs.Checks.{makeCheck, openCheck, storeCheck, createCheck}
+use Rattle.store.specs.State.{domainIn, stateIn, stateOf, standing}
+use Rattle.store.specs.Calls.{makePlan, makeCall, openCall, domainWords, createWords, createPlan, createCall}
+use Rattle.store.specs.Means.{seen, orRefused, makeMeans, openMeans, callMeans, createMeans}
+use Rattle.store.proofs.Checks.{ask-yes, orElse-go, orElse-stop, shape-lengths, open-shape, store-shape, store-idle, store-table, store-opens, table-rule, create-store, create-live, create-next}
+use Rattle.store.proofs.Outcome.{table-after, performed, refuses, ended-done}
+use Rattle.store.proofs.Cuts.{stands-open, cut, cut-length, cut-effective, cut-opens, opening, opening-length, opening-effective, opening-opens}
+use Rattle.store.proofs.Creating.{create-rule, create-state, create-names}
+use Rattle.store.proofs.Making.{make-length, make-none, make-fresh}
+
+-- what is to be seen of an outcome
+abbrev pub seenOf : Outcome → View
+seenOf o = seen (o .report) (o .buffers)
+
+-- by whether the questions say no
+by-check : (C : ℕ → Type 0) (q : ℕ) → ((n : ℕ) → q ≡ suc n → C (suc n)) → (q ≡ 0 → C 0) → C q
+by-check C zero f g = g refl
+by-check C (suc n) f g = f n refl
+
+pub long : (memory bodies : ℕ) (t : List ℕ) → lengthsOk memory bodies (length t) ≡ true → length t ≡ tableWords (slotsOf (length t))
+long memory bodies t h = lengths-facts memory bodies (length t) h .table-exact
+
+-- ---- make
+
+module _ (memory bodies t : List ℕ) (k : ℕ) (yes : lengthsOk (length memory) (length bodies) (length t) ≡ true) where
+  abbrev plan : List Store
+  plan = makePlan (cellsOf (length memory)) (slotsOf (length t)) (cellsOf (length bodies))
+
+  make-standing : standing (buffers memory bodies (stores (take k plan) t)) ≡ makeState (slotsOf (length t)) k (standing (buffers memory bodies t))
+  unfolding standing
+  make-standing =
+      let w = long (length memory) (length bodies) t yes in
+      by-le (2 * slotsOf (length t) + 17) k
+      (λ l. make-fresh memory bodies t yes w k l ∙ rw (le-leb (2 * slotsOf (length t) + 17) k l))
+      (λ l.
+      by-le k 0
+      (λ z.
+      let q : k ≡ 0 = omega arith in
+      rw (lt-leb (2 * slotsOf (length t) + 17) k l, q))
+      (λ z. rw (lt-leb (2 * slotsOf (length t) + 17) k l, ne-eqb k 0 (λ q. omega arith), make-none memory bodies t yes w k z l)))
+
+  make-seen : seenOf (outcome (perform (map inTable plan) 0) k (buffers memory bodies t))
+      ≡ view (ended (makeSteps (slotsOf (length t))) 0 k) (makeState (slotsOf (length t)) k (standing (buffers memory bodies t))) memory
+  make-seen =
+      ap seenOf (table-after plan 0 k memory bodies t)
+      ∙ rw (make-length (cellsOf (length memory)) (slotsOf (length t)) (cellsOf (length bodies)) t (long (length memory) (length bodies) t yes), make-standing)
+
+pub make-means : (k : ℕ) (b : Buffers) → seenOf (outcome (makeCall b) k b) ≡ makeMeans k b
+unfolding makeCall makeMeans makeCheck outcome
+make-means k b =
+    by-bool (lengthsOk (length (b .memory)) (length (b .bodies)) (length (b .table)))
+    (λ y. rw y (make-seen (b .memory) (b .bodies) (b .table) k y))
+    (λ n. rw n)
+
+-- ---- open
+
+pub open-length : (first : ℕ) (t : List ℕ) → length (openPlan first t) ≡ openSteps (pending t)
+open-length first t =
+    by-le (pending t) 0
+    (λ l. let z : pending t ≡ 0 = omega arith in rw (open-idle first t z, eq-eqb (pending t) 0 z))
+    (λ l. rw (open-pending first (pending t) t refl l, ne-eqb (pending t) 0 (λ z. omega arith), length-applyPlan t first (pending t)))
+
+open-standing : (memory bodies t : List ℕ) (k : ℕ) → openCheck (length memory) (length bodies) t ≡ 0
+    → standing (buffers memory bodies (stores (take k (openPlan (pairsAt (slotsOf (length t))) t)) t)) ≡ some (stateOf (buffers memory bodies t))
+unfolding stateOf
+open-standing memory bodies t k h =
+    let w = long (length memory) (length bodies) t (shape-lengths (length memory) (length bodies) t (open-shape (length memory) (length bodies) t h)) in
+    stands-open memory bodies (opening (length memory) (length bodies) t w h k) (opening-opens (length memory) (length bodies) t w h k)
+    ∙ rw (opening-length (length memory) (length bodies) t w h k, opening-effective (length memory) (length bodies) t w h k)
+
+pub open-means : (k : ℕ) (b : Buffers) → seenOf (outcome (openCall b) k b) ≡ openMeans k b
+unfolding openCall openMeans outcome
+open-means k b =
+    by-check (λ q. seenOf (outcome (unless q (perform (map inTable (openPlan (pairsAt (slotsOf (length (b .table)))) (b .table))) 0)) k b)
+    ≡ orRefused q b (view (ended (openSteps (pending (b .table))) 0 k) (some (stateOf b)) (b .memory)))
+    (openCheck (length (b .memory)) (length (b .bodies)) (b .table))
+    (λ n e. refl)
+    (λ e.
+    ap seenOf (table-after (openPlan (pairsAt (slotsOf (length (b .table)))) (b .table)) 0 k (b .memory) (b .bodies) (b .table))
+    ∙ rw (open-length (pairsAt (slotsOf (length (b .table)))) (b .table), open-standing (b .memory) (b .bodies) (b .table) k e))
+
+-- ---- create
+
+state-count : (e : ℕ) (t bodies : List ℕ) → length (stateIn e t bodies .domains) ≡ live t
+unfolding stateIn
+state-count e t bodies = length-tab (domainIn e t bodies) (live t)
+
+state-next : (e : ℕ) (t bodies : List ℕ) → stateIn e t bodies .next ≡ nextHandle t
+unfolding stateIn
+state-next e t bodies = refl
+
+pub create-length : (t : List ℕ) → length (createPlan t) ≡ 11
+unfolding createPlan createWords journaled
+create-length t = refl
+
+module _ (memory bodies t : List ℕ) (yes : storeCheck (length memory) (length bodies) t ≡ 0) where
+  shape-yes : lengthsOk (length memory) (length bodies) (length t) ≡ true
+  shape-yes = shape-lengths (length memory) (length bodies) t (store-shape (length memory) (length bodies) t yes)
+
+  t-long : length t ≡ tableWords (slotsOf (length t))
+  t-long = long (length memory) (length bodies) t shape-yes
+
+  abbrev first : ℕ
+  first = pairsAt (slotsOf (length t))
+
+  pub store-effective : effective (pairsAt (slotsOf (length t))) t ≡ take (pairsAt (slotsOf (length t))) t
+  store-effective = effective-idle first t (store-idle (length memory) (length bodies) t yes)
+
+  pub store-rule : Rule (cellsOf (length memory)) (slotsOf (length t)) (cellsOf (length bodies)) (take (pairsAt (slotsOf (length t))) t)
+  store-rule = subst (λ (l : List ℕ). Rule (cellsOf (length memory)) (slotsOf (length t)) (cellsOf (length bodies)) l) store-effective
+      (table-rule (length memory) (length bodies) t (store-table (length memory) (length bodies) t yes))
+
+  -- the state of a table with nothing pending is that of its own words
+  pub store-state : stateOf (buffers memory bodies t) ≡ stateIn (slotsOf (length t)) (take (pairsAt (slotsOf (length t))) t) bodies
+  unfolding stateOf
+  store-state = ap (λ (l : List ℕ). stateIn (slotsOf (length t)) l bodies) store-effective
+
+  pub store-standing : standing (buffers memory bodies t) ≡ some (stateOf (buffers memory bodies t))
+  unfolding stateOf
+  store-standing = stands-open memory bodies t (store-opens (length memory) (length bodies) t yes)
+
+  pub live-count : length (stateOf (buffers memory bodies t) .domains) ≡ live t
+  live-count =
+      ap (λ (s : State). length (s .domains)) store-state
+      ∙ state-count (slotsOf (length t)) (take first t) bodies
+      ∙ getD-take first t liveAt 0 (omega arith)
+
+  pub next-is : stateOf (buffers memory bodies t) .next ≡ nextHandle t
+  next-is = ap (λ (s : State). s .next) store-state ∙ state-next (slotsOf (length t)) (take first t) bodies ∙ getD-take first t nextAt 0 (omega arith)
+
+  module _ (few : live t < maxLive) where
+    changes-right : Rule (cellsOf (length memory)) (slotsOf (length t)) (cellsOf (length bodies)) (stores (createWords t) (take (pairsAt (slotsOf (length t))) t))
+    unfolding createWords
+    changes-right =
+        let l4 : live (take first t) ≡ live t = getD-take first t liveAt 0 (omega arith) in
+        let l5 : nextHandle (take first t) ≡ nextHandle t = getD-take first t nextAt 0 (omega arith) in
+        rw (l4, l5) at (create-rule (cellsOf (length memory)) (slotsOf (length t)) (cellsOf (length bodies)) (take first t) store-rule (rw length-take (omega (arith, t-long))) (rw l4 few))
+
+    changes-state : stateIn (slotsOf (length t)) (stores (createWords t) (take (pairsAt (slotsOf (length t))) t)) bodies ≡ created (stateOf (buffers memory bodies t))
+    unfolding createWords
+    changes-state =
+        let l4 : live (take first t) ≡ live t = getD-take first t liveAt 0 (omega arith) in
+        let l5 : nextHandle (take first t) ≡ nextHandle t = getD-take first t nextAt 0 (omega arith) in
+        (rw (l4, l5) at (create-state (cellsOf (length memory)) (slotsOf (length t)) (cellsOf (length bodies)) (take first t) store-rule (rw length-take (omega (arith, t-long))) (rw l4 few) bodies))
+        ∙ ap created (sym store-state)
+
+    changes-named : (first : ℕ) → handleAt maxLive ≤ first → namesOk first 0 (createWords t) ≡ true
+    unfolding createWords
+    changes-named first l = create-names first (live t) (nextHandle t) few l
+
+    three : length (createWords t) ≡ 3
+    unfolding createWords
+    three = refl
+
+    -- "0 to 6 not made, 7 to 10 made by opening, 11 done"
+    create-standing : (k : ℕ) → standing (buffers memory bodies (stores (take k (createPlan t)) t))
+        ≡ some (cond (ltb 6 k) (created (stateOf (buffers memory bodies t))) (stateOf (buffers memory bodies t)))
+    unfolding createPlan createWords
+    create-standing k =
+        let idle = store-idle (length memory) (length bodies) t yes in
+        let shape = store-shape (length memory) (length bodies) t yes in
+        let named = changes-named first (omega arith) in
+        let n = cut-length (length memory) (length bodies) t (createWords t) shape t-long idle (omega arith) (omega arith) named store-rule changes-right k in
+        let opens = cut-opens (length memory) (length bodies) t (createWords t) shape t-long idle (omega arith) (omega arith) named store-rule changes-right k in
+        let eff = cut-effective (length memory) (length bodies) t (createWords t) shape t-long idle (omega arith) (omega arith) named store-rule changes-right k in
+        stands-open memory bodies (cut (length memory) (length bodies) t (createWords t) shape t-long idle (omega arith) (omega arith) named store-rule changes-right k) opens
+        ∙ rw (n, eff)
+        (by-le k 6
+        (λ l. rw (le-ltb 6 k l) (ap some (sym store-state)))
+        (λ l. rw (lt-ltb 6 k l) (ap some changes-state)))
+
+    create-seen : (k : ℕ) → seenOf (outcome (perform (map inTable (createPlan t)) (nextHandle t)) k (buffers memory bodies t))
+        ≡ view (ended 11 (stateOf (buffers memory bodies t) .next) k) (some (cond (ltb 6 k) (created (stateOf (buffers memory bodies t))) (stateOf (buffers memory bodies t)))) memory
+    create-seen k =
+        ap seenOf (table-after (createPlan t) (nextHandle t) k memory bodies t)
+        ∙ rw (create-length t, create-standing k, next-is)
+
+-- questions 9 and 10, of words and of a state
+abbrev asked : ℕ → ℕ → ℕ
+asked n h = ask (ltb n maxLive) 9 (ask (ltb h 4_294_967_295) 10 0)
+
+abbrev goal : (asked-words asked-state k : ℕ) → Buffers → Type 0
+goal q r k b =
+    seenOf (outcome (unless q (perform (map inTable (createPlan (b .table))) (nextHandle (b .table)))) k b)
+    ≡ viewed (orRefuse r (change 0 3 (stateOf b .next) (created (stateOf b)))) k (stateOf b) (b .memory)
+
+pub create-means : (k : ℕ) (b : Buffers) → seenOf (outcome (createCall b) k b) ≡ createMeans k b
+unfolding createCall callMeans createCheck outcome
+create-means k b =
+    by-check (λ q. seenOf (outcome (unless (orElse q (asked (live (b .table)) (nextHandle (b .table))))
+    (perform (map inTable (createPlan (b .table))) (nextHandle (b .table)))) k b)
+    ≡ orRefused q b (viewed (createEffect (stateOf b)) k (stateOf b) (b .memory)))
+    (storeCheck (length (b .memory)) (length (b .bodies)) (b .table))
+    (λ n e. refl)
+    (λ yes.
+    let count = live-count (b .memory) (b .bodies) (b .table) yes in
+    let next = next-is (b .memory) (b .bodies) (b .table) yes in
+    let stands = store-standing (b .memory) (b .bodies) (b .table) yes in
+    let same : asked (live (b .table)) (nextHandle (b .table)) ≡ asked (length (stateOf b .domains)) (stateOf b .next) = λ i. asked (sym count i) (sym next i) in
+    subst (λ (r : ℕ). goal (asked (live (b .table)) (nextHandle (b .table))) r k b) same
+    (by-check (λ q. goal q q k b) (asked (live (b .table)) (nextHandle (b .table)))
+    (λ n e. ap (λ (s : Option State). view (refused (suc n)) s (b .memory)) stands)
+    (λ e.
+    let few = ask-yes (ltb (live (b .table)) maxLive) 9 (ask (ltb (nextHandle (b .table)) 4_294_967_295) 10 0) (omega arith) e in
+    create-seen (b .memory) (b .bodies) (b .table) yes (ltb-true _ _ few) k)))
+
+-- ---- what the code of each call cites: from what its parts did to its outcome
+
+module _ (m b t : List ℕ) (k : ℕ) where
+  pub make-refused : lengthsOk (length m) (length b) (length t) ≡ false → leaves (refused 1) (buffers m b t) ≡ outcome (makeCall (buffers m b t)) k (buffers m b t)
+  unfolding makeCall makeCheck outcome
+  make-refused no1 = rw no1
+
+  pub make-performed : (cells slots bodies : ℕ) (t′ : List ℕ) (r : Report) → lengthsOk (length m) (length b) (length t) ≡ true
+      → cells ≡ cellsOf (length m) → slots ≡ slotsOf (length t) → bodies ≡ cellsOf (length b)
+      → t′ ≡ stores (take k (makePlan cells slots bodies)) t → r ≡ ended (2 * slots + 17) 0 k
+      → leaves r (buffers m b t′) ≡ outcome (makeCall (buffers m b t)) k (buffers m b t)
+  unfolding makeCall makeCheck
+  make-performed cells slots bodies t′ r yes1 p q s w e =
+      let w′ : t′ ≡ stores (take k (makePlan (cellsOf (length m)) (slotsOf (length t)) (cellsOf (length b)))) t = w ∙ rw (p, q, s) in
+      let e′ : r ≡ ended (2 * slotsOf (length t) + 17) 0 k = e ∙ rw q in
+      rw yes1
+      (performed (makePlan (cellsOf (length m)) (slotsOf (length t)) (cellsOf (length b))) 0 (2 * slotsOf (length t) + 17) k m b t t′ r
+      (make-length (cellsOf (length m)) (slotsOf (length t)) (cellsOf (length b)) t (long (length m) (length b) t yes1)) w′ e′)
+
+  pub open-refused : (q : ℕ) → q ≡ openCheck (length m) (length b) t → (q ≡ 0 → ⊥) → leaves (refused q) (buffers m b t) ≡ outcome (openCall (buffers m b t)) k (buffers m b t)
+  unfolding openCall
+  open-refused q e h = refuses q (openCheck (length m) (length b) t) _ k (buffers m b t) e h
+
+  pub open-none : openCheck (length m) (length b) t ≡ 0 → pending t ≡ 0 → leaves (done 0 0) (buffers m b t) ≡ outcome (openCall (buffers m b t)) k (buffers m b t)
+  unfolding openCall
+  open-none yes4 idle =
+      rw (yes4, open-idle (pairsAt (slotsOf (length t))) t idle)
+      (performed [] 0 0 k m b t t (done 0 0) refl (rw (take-nil {A = Store} k)) (sym (ended-done 0 0 k (omega arith))))
+
+  pub open-performed : (p first : ℕ) (t′ : List ℕ) (r : Report) → openCheck (length m) (length b) t ≡ 0 → p ≡ pending t → (p ≡ 0 → ⊥)
+      → first ≡ pairsAt (slotsOf (length t)) → t′ ≡ stores (take k (applyPlan t first p)) t → r ≡ ended (p + 1) 0 k
+      → leaves r (buffers m b t′) ≡ outcome (openCall (buffers m b t)) k (buffers m b t)
+  unfolding openCall
+  open-performed p first t′ r yes4 e n f w q =
+      let pos : 0 < p = omega arith in
+      let same : openPlan (pairsAt (slotsOf (length t))) t ≡ applyPlan t first p = open-pending (pairsAt (slotsOf (length t))) p t (sym e) pos ∙ rw f in
+      rw (yes4, same) (performed (applyPlan t first p) 0 (p + 1) k m b t t′ r (length-applyPlan t first p) w q)
+
+  pub create-refused : (q : ℕ) → q ≡ createCheck (length m) (length b) t → (q ≡ 0 → ⊥) → leaves (refused q) (buffers m b t) ≡ outcome (createCall (buffers m b t)) k (buffers m b t)
+  unfolding createCall
+  create-refused q e h = refuses q (createCheck (length m) (length b) t) _ k (buffers m b t) e h
+
+  pub create-performed : (h : ℕ) (t′ : List ℕ) (r : Report) → createCheck (length m) (length b) t ≡ 0 → h ≡ nextHandle t
+      → t′ ≡ stores (take k (createPlan t)) t → r ≡ ended 11 h k
+      → leaves r (buffers m b t′) ≡ outcome (createCall (buffers m b t)) k (buffers m b t)
+  unfolding createCall
+  create-performed h t′ r yes10 p w q = rw (yes10) (performed (createPlan t) (nextHandle t) 11 k m b t t′ r (create-length t) w (q ∙ rw p))

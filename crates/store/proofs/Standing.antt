@@ -1,0 +1,58 @@
+-- Demand 2 on states: a table that opening accepts stands for exactly one state, and what does not matter to it. Assumes nothing.
+use Prim.Native.Nat.{ℕ, zero, suc, _+_, _-_, _*_, _≤_, _<_}
+use mathlib.Core.Bool.{Bool, true, false, cond}
+use mathlib.Core.List.{List, [], _∷_}
+use mathlib.Core.Option.{Option, none, some}
+use mathlib.Core.Path.{_≡_, refl, sym, ap, subst, _∙_}
+use native.Mathlib.Omega.{arith}
+use lib.ListN.{length, getD, set, take, length-set}
+use lib.Seq.{set-out, take-set-le, set-comm, set-set}
+use Rattle.words.specs.Layout.{cellsOf, slotsOf, pairsAt, maxPairs, pendingAt, tableWords}
+use Rattle.words.specs.Stores.{Store, stores}
+use Rattle.words.specs.Journal.{pending, pairs, effective, openPlan, openings}
+use Rattle.words.specs.Cells.{cellBytes}
+use Rattle.table.specs.Entry.{word2}
+use Rattle.table.proofs.Rule.{Rule}
+use Rattle.search.proofs.Value.{Copy}
+use Rattle.model.specs.State.{State}
+use Rattle.store.specs.Outcome.{Buffers, buffers}
+use Rattle.store.specs.Checks.{openCheck}
+use Rattle.store.specs.State.{StandsFor, stateIn, stateOf, standing, slots, effectiveTable}
+use Rattle.store.proofs.Checks.{open-shape, open-table, table-rule, shape-lengths}
+use Rattle.store.proofs.State.{stands, only, state-kept}
+use Rattle.store.proofs.Cuts.{stands-open}
+
+-- ---- exactly one state
+
+abbrev pub Opens : Buffers → Type 0
+Opens b = openCheck (length (b .memory)) (length (b .bodies)) (b .table) ≡ 0
+
+module _ (b : Buffers) (opens : Opens b) where
+  pub right : Rule (cellsOf (length (b .memory))) (slots b) (cellsOf (length (b .bodies))) (effectiveTable b)
+  right = table-rule (length (b .memory)) (length (b .bodies)) (b .table) (open-table (length (b .memory)) (length (b .bodies)) (b .table) opens)
+
+  pub stands-for : StandsFor (slots b) (effectiveTable b) (b .bodies) (stateOf b)
+  unfolding stateOf
+  stands-for = stands (cellsOf (length (b .memory))) (slots b) (cellsOf (length (b .bodies))) (effectiveTable b) right (b .bodies)
+
+  pub only-state : (s : State) → StandsFor (slots b) (effectiveTable b) (b .bodies) s → s ≡ stateOf b
+  unfolding stateOf
+  only-state = only (cellsOf (length (b .memory))) (slots b) (cellsOf (length (b .bodies))) (effectiveTable b) right (b .bodies)
+
+  pub is-standing : standing b ≡ some (stateOf b)
+  unfolding stateOf
+  is-standing = stands-open (b .memory) (b .bodies) (b .table) opens
+
+  -- free bodies do not matter: any bodies in which the bodies in use have the same bytes stand for the same state
+  pub free-bodies : (new : List ℕ)
+      → ((i : ℕ) → Copy (slots b) (effectiveTable b) i → cellBytes new (word2 (slots b) (effectiveTable b) i) ≡ cellBytes (b .bodies) (word2 (slots b) (effectiveTable b) i))
+      → stateOf (buffers (b .memory) new (b .table)) ≡ stateOf b
+  unfolding stateOf
+  free-bodies new same =
+      state-kept (cellsOf (length (b .memory))) (slots b) (cellsOf (length (b .bodies))) (effectiveTable b) (effectiveTable b) (b .bodies) new right
+      (λ i l. refl) (λ i c. refl) same refl refl (λ k l. refl)
+
+-- nothing but the effective table and the bodies is read
+pub same-effective : (b c : Buffers) → slots b ≡ slots c → effectiveTable b ≡ effectiveTable c → b .bodies ≡ c .bodies → stateOf b ≡ stateOf c
+unfolding stateOf
+same-effective b c n e q = λ i. stateIn (n i) (e i) (q i)

@@ -1,0 +1,49 @@
+-- The calls as plans: their questions, and the exact stores in their order.
+use Prim.Native.Nat.{ℕ, _+_, _*_}
+use mathlib.Core.Bool.{Bool, cond}
+use mathlib.Core.List.{List, [], _∷_, _++_, map}
+use lib.Dec.{eqb}
+use lib.ListN.{length, getD}
+use Rattle.words.specs.Layout.{magic, magicAt, cellsAt, slotsAt, bodiesAt, liveAt, nextAt, handleAt, pairsAt, cellsOf, slotsOf}
+use Rattle.words.specs.Stores.{Store, _≔_, tab}
+use Rattle.words.specs.Journal.{journal, openPlan}
+use Rattle.table.specs.Entry.{live, nextHandle}
+use Rattle.store.specs.Outcome.{Buffers, Step, inTable, Call, perform, unless}
+use Rattle.store.specs.Checks.{makeCheck, openCheck, createCheck}
+
+-- ---- make: word 0 cleared, words 1 to 15 + 2E once each, rising, then word 0
+
+-- word i of a fresh table for m cells, e slots and b bodies
+unfoldable pub freshWord : (m e b i : ℕ) → ℕ
+freshWord m e b i = cond (eqb i cellsAt) m (cond (eqb i slotsAt) e (cond (eqb i bodiesAt) b (cond (eqb i nextAt) 1 0)))
+
+unfoldable pub makePlan : (m e b : ℕ) → List Store
+makePlan m e b = (magicAt ≔ 0) ∷ (tab (15 + 2 * e) (λ j. j + 1 ≔ freshWord m e b (j + 1)) ++ (magicAt ≔ magic) ∷ [])
+
+unfoldable pub makeCall : Buffers → Call
+makeCall b =
+    unless (makeCheck (length (b .memory)) (length (b .bodies)) (b .table))
+    (perform (map inTable (makePlan (cellsOf (length (b .memory))) (slotsOf (length (b .table))) (cellsOf (length (b .bodies))))) 0)
+
+-- ---- open: the pending pairs, then word 6
+
+unfoldable pub openCall : Buffers → Call
+openCall b =
+    unless (openCheck (length (b .memory)) (length (b .bodies)) (b .table))
+    (perform (map inTable (openPlan (pairsAt (slotsOf (length (b .table)))) (b .table))) 0)
+
+-- ---- create: the number of live domains, the next handle, and the new domain's handle, by the journal
+
+abbrev pub domainWords : (live handle : ℕ) → List Store
+domainWords n h = (liveAt ≔ n + 1) ∷ (nextAt ≔ h + 1) ∷ (handleAt n ≔ h) ∷ []
+
+unfoldable pub createWords : List ℕ → List Store
+createWords t = domainWords (live t) (nextHandle t)
+
+unfoldable pub createPlan : List ℕ → List Store
+createPlan t = journal (pairsAt (slotsOf (length t))) (createWords t)
+
+unfoldable pub createCall : Buffers → Call
+createCall b =
+    unless (createCheck (length (b .memory)) (length (b .bodies)) (b .table))
+    (perform (map inTable (createPlan (b .table))) (nextHandle (b .table)))

@@ -1,0 +1,314 @@
+// The calls of the domain store, over three lent buffers: memory, bodies and table.
+//
+// Every call may be given any buffers and any numbers. It puts document 01's questions first, in one function that only reads, and
+// refuses with the number of the first no. A changing call takes a budget of steps; it makes as many of its stores as the budget
+// allows, and whether it was done or stopped is decided once, at the end.
+use table::header_ok;
+use table::lengths_ok;
+use table::table_ok;
+use words::apply_pending;
+use words::finish_journal;
+use words::layout::BODIES_AT;
+use words::layout::CELLS_AT;
+use words::layout::LIVE_AT;
+use words::layout::MAGIC;
+use words::layout::MAGIC_AT;
+use words::layout::MAX_LIVE;
+use words::layout::NEXT_AT;
+use words::layout::PENDING_AT;
+use words::layout::SLOTS_AT;
+use words::layout::handle_at;
+use words::layout::pairs_at;
+use words::layout::slots_of;
+use words::least;
+use words::remaining;
+use words::wide;
+use words::write_pair;
+ghost use mathlib.Core.Path.{_≡_};
+ghost use Prim.Native.Nat.{ℕ, _+_, _-_, _*_, _≤_, _<_};
+ghost use lib.ListN.{length, take, getD};
+ghost use Rattle.words.specs.Layout.{pairsAt, slotsOf, tableWords, maxSlots, maxLive, maxCells, maxBodies, handleAt};
+ghost use Rattle.words.specs.Stores.{stores, tab};
+ghost use Rattle.table.specs.Entry.{handle};
+ghost use Rattle.words.specs.Journal.{pairPlans};
+ghost use Rattle.model.specs.Answer.{ended};
+ghost use Rattle.store.specs.Outcome.{buffers, report, leaves, outcome};
+ghost use Rattle.store.specs.Checks.{shapeCheck, tableCheck, openCheck, storeCheck, createCheck};
+ghost use Rattle.store.specs.Calls.{freshWord, makePlan, makeCall, openCall, domainWords, createPlan, createCall};
+ghost use Rattle.store.specs.Means.{seen, makeMeans, openMeans, createMeans, listing, listMeans};
+
+// What a call answers: the number of the question that refused it; or done, with its steps and, from create, the new handle; or stopped
+// by its budget, with that many steps made.
+pub enum Answer {
+    Refused(u32),
+    Done { steps: usize, handle: u32 },
+    Stopped(usize),
+}
+
+// What list answers: how many domains are live, and their handles, outermost first, with zeros after them.
+pub struct Listing {
+    pub answer: Answer,
+    pub count: u32,
+    pub handles: [u32; 8],
+}
+
+// ---- the questions: 0, or the number of the first no
+
+// Questions 1 and 2.
+fn shape_check(memory: usize, bodies: usize, table: &[u32]) -> u32
+    ensures { λ r. ⌜ r ≡ shapeCheck memory bodies (now (table .entry)) ⌝ }
+{
+    if !lengths_ok(memory, bodies, table.len()) {
+        return 1;
+    }
+    if !header_ok(memory, bodies, table) {
+        return 2;
+    }
+    0
+}
+
+// Question 4, of a table whose length is allowed.
+fn table_check(memory: usize, bodies: usize, table: &[u32]) -> u32
+    requires { ⌜ shapeCheck memory bodies (now table) ≡ 0 ⌝ }
+    ensures { λ r. ⌜ r ≡ tableCheck memory bodies (now (table .entry)) ⌝ }
+{
+    if table_ok(table, memory / 64, slots_of(table.len()), bodies / 64) {
+        0
+    } else {
+        4
+    }
+}
+
+// The questions put to open.
+fn open_check(memory: usize, bodies: usize, table: &[u32]) -> u32
+    ensures { λ r. ⌜ r ≡ openCheck memory bodies (now (table .entry)) ⌝ }
+{
+    let no = shape_check(memory, bodies, table);
+    if no != 0 {
+        return no;
+    }
+    table_check(memory, bodies, table)
+}
+
+// The questions put to every call but make and open.
+fn store_check(memory: usize, bodies: usize, table: &[u32]) -> u32
+    ensures { λ r. ⌜ r ≡ storeCheck memory bodies (now (table .entry)) ⌝ }
+{
+    let no = shape_check(memory, bodies, table);
+    if no != 0 {
+        return no;
+    }
+    if table[PENDING_AT] != 0 {
+        return 3;
+    }
+    table_check(memory, bodies, table)
+}
+
+// The questions put to create.
+fn create_check(memory: usize, bodies: usize, table: &[u32]) -> u32
+    ensures { λ r. ⌜ r ≡ createCheck memory bodies (now (table .entry)) ⌝ }
+{
+    let no = store_check(memory, bodies, table);
+    if no != 0 {
+        return no;
+    }
+    if table[LIVE_AT] >= MAX_LIVE {
+        return 9;
+    }
+    if table[NEXT_AT] >= 4294967295 {
+        return 10;
+    }
+    0
+}
+
+// The answer of a call that needs so many steps.
+fn answer_of(need: usize, handle: u32, budget: usize) -> Answer
+    ensures { λ r. ⌜ report r ≡ ended need handle budget ⌝ }
+{
+    if need <= budget {
+        Answer::Done {
+            steps: need,
+            handle,
+        }
+    } else {
+        Answer::Stopped(budget)
+    }
+}
+
+// ---- make
+
+// Word i of a fresh table.
+fn fresh_word(cells: u32, slots: u32, bodies: u32, i: usize) -> u32
+    ensures { λ r. ⌜ r ≡ freshWord cells slots bodies i ⌝ }
+{
+    if i == CELLS_AT {
+        return cells;
+    }
+    if i == SLOTS_AT {
+        return slots;
+    }
+    if i == BODIES_AT {
+        return bodies;
+    }
+    if i == NEXT_AT {
+        return 1;
+    }
+    0
+}
+
+// Make's stores. Word 0 is cleared first and by itself, with a test of the budget behind it, so that its store is never dead to the
+// compiler: from then on until its last store there is no store here.
+fn make_words(table: &mut [u32], cells: u32, slots: u32, bodies: u32, budget: usize)
+    requires { ⌜ (slots ≤ maxSlots) × (length (now table) ≡ tableWords slots) ⌝ }
+    ensures { λ _. ⌜ now (table .exit) ≡ stores (take budget (makePlan cells slots bodies)) (now (table .entry)) ⌝ }
+{
+    if budget == 0 {
+        return;
+    }
+    table[MAGIC_AT] = 0;
+    let end = pairs_at(slots as usize);
+    let n = least(budget, end);
+    let mut i = 1;
+    while i < n {
+        table[i] = fresh_word(cells, slots, bodies, i);
+        i += 1;
+    }
+    if end < budget {
+        table[MAGIC_AT] = MAGIC;
+    }
+}
+
+// Makes a fresh store: no domains, next handle 1, no entries.
+pub fn make(memory: &[u8], bodies: &[u8], table: &mut [u32], budget: usize) -> Answer
+    ensures made { λ r. ⌜ leaves (report r) (buffers (now (memory .entry)) (now (bodies .entry)) (now (table .exit)))
+        ≡ outcome (makeCall (buffers (now (memory .entry)) (now (bodies .entry)) (now (table .entry)))) budget
+        (buffers (now (memory .entry)) (now (bodies .entry)) (now (table .entry))) ⌝ }
+    ensures means { λ r. ⌜ seen (report r) (buffers (now (memory .entry)) (now (bodies .entry)) (now (table .exit)))
+        ≡ makeMeans budget (buffers (now (memory .entry)) (now (bodies .entry)) (now (table .entry))) ⌝ }
+{
+    if !lengths_ok(memory.len(), bodies.len(), table.len()) {
+        return Answer::Refused(1);
+    }
+    let cells = (memory.len() / 64) as u32;
+    let places = (bodies.len() / 64) as u32;
+    let slots = slots_of(table.len());
+    make_words(table, cells, slots as u32, places, budget);
+    answer_of(2 * slots + 17, 0, budget)
+}
+
+// ---- open
+
+// Puts the pending pairs in place.
+pub fn open(memory: &[u8], bodies: &[u8], table: &mut [u32], budget: usize) -> Answer
+    ensures made { λ r. ⌜ leaves (report r) (buffers (now (memory .entry)) (now (bodies .entry)) (now (table .exit)))
+        ≡ outcome (openCall (buffers (now (memory .entry)) (now (bodies .entry)) (now (table .entry)))) budget
+        (buffers (now (memory .entry)) (now (bodies .entry)) (now (table .entry))) ⌝ }
+    ensures means { λ r. ⌜ seen (report r) (buffers (now (memory .entry)) (now (bodies .entry)) (now (table .exit)))
+        ≡ openMeans budget (buffers (now (memory .entry)) (now (bodies .entry)) (now (table .entry))) ⌝ }
+{
+    let no = open_check(memory.len(), bodies.len(), table);
+    if no != 0 {
+        return Answer::Refused(no);
+    }
+    let p = wide(table[PENDING_AT]);
+    if p == 0 {
+        return Answer::Done {
+            steps: 0,
+            handle: 0,
+        };
+    }
+    apply_pending(table, pairs_at(slots_of(table.len())), p, budget);
+    answer_of(p + 1, 0, budget)
+}
+
+// ---- create
+
+// The pairs of create: the number of live domains, the next handle, and the new domain's handle.
+fn create_pairs(table: &mut [u32], first: usize, live: u32, handle: u32, budget: usize)
+    requires { ⌜ (first + 6 ≤ length (now table)) × (live < maxLive) × (handle < 4294967295) ⌝ }
+    ensures { λ _. ⌜ now (table .exit) ≡ stores (take budget (pairPlans first (domainWords live handle))) (now (table .entry)) ⌝ }
+{
+    write_pair(table, first, LIVE_AT as u32, live + 1, budget);
+    write_pair(
+        table,
+        first + 2,
+        NEXT_AT as u32,
+        handle + 1,
+        remaining(budget, 2),
+    );
+    write_pair(
+        table,
+        first + 4,
+        handle_at(live as usize) as u32,
+        handle,
+        remaining(budget, 4),
+    );
+}
+
+// Create's part on the table.
+fn create_words(table: &mut [u32], budget: usize)
+    requires { ⌜ (length (now table) ≡ tableWords (slotsOf (length (now table)))) × (slotsOf (length (now table)) ≤ maxSlots) × (getD (now table) 4 0 < maxLive) × (getD (now table) 5 0 < 4294967295) ⌝ }
+    ensures { λ _. ⌜ now (table .exit) ≡ stores (take budget (createPlan (now (table .entry)))) (now (table .entry)) ⌝ }
+{
+    let live = table[LIVE_AT];
+    let handle = table[NEXT_AT];
+    let first = pairs_at(slots_of(table.len()));
+    create_pairs(table, first, live, handle, budget);
+    finish_journal(table, first, 3, budget);
+}
+
+// Adds a domain inside the innermost, and names its handle.
+pub fn create(memory: &[u8], bodies: &[u8], table: &mut [u32], budget: usize) -> Answer
+    ensures made { λ r. ⌜ leaves (report r) (buffers (now (memory .entry)) (now (bodies .entry)) (now (table .exit)))
+        ≡ outcome (createCall (buffers (now (memory .entry)) (now (bodies .entry)) (now (table .entry)))) budget
+        (buffers (now (memory .entry)) (now (bodies .entry)) (now (table .entry))) ⌝ }
+    ensures means { λ r. ⌜ seen (report r) (buffers (now (memory .entry)) (now (bodies .entry)) (now (table .exit)))
+        ≡ createMeans budget (buffers (now (memory .entry)) (now (bodies .entry)) (now (table .entry))) ⌝ }
+{
+    let no = create_check(memory.len(), bodies.len(), table);
+    if no != 0 {
+        return Answer::Refused(no);
+    }
+    let handle = table[NEXT_AT];
+    create_words(table, budget);
+    answer_of(11, handle, budget)
+}
+
+// ---- list
+
+// Words 8 to 15.
+fn read_handles(table: &[u32]) -> [u32; 8]
+    requires { ⌜ handleAt maxLive ≤ length (now table) ⌝ }
+    ensures { λ r. ⌜ r ≡ tab maxLive (handle (now (table .entry))) ⌝ }
+{
+    let mut handles = [0u32; 8];
+    let mut k = 0;
+    while k < 8 {
+        handles[k] = table[handle_at(k)];
+        k += 1;
+    }
+    handles
+}
+
+// Gives the number of live domains and their handles.
+pub fn list(memory: &[u8], bodies: &[u8], table: &[u32]) -> Listing
+    ensures { λ r. ⌜ listing r ≡ listMeans (buffers (now (memory .entry)) (now (bodies .entry)) (now (table .entry))) ⌝ }
+{
+    let no = store_check(memory.len(), bodies.len(), table);
+    if no != 0 {
+        return Listing {
+            answer: Answer::Refused(no),
+            count: 0,
+            handles: [0u32; 8],
+        };
+    }
+    let handles = read_handles(table);
+    Listing {
+        answer: Answer::Done {
+            steps: 0,
+            handle: 0,
+        },
+        count: table[LIVE_AT],
+        handles,
+    }
+}
