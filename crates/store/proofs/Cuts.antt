@@ -156,3 +156,27 @@ module _ (memory bodies : ℕ) (t : List ℕ) (long : length t ≡ tableWords (s
   -- opening it again, whole, gives word for word what opening at once would have given
   pub opening-again : (k : ℕ) → stores (openPlan (pairsAt (slotsOf (length t))) (opening k)) (opening k) ≡ stores (openPlan (pairsAt (slotsOf (length t))) t) t
   opening-again k = law.opening-again start t before fits named k
+
+-- ---- any number of openings one after the other, each stopped at its own budget
+
+pub openings-open : (memory bodies : ℕ) (ks : List ℕ) (t : List ℕ) → length t ≡ tableWords (slotsOf (length t)) → openCheck memory bodies t ≡ 0
+    → openCheck memory bodies (openings (pairsAt (slotsOf (length t))) ks t) ≡ 0
+openings-open memory bodies [] t long opens = opens
+openings-open memory bodies (k ∷ ks) t long opens =
+    let u : List ℕ = opening memory bodies t long opens k in
+    let n : length u ≡ length t = opening-length memory bodies t long opens k in
+    subst (λ (x : ℕ). openCheck memory bodies (openings (pairsAt (slotsOf x)) ks u) ≡ 0) n
+    (openings-open memory bodies ks u (n ∙ long ∙ ap (λ (x : ℕ). tableWords (slotsOf x)) (sym n)) (opening-opens memory bodies t long opens k))
+
+-- all of them stopped: as many pairs are pending as before
+pub openings-pending : (memory bodies p : ℕ) (ks : List ℕ) (t : List ℕ) → length t ≡ tableWords (slotsOf (length t)) → openCheck memory bodies t ≡ 0
+    → pending t ≡ p → Each (λ k. k ≤ p) ks → pending (openings (pairsAt (slotsOf (length t))) ks t) ≡ p
+openings-pending memory bodies p [] t long opens same all = same
+openings-pending memory bodies p (k ∷ ks) t long opens same all =
+    let u : List ℕ = opening memory bodies t long opens k in
+    let n : length u ≡ length t = opening-length memory bodies t long opens k in
+    let l : k ≤ pending t = omega (arith, all .0) in
+    subst (λ (x : ℕ). pending (openings (pairsAt (slotsOf x)) ks u) ≡ p) n
+    (openings-pending memory bodies p ks u (n ∙ long ∙ ap (λ (x : ℕ). tableWords (slotsOf x)) (sym n)) (opening-opens memory bodies t long opens k)
+    (law.opening-stopped (pairsAt (slotsOf (length t))) t (pendingAt-below (slotsOf (length t)))
+    (fits memory bodies t long opens) (named memory bodies t long opens) k l ∙ same) (all .1))

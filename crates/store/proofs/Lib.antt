@@ -6,6 +6,8 @@ pub mod Cuts
 pub mod Creating
 pub mod Making
 pub mod Means
+pub mod Changes
+pub mod Created
 pub mod Handles
 pub mod Standing
 pub mod Bounds

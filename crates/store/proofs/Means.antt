@@ -22,16 +22,15 @@ use Rattle.table.proofs.Rule.{Rule}
 use Rattle.table.proofs.Checks.{Lengths, lengths-facts}
 use Rattle.model.specs.State.{State}
 use Rattle.model.specs.Answer.{Report, refused, done, ended, ask, orElse, View, view}
-use Rattle.model.specs.Calls.{Effect, viewed, change, orRefuse, fresh, makeSteps, makeState, openSteps, created, createEffect}
+use Rattle.model.specs.Calls.{fresh, makeSteps, makeState, openSteps}
 use Rattle.store.specs.Outcome.{Buffers, buffers, inTable, Outcome, outcome, leaves, Call, perform, unless}
-use Rattle.store.specs.Checks.{makeCheck, openCheck, storeCheck, createCheck}
+use Rattle.store.specs.Checks.{makeCheck, openCheck, storeCheck}
 use Rattle.store.specs.State.{domainIn, stateIn, stateOf, standing}
-use Rattle.store.specs.Calls.{makePlan, makeCall, openCall, domainWords, createWords, createPlan, createCall}
-use Rattle.store.specs.Means.{seen, orRefused, makeMeans, openMeans, callMeans, createMeans}
-use Rattle.store.proofs.Checks.{ask-yes, orElse-go, orElse-stop, shape-lengths, open-shape, store-shape, store-idle, store-table, store-opens, table-rule, create-store, create-live, create-next}
+use Rattle.store.specs.Calls.{makePlan, makeCall, openCall}
+use Rattle.store.specs.Means.{seen, orRefused, makeMeans, openMeans}
+use Rattle.store.proofs.Checks.{shape-lengths, open-shape, store-shape, store-idle, store-table, store-opens, table-rule}
 use Rattle.store.proofs.Outcome.{table-after, performed, refuses, ended-done}
-use Rattle.store.proofs.Cuts.{stands-open, cut, cut-length, cut-effective, cut-opens, opening, opening-length, opening-effective, opening-opens}
-use Rattle.store.proofs.Creating.{create-rule, create-state, create-names}
+use Rattle.store.proofs.Cuts.{stands-open, opening, opening-length, opening-effective, opening-opens}
 use Rattle.store.proofs.Making.{make-length, make-none, make-fresh}
 
 -- what is to be seen of an outcome
@@ -39,7 +38,7 @@ abbrev pub seenOf : Outcome → View
 seenOf o = seen (o .report) (o .buffers)
 
 -- by whether the questions say no
-by-check : (C : ℕ → Type 0) (q : ℕ) → ((n : ℕ) → q ≡ suc n → C (suc n)) → (q ≡ 0 → C 0) → C q
+pub by-check : (C : ℕ → Type 0) (q : ℕ) → ((n : ℕ) → q ≡ suc n → C (suc n)) → (q ≡ 0 → C 0) → C q
 by-check C zero f g = g refl
 by-check C (suc n) f g = f n refl
 
@@ -105,7 +104,7 @@ open-means k b =
     ap seenOf (table-after (openPlan (pairsAt (slotsOf (length (b .table)))) (b .table)) 0 k (b .memory) (b .bodies) (b .table))
     ∙ rw (open-length (pairsAt (slotsOf (length (b .table)))) (b .table), open-standing (b .memory) (b .bodies) (b .table) k e))
 
--- ---- create
+-- ---- a table that passes questions 1 to 4
 
 state-count : (e : ℕ) (t bodies : List ℕ) → length (stateIn e t bodies .domains) ≡ live t
 unfolding stateIn
@@ -115,15 +114,11 @@ state-next : (e : ℕ) (t bodies : List ℕ) → stateIn e t bodies .next ≡ ne
 unfolding stateIn
 state-next e t bodies = refl
 
-pub create-length : (t : List ℕ) → length (createPlan t) ≡ 11
-unfolding createPlan createWords journaled
-create-length t = refl
-
 module _ (memory bodies t : List ℕ) (yes : storeCheck (length memory) (length bodies) t ≡ 0) where
   shape-yes : lengthsOk (length memory) (length bodies) (length t) ≡ true
   shape-yes = shape-lengths (length memory) (length bodies) t (store-shape (length memory) (length bodies) t yes)
 
-  t-long : length t ≡ tableWords (slotsOf (length t))
+  pub t-long : length t ≡ tableWords (slotsOf (length t))
   t-long = long (length memory) (length bodies) t shape-yes
 
   abbrev first : ℕ
@@ -153,82 +148,6 @@ module _ (memory bodies t : List ℕ) (yes : storeCheck (length memory) (length 
 
   pub next-is : stateOf (buffers memory bodies t) .next ≡ nextHandle t
   next-is = ap (λ (s : State). s .next) store-state ∙ state-next (slotsOf (length t)) (take first t) bodies ∙ getD-take first t nextAt 0 (omega arith)
-
-  module _ (few : live t < maxLive) where
-    changes-right : Rule (cellsOf (length memory)) (slotsOf (length t)) (cellsOf (length bodies)) (stores (createWords t) (take (pairsAt (slotsOf (length t))) t))
-    unfolding createWords
-    changes-right =
-        let l4 : live (take first t) ≡ live t = getD-take first t liveAt 0 (omega arith) in
-        let l5 : nextHandle (take first t) ≡ nextHandle t = getD-take first t nextAt 0 (omega arith) in
-        rw (l4, l5) at (create-rule (cellsOf (length memory)) (slotsOf (length t)) (cellsOf (length bodies)) (take first t) store-rule (rw length-take (omega (arith, t-long))) (rw l4 few))
-
-    changes-state : stateIn (slotsOf (length t)) (stores (createWords t) (take (pairsAt (slotsOf (length t))) t)) bodies ≡ created (stateOf (buffers memory bodies t))
-    unfolding createWords
-    changes-state =
-        let l4 : live (take first t) ≡ live t = getD-take first t liveAt 0 (omega arith) in
-        let l5 : nextHandle (take first t) ≡ nextHandle t = getD-take first t nextAt 0 (omega arith) in
-        (rw (l4, l5) at (create-state (cellsOf (length memory)) (slotsOf (length t)) (cellsOf (length bodies)) (take first t) store-rule (rw length-take (omega (arith, t-long))) (rw l4 few) bodies))
-        ∙ ap created (sym store-state)
-
-    changes-named : (first : ℕ) → handleAt maxLive ≤ first → namesOk first 0 (createWords t) ≡ true
-    unfolding createWords
-    changes-named first l = create-names first (live t) (nextHandle t) few l
-
-    three : length (createWords t) ≡ 3
-    unfolding createWords
-    three = refl
-
-    -- "0 to 6 not made, 7 to 10 made by opening, 11 done"
-    create-standing : (k : ℕ) → standing (buffers memory bodies (stores (take k (createPlan t)) t))
-        ≡ some (cond (ltb 6 k) (created (stateOf (buffers memory bodies t))) (stateOf (buffers memory bodies t)))
-    unfolding createPlan createWords
-    create-standing k =
-        let idle = store-idle (length memory) (length bodies) t yes in
-        let shape = store-shape (length memory) (length bodies) t yes in
-        let named = changes-named first (omega arith) in
-        let n = cut-length (length memory) (length bodies) t (createWords t) shape t-long idle (omega arith) (omega arith) named store-rule changes-right k in
-        let opens = cut-opens (length memory) (length bodies) t (createWords t) shape t-long idle (omega arith) (omega arith) named store-rule changes-right k in
-        let eff = cut-effective (length memory) (length bodies) t (createWords t) shape t-long idle (omega arith) (omega arith) named store-rule changes-right k in
-        stands-open memory bodies (cut (length memory) (length bodies) t (createWords t) shape t-long idle (omega arith) (omega arith) named store-rule changes-right k) opens
-        ∙ rw (n, eff)
-        (by-le k 6
-        (λ l. rw (le-ltb 6 k l) (ap some (sym store-state)))
-        (λ l. rw (lt-ltb 6 k l) (ap some changes-state)))
-
-    create-seen : (k : ℕ) → seenOf (outcome (perform (map inTable (createPlan t)) (nextHandle t)) k (buffers memory bodies t))
-        ≡ view (ended 11 (stateOf (buffers memory bodies t) .next) k) (some (cond (ltb 6 k) (created (stateOf (buffers memory bodies t))) (stateOf (buffers memory bodies t)))) memory
-    create-seen k =
-        ap seenOf (table-after (createPlan t) (nextHandle t) k memory bodies t)
-        ∙ rw (create-length t, create-standing k, next-is)
-
--- questions 9 and 10, of words and of a state
-abbrev asked : ℕ → ℕ → ℕ
-asked n h = ask (ltb n maxLive) 9 (ask (ltb h 4_294_967_295) 10 0)
-
-abbrev goal : (asked-words asked-state k : ℕ) → Buffers → Type 0
-goal q r k b =
-    seenOf (outcome (unless q (perform (map inTable (createPlan (b .table))) (nextHandle (b .table)))) k b)
-    ≡ viewed (orRefuse r (change 0 3 (stateOf b .next) (created (stateOf b)))) k (stateOf b) (b .memory)
-
-pub create-means : (k : ℕ) (b : Buffers) → seenOf (outcome (createCall b) k b) ≡ createMeans k b
-unfolding createCall callMeans createCheck outcome
-create-means k b =
-    by-check (λ q. seenOf (outcome (unless (orElse q (asked (live (b .table)) (nextHandle (b .table))))
-    (perform (map inTable (createPlan (b .table))) (nextHandle (b .table)))) k b)
-    ≡ orRefused q b (viewed (createEffect (stateOf b)) k (stateOf b) (b .memory)))
-    (storeCheck (length (b .memory)) (length (b .bodies)) (b .table))
-    (λ n e. refl)
-    (λ yes.
-    let count = live-count (b .memory) (b .bodies) (b .table) yes in
-    let next = next-is (b .memory) (b .bodies) (b .table) yes in
-    let stands = store-standing (b .memory) (b .bodies) (b .table) yes in
-    let same : asked (live (b .table)) (nextHandle (b .table)) ≡ asked (length (stateOf b .domains)) (stateOf b .next) = λ i. asked (sym count i) (sym next i) in
-    subst (λ (r : ℕ). goal (asked (live (b .table)) (nextHandle (b .table))) r k b) same
-    (by-check (λ q. goal q q k b) (asked (live (b .table)) (nextHandle (b .table)))
-    (λ n e. ap (λ (s : Option State). view (refused (suc n)) s (b .memory)) stands)
-    (λ e.
-    let few = ask-yes (ltb (live (b .table)) maxLive) 9 (ask (ltb (nextHandle (b .table)) 4_294_967_295) 10 0) (omega arith) e in
-    create-seen (b .memory) (b .bodies) (b .table) yes (ltb-true _ _ few) k)))
 
 -- ---- what the code of each call cites: from what its parts did to its outcome
 
@@ -267,13 +186,3 @@ module _ (m b t : List ℕ) (k : ℕ) where
       let pos : 0 < p = omega arith in
       let same : openPlan (pairsAt (slotsOf (length t))) t ≡ applyPlan t first p = open-pending (pairsAt (slotsOf (length t))) p t (sym e) pos ∙ rw f in
       rw (yes4, same) (performed (applyPlan t first p) 0 (p + 1) k m b t t′ r (length-applyPlan t first p) w q)
-
-  pub create-refused : (q : ℕ) → q ≡ createCheck (length m) (length b) t → (q ≡ 0 → ⊥) → leaves (refused q) (buffers m b t) ≡ outcome (createCall (buffers m b t)) k (buffers m b t)
-  unfolding createCall
-  create-refused q e h = refuses q (createCheck (length m) (length b) t) _ k (buffers m b t) e h
-
-  pub create-performed : (h : ℕ) (t′ : List ℕ) (r : Report) → createCheck (length m) (length b) t ≡ 0 → h ≡ nextHandle t
-      → t′ ≡ stores (take k (createPlan t)) t → r ≡ ended 11 h k
-      → leaves r (buffers m b t′) ≡ outcome (createCall (buffers m b t)) k (buffers m b t)
-  unfolding createCall
-  create-performed h t′ r yes10 p w q = rw (yes10) (performed (createPlan t) (nextHandle t) 11 k m b t t′ r (create-length t) w (q ∙ rw p))

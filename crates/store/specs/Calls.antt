@@ -6,9 +6,9 @@ use lib.Dec.{eqb}
 use lib.ListN.{length, getD}
 use Rattle.words.specs.Layout.{magic, magicAt, cellsAt, slotsAt, bodiesAt, liveAt, nextAt, handleAt, pairsAt, cellsOf, slotsOf}
 use Rattle.words.specs.Stores.{Store, _≔_, tab}
-use Rattle.words.specs.Journal.{journal, openPlan}
+use Rattle.words.specs.Journal.{openPlan}
 use Rattle.table.specs.Entry.{live, nextHandle}
-use Rattle.store.specs.Outcome.{Buffers, Step, inTable, Call, perform, unless}
+use Rattle.store.specs.Outcome.{Buffers, Step, inTable, changePlan, Call, perform, unless}
 use Rattle.store.specs.Checks.{makeCheck, openCheck, createCheck}
 
 -- ---- make: word 0 cleared, words 1 to 15 + 2E once each, rising, then word 0
@@ -40,10 +40,7 @@ domainWords n h = (liveAt ≔ n + 1) ∷ (nextAt ≔ h + 1) ∷ (handleAt n ≔ 
 unfoldable pub createWords : List ℕ → List Store
 createWords t = domainWords (live t) (nextHandle t)
 
-unfoldable pub createPlan : List ℕ → List Store
-createPlan t = journal (pairsAt (slotsOf (length t))) (createWords t)
-
 unfoldable pub createCall : Buffers → Call
 createCall b =
     unless (createCheck (length (b .memory)) (length (b .bodies)) (b .table))
-    (perform (map inTable (createPlan (b .table))) (nextHandle (b .table)))
+    (perform (changePlan (pairsAt (slotsOf (length (b .table)))) [] (createWords (b .table))) (nextHandle (b .table)))

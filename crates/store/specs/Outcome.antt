@@ -1,9 +1,10 @@
 -- A call is a refusal or a plan of stores; its outcome at a budget is what the first stores of the plan leave.
 use Prim.Native.Nat.{ℕ}
 use mathlib.Core.Bool.{Bool, true, false, cond}
-use mathlib.Core.List.{List, map}
+use mathlib.Core.List.{List, map, _++_}
 use lib.ListN.{length, take}
 use Rattle.words.specs.Stores.{Store, store, run}
+use Rattle.words.specs.Journal.{journal}
 use Rattle.model.specs.Answer.{Report, done, stopped, refused, ended}
 use Rattle.store.specs.declared.Answer.{Answer}
 use Rattle.store.specs.declared.Answer.the-variants.{Refused, Done, Stopped}
@@ -39,6 +40,10 @@ report (Stopped k) = stopped k
 pub data Call : Type 0 where
   refuse : ℕ → Call
   perform : List Step → ℕ → Call
+
+-- a changing call's stores: "bytes first", here into bodies, and then the words by the journal
+abbrev pub changePlan : (first : ℕ) (bytes words : List Store) → List Step
+changePlan first bytes words = map inBodies bytes ++ map inTable (journal first words)
 
 -- a call by the number of its questions: 0 goes on
 abbrev pub unless : ℕ → Call → Call

@@ -30,11 +30,11 @@ ghost use lib.ListN.{length, take, getD};
 ghost use Rattle.words.specs.Layout.{pairsAt, slotsOf, tableWords, maxSlots, maxLive, maxCells, maxBodies, handleAt};
 ghost use Rattle.words.specs.Stores.{stores, tab};
 ghost use Rattle.table.specs.Entry.{handle};
-ghost use Rattle.words.specs.Journal.{pairPlans};
+ghost use Rattle.words.specs.Journal.{pairPlans, journal};
 ghost use Rattle.model.specs.Answer.{ended};
 ghost use Rattle.store.specs.Outcome.{buffers, report, leaves, outcome};
 ghost use Rattle.store.specs.Checks.{shapeCheck, tableCheck, openCheck, storeCheck, createCheck};
-ghost use Rattle.store.specs.Calls.{freshWord, makePlan, makeCall, openCall, domainWords, createPlan, createCall};
+ghost use Rattle.store.specs.Calls.{freshWord, makePlan, makeCall, openCall, domainWords, createWords, createCall};
 ghost use Rattle.store.specs.Means.{seen, makeMeans, openMeans, createMeans, listing, listMeans};
 
 // What a call answers: the number of the question that refused it; or done, with its steps and, from create, the new handle; or stopped
@@ -248,7 +248,7 @@ fn create_pairs(table: &mut [u32], first: usize, live: u32, handle: u32, budget:
 // Create's part on the table.
 fn create_words(table: &mut [u32], budget: usize)
     requires { ⌜ (length (now table) ≡ tableWords (slotsOf (length (now table)))) × (slotsOf (length (now table)) ≤ maxSlots) × (getD (now table) 4 0 < maxLive) × (getD (now table) 5 0 < 4294967295) ⌝ }
-    ensures { λ _. ⌜ now (table .exit) ≡ stores (take budget (createPlan (now (table .entry)))) (now (table .entry)) ⌝ }
+    ensures { λ _. ⌜ now (table .exit) ≡ stores (take budget (journal (pairsAt (slotsOf (length (now (table .entry))))) (createWords (now (table .entry))))) (now (table .entry)) ⌝ }
 {
     let live = table[LIVE_AT];
     let handle = table[NEXT_AT];

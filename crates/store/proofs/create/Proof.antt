@@ -2,7 +2,8 @@ use mathlib.Core.Path.{_≡_, refl, sym, ap, _∙_}
 use Prim.Native.Nat.{ℕ, _+_, _*_, _≤_, _<_}
 use native.Mathlib.Omega.{arith}
 use Rattle.store.proofs.Checks.{shape-facts, store-shape, create-store, create-live, create-next}
-use Rattle.store.proofs.Means.{seenOf, create-means, create-refused, create-performed}
+use Rattle.store.proofs.Means.{seenOf}
+use Rattle.store.proofs.Created.{create-means, create-refused, create-performed}
 use borrow.Author.Needs.{needs}
 use Rattle.store.proofs.create.Statement.{statement}
 use Rattle.store.proofs.create.Tie as tie

@@ -7,7 +7,7 @@ use Rattle.words.specs.Layout.{pairsAt, slotsOf, pendingAt}
 use Rattle.words.specs.Stores.{Store, _≔_}
 use Rattle.words.proofs.Plans.{Each}
 use Rattle.words.proofs.Phases.{journal-ready, journal-whole}
-use Rattle.store.specs.Calls.{createWords, createPlan}
+use Rattle.store.specs.Calls.{createWords}
 use borrow.Author.Needs.{needs}
 use Rattle.store.proofs.create_words.Statement.{statement}
 use Rattle.store.proofs.create_words.Tie as tie
@@ -57,7 +57,7 @@ same-length c = search needs
 
 -- src/lib.rt:149:1
 returns : tie.Need-returns
-unfolding createPlan createWords
+unfolding createWords
 returns c =
     let t = c .before .before .before .before .before .before .before .before .before .before .before .before .before .args .table .now in
     let k = c .before .before .before .before .before .before .before .before .before .before .before .before .before .args .budget in

@@ -1,0 +1,248 @@
+-- Every changing call: from its stores to what it means at every budget, and to what opening finds after every cut. A call owes only that its
+-- bytes spare the bodies in use, that its words may be named by pairs and leave a right table, and the state of that table.
+-- Assumes nothing.
+use Prim.Native.Nat.{ℕ, zero, suc, _+_, _-_, _*_, _≤_, _<_}
+use mathlib.Core.Bool.{Bool, true, false, cond}
+use mathlib.Core.List.{List, [], _∷_, _++_, map}
+use mathlib.Core.Logic.{_⊎_, inl, inr, ⊎-elim}
+use mathlib.Core.Option.{Option, none, some}
+use mathlib.Core.Path.{_≡_, refl, sym, ap, subst, _∙_}
+use native.Mathlib.Nat.{not-suc-le-zero}
+use native.Mathlib.Omega.{arith}
+use borrow.Author.Tests.{eq-eqb, ne-eqb, lt-ltb, le-ltb}
+use lib.Dec.{ltb, eqb}
+use lib.ListN.{length, getD, set, take, drop, length-append, length-map, length-take, length-drop, length-set}
+use lib.Seq.{take-all, take-nil, ext-getD, getD-take, getD-drop, getD-set-other}
+use Rattle.words.specs.Layout.{cellAt, cellsOf, slotsOf, pairsAt, maxPairs, tableWords, pendingAt}
+use Rattle.words.specs.Stores.{Store, _≔_, store, stores, run}
+use Rattle.words.specs.Journal.{pending, namesOk, effective, openPlan, applyPlan, journal, journaled, openings}
+use Rattle.words.specs.Cells.{cellBytes}
+use Rattle.words.proofs.Scan.{by-le}
+use Rattle.words.proofs.Places.{pendingAt-below}
+use Rattle.words.proofs.Plans.{Each, each-take, length-stores, stores-none, getD-stores, each-map, run-take-append, take-map}
+use Rattle.words.proofs.Pairs.{length-journal, journal-some, journal-none, open-pending, length-applyPlan}
+use Rattle.words.proofs.Journal as law
+use Rattle.table.specs.Entry.{word2}
+use Rattle.table.proofs.Rule.{Rule}
+use Rattle.search.proofs.Value.{Copy}
+use Rattle.model.specs.State.{State}
+use Rattle.model.specs.Answer.{Report, done, ended, view, stepsOf}
+use Rattle.model.specs.Calls.{viewed, change}
+use Rattle.store.specs.Outcome.{Buffers, buffers, Step, inMemory, inBodies, inTable, step, steps, Outcome, outcome, leaves, perform, changePlan}
+use Rattle.store.specs.Checks.{shapeCheck, openCheck, storeCheck}
+use Rattle.store.specs.State.{stateIn, stateOf, standing}
+use Rattle.store.specs.Calls.{openCall}
+use Rattle.store.proofs.Checks.{store-shape, store-idle, store-opens, shape-lengths}
+use Rattle.store.proofs.Outcome.{steps-inTable, ended-done}
+use Rattle.store.proofs.State.{state-kept}
+use Rattle.store.proofs.Cuts.{stands-open, cut, cut-effective, cut-opens, openings-open, openings-pending}
+use Rattle.store.proofs.Means.{seenOf, long, store-effective, store-rule, store-state, open-none, open-performed}
+
+-- ---- bytes, then words, under one budget
+
+pub steps-inBodies : (ps : List Store) (m b t : List ℕ) → steps (map inBodies ps) (buffers m b t) ≡ buffers m (stores ps b) t
+steps-inBodies [] m b t = refl
+steps-inBodies (p ∷ ps) m b t = steps-inBodies ps m (store p b) t
+
+pub change-length : (first : ℕ) (bytes ws : List Store) → length (changePlan first bytes ws) ≡ stepsOf (length bytes) (length ws)
+change-length first bytes ws =
+    length-append (map inBodies bytes) (map inTable (journal first ws))
+    ∙ rw (length-map, length-map)
+    (by-le (length ws) 0
+    (λ l. let z : length ws ≡ 0 = omega arith in rw (journal-none first ws z, eq-eqb (length ws) 0 z))
+    (λ l. rw (length-journal first ws l, ne-eqb (length ws) 0 (λ z. omega arith))))
+
+pub change-steps : (first k : ℕ) (bytes ws : List Store) (m b t : List ℕ)
+    → steps (take k (changePlan first bytes ws)) (buffers m b t) ≡ buffers m (stores (take k bytes) b) (stores (take (k - length bytes) (journal first ws)) t)
+change-steps first k bytes ws m b t =
+    run-take-append step k (map inBodies bytes) (map inTable (journal first ws)) (buffers m b t)
+    ∙ rw (length-map, take-map inBodies, take-map inTable, steps-inBodies (take k bytes) m b t, steps-inTable (take (k - length bytes) (journal first ws)) m _ t)
+
+-- from what a call's code did to its outcome
+pub change-performed : (first need h k : ℕ) (bytes ws : List Store) (m b t b′ t′ : List ℕ) (r : Report)
+    → need ≡ stepsOf (length bytes) (length ws) → b′ ≡ stores (take k bytes) b → t′ ≡ stores (take (k - length bytes) (journal first ws)) t → r ≡ ended need h k
+    → leaves r (buffers m b′ t′) ≡ outcome (perform (changePlan first bytes ws) h) k (buffers m b t)
+unfolding outcome
+change-performed first need h k bytes ws m b t b′ t′ r n p q e =
+    rw (p, q, e, n, ← change-length first bytes ws, ← change-steps first k bytes ws m b t)
+
+-- ---- bytes that spare the bodies in use
+
+-- a byte outside every body that a copy has
+abbrev pub Spares : (e : ℕ) (t : List ℕ) → Store → Type 0
+Spares e t s = (i : ℕ) → Copy e t i → (s .at < cellAt (word2 e t i)) ⊎ (cellAt (word2 e t i) + 64 ≤ s .at)
+
+pub spared : (e : ℕ) (t : List ℕ) (bytes : List Store) (bodies : List ℕ) → Each (Spares e t) bytes → (i : ℕ) → Copy e t i
+    → cellBytes (stores bytes bodies) (word2 e t i) ≡ cellBytes bodies (word2 e t i)
+spared e t bytes bodies free i c =
+    let w : ℕ = word2 e t i in
+    ext-getD 0 (cellBytes (stores bytes bodies) w) (cellBytes bodies w)
+    (simp (length-take, length-drop, length-stores))
+    (λ j l.
+    let small : j < 64 = short (stores bytes bodies) w j l in
+    rw (getD-take 64 (drop (cellAt w) (stores bytes bodies)) j 0 small, getD-take 64 (drop (cellAt w) bodies) j 0 small, getD-drop (cellAt w) (stores bytes bodies) j 0, getD-drop (cellAt w) bodies j 0)
+    (getD-stores bytes bodies (cellAt w + j)
+    (each-map (Spares e t) (λ s. cellAt w + j ≡ s .at → ⊥) bytes (λ s f q. ⊎-elim (λ a. omega arith) (λ a. omega arith) (f i c)) free)))
+  where
+    short : (l : List ℕ) (w j : ℕ) → j < length (cellBytes l w) → j < 64
+    short l w j h = let z = rw length-take at h in omega arith
+
+-- ---- the call at every budget
+
+module _ (memory bodies t : List ℕ) (yes : storeCheck (length memory) (length bodies) t ≡ 0) (bytes ws : List Store)
+    (spare : Each (Spares (slotsOf (length t)) (take (pairsAt (slotsOf (length t))) t)) bytes)
+    (few : length ws ≤ maxPairs (slotsOf (length t))) (names : namesOk (pairsAt (slotsOf (length t))) 0 ws ≡ true)
+    (next : Rule (cellsOf (length memory)) (slotsOf (length t)) (cellsOf (length bodies)) (stores ws (take (pairsAt (slotsOf (length t))) t))) where
+  abbrev e : ℕ
+  e = slotsOf (length t)
+
+  abbrev first : ℕ
+  first = pairsAt (slotsOf (length t))
+
+  abbrev head : List ℕ
+  head = take (pairsAt (slotsOf (length t))) t
+
+  idle : pending t ≡ 0
+  idle = store-idle (length memory) (length bodies) t yes
+
+  t-long : length t ≡ tableWords (slotsOf (length t))
+  t-long = long (length memory) (length bodies) t (shape-lengths (length memory) (length bodies) t (store-shape (length memory) (length bodies) t yes))
+
+  right : Rule (cellsOf (length memory)) (slotsOf (length t)) (cellsOf (length bodies)) head
+  right = store-rule memory bodies t yes
+
+  -- the bodies after some of the bytes
+  abbrev pub filled : ℕ → List ℕ
+  filled k = stores (take k bytes) bodies
+
+  -- and the table after some of the words
+  abbrev pub worded : ℕ → List ℕ
+  worded j = stores (take j (journal (pairsAt (slotsOf (length t))) ws)) t
+
+  -- bytes in free bodies do not matter to the old table
+  pub old-state : (k : ℕ) → stateIn (slotsOf (length t)) (take (pairsAt (slotsOf (length t))) t) (filled k) ≡ stateOf (buffers memory bodies t)
+  old-state k =
+      state-kept (cellsOf (length memory)) e (cellsOf (length bodies)) head head bodies (filled k) right (λ i l. refl) (λ i c. refl)
+      (spared e head (take k bytes) bodies (each-take (Spares e head) k bytes spare)) refl refl (λ k l. refl)
+      ∙ sym (store-state memory bodies t yes)
+
+  same-bytes : (k : ℕ) → length (filled k) ≡ length bodies
+  same-bytes k = length-stores (take k bytes) bodies
+
+  -- at every cut the table can be opened, and its effective table is the old one or the new one
+  module _ (some-change : 0 < length ws) where
+    shape : shapeCheck (length memory) (length bodies) t ≡ 0
+    shape = store-shape (length memory) (length bodies) t yes
+
+    cut-is : (j : ℕ) → worded j ≡ cut (length memory) (length bodies) t ws shape t-long idle some-change few names right next j
+    cut-is j = rw (← journal-some first ws some-change)
+
+    pub worded-opens : (j : ℕ) → openCheck (length memory) (length bodies) (worded j) ≡ 0
+    worded-opens j = rw (cut-is j) (cut-opens (length memory) (length bodies) t ws shape t-long idle some-change few names right next j)
+
+    pub worded-effective : (j : ℕ) → effective (pairsAt (slotsOf (length t))) (worded j) ≡ cond (ltb (2 * length ws) j) (stores ws (take (pairsAt (slotsOf (length t))) t)) (take (pairsAt (slotsOf (length t))) t)
+    worded-effective j = rw (cut-is j) (cut-effective (length memory) (length bodies) t ws shape t-long idle some-change few names right next j)
+
+  worded-length : (j : ℕ) → length (worded j) ≡ length t
+  worded-length j = length-stores (take j (journal first ws)) t
+
+  stands-some : (k j : ℕ) → 0 < length ws → standing (buffers memory (filled k) (worded j))
+      ≡ some (stateIn (slotsOf (length t)) (cond (ltb (2 * length ws) j) (stores ws (take (pairsAt (slotsOf (length t))) t)) (take (pairsAt (slotsOf (length t))) t)) (filled k))
+  stands-some k j pos =
+      stands-open memory (filled k) (worded j) (rw (same-bytes k) (worded-opens pos j))
+      ∙ rw (worded-length j, worded-effective pos j)
+
+  stands-none : (k j : ℕ) → length ws ≡ 0 → standing (buffers memory (filled k) (worded j)) ≡ some (stateIn (slotsOf (length t)) (take (pairsAt (slotsOf (length t))) t) (filled k))
+  stands-none k j z =
+      let same : worded j ≡ t = rw (journal-none first ws z) (sym (stores-none j t)) in
+      let opens : openCheck (length memory) (length (filled k)) t ≡ 0 = rw (same-bytes k) (store-opens (length memory) (length bodies) t yes) in
+      rw same (stands-open memory (filled k) t opens ∙ rw (store-effective memory bodies t yes))
+
+  module _ (h : ℕ) (after : State) (becomes : stateIn (slotsOf (length t)) (stores ws (take (pairsAt (slotsOf (length t))) t)) (stores bytes bodies) ≡ after) where
+    pub change-standing : (k : ℕ) → standing (buffers memory (filled k) (worded (k - length bytes)))
+        ≡ some (cond (ltb (length bytes + 2 * length ws) k) after (stateOf (buffers memory bodies t)))
+    change-standing k =
+        by-le k (length bytes + 2 * length ws)
+        (λ l.
+        rw (le-ltb (length bytes + 2 * length ws) k l)
+        (by-le (length ws) 0
+        (λ z. stands-none k (k - length bytes) (omega arith) ∙ ap some (old-state k))
+        (λ pos. stands-some k (k - length bytes) pos ∙ rw (le-ltb (2 * length ws) (k - length bytes) (omega arith)) (ap some (old-state k)))))
+        (λ l.
+        let full : filled k ≡ stores bytes bodies = rw (take-all k bytes (omega arith)) in
+        rw (lt-ltb (length bytes + 2 * length ws) k l)
+        (by-le (length ws) 0
+        (λ z.
+        let nil : ws ≡ [] = empty ws (omega arith) in
+        let same : stateIn e (stores ws head) (stores bytes bodies) ≡ stateIn e head (filled k) = rw (nil, full) in
+        stands-none k (k - length bytes) (omega arith) ∙ ap some (sym same ∙ becomes))
+        (λ pos.
+        stands-some k (k - length bytes) pos
+        ∙ rw (lt-ltb (2 * length ws) (k - length bytes) (omega arith), full) (ap some becomes))))
+      where
+        empty : (xs : List Store) → length xs ≡ 0 → xs ≡ []
+        empty [] z = refl
+        empty (x ∷ xs) z = absurd (omega arith)
+
+    -- what is to be seen of the call at budget k is what its effect says
+    pub change-seen : (k : ℕ) → seenOf (outcome (perform (changePlan (pairsAt (slotsOf (length t))) bytes ws) h) k (buffers memory bodies t))
+        ≡ viewed (change (length bytes) (length ws) h after) k (stateOf (buffers memory bodies t)) memory
+    unfolding outcome
+    change-seen k = rw (change-steps first k bytes ws memory bodies t, change-length first bytes ws, change-standing k)
+
+  room : 0 < length ws → pairsAt (slotsOf (length t)) + 2 * length ws ≤ length t
+  room pos = omega (arith, t-long)
+
+  -- ---- what opening finds after a cut
+
+  -- cut in the bytes or in the pairs: opening takes no step and leaves everything as it is, so the call is not made
+  pub change-unmade : (k j : ℕ) → k ≤ length bytes + 2 * length ws
+      → outcome (openCall (buffers memory (filled k) (worded (k - length bytes)))) j (buffers memory (filled k) (worded (k - length bytes)))
+      ≡ leaves (done 0 0) (buffers memory (filled k) (worded (k - length bytes)))
+  change-unmade k j l =
+      let i : ℕ = k - length bytes in
+      by-le (length ws) 0
+      (λ z.
+      let none-left : length ws ≡ 0 = omega arith in
+      let same : worded i ≡ t = rw (journal-none first ws none-left) (sym (stores-none i t)) in
+      sym (open-none memory (filled k) (worded i) j
+      (rw (same, same-bytes k) (store-opens (length memory) (length bodies) t yes)) (ap (λ (x : List ℕ). pending x) same ∙ idle)))
+      (λ pos.
+      let early : i ≤ 2 * length ws = omega arith in
+      sym (open-none memory (filled k) (worded i) j (rw (same-bytes k) (worded-opens pos i))
+      (ap (λ (x : List ℕ). pending x) (cut-is pos i) ∙ law.cut-idle first ws t (pendingAt-below e) (room pos) idle pos names i early)))
+
+  -- cut from word 6 on, with any number of stopped openings after it: opening takes p + 1 steps and leaves, word for word and byte for byte,
+  -- the buffers of the uncut call
+  pub change-reopened : (k j : ℕ) (ks : List ℕ) → 0 < length ws → length bytes + 2 * length ws < k → k ≤ length bytes + (3 * length ws + 1) → Each (λ x. x ≤ length ws) ks → length ws < j
+      → outcome (openCall (buffers memory (filled k) (openings (pairsAt (slotsOf (length t))) ks (worded (k - length bytes))))) j
+      (buffers memory (filled k) (openings (pairsAt (slotsOf (length t))) ks (worded (k - length bytes))))
+      ≡ leaves (done (length ws + 1) 0) (buffers memory (stores bytes bodies) (stores (journal (pairsAt (slotsOf (length t))) ws) t))
+  change-reopened k j ks pos late early stops enough =
+      let i : ℕ = k - length bytes in
+      let after6 : 2 * length ws < i = omega arith in
+      let upto : i ≤ 3 * length ws + 1 = omega arith in
+      let u : List ℕ = openings first ks (worded i) in
+      let full : filled k ≡ stores bytes bodies = rw (take-all k bytes (omega arith)) in
+      let wl : length (worded i) ≡ length t = worded-length i in
+      let ul : length u ≡ length t = law.openings-length first ks (worded i) ∙ wl in
+      let at : pairsAt (slotsOf (length (worded i))) ≡ first = ap (λ (x : ℕ). pairsAt (slotsOf x)) wl in
+      let wlong : length (worded i) ≡ tableWords (slotsOf (length (worded i))) = wl ∙ t-long ∙ ap (λ (x : ℕ). tableWords (slotsOf x)) (sym wl) in
+      let opens : openCheck (length memory) (length (filled k)) u ≡ 0 =
+      rw (same-bytes k) (subst (λ (x : ℕ). openCheck (length memory) (length bodies) (openings x ks (worded i)) ≡ 0) at
+      (openings-open (length memory) (length bodies) ks (worded i) wlong (worded-opens pos i))) in
+      let waiting : pending (worded i) ≡ length ws = ap (λ (x : List ℕ). pending x) (cut-is pos i) ∙ law.cut-pending first ws t (pendingAt-below e) (room pos) idle pos names i after6 upto in
+      let count : length ws ≡ pending u =
+      sym (subst (λ (x : ℕ). pending (openings x ks (worded i)) ≡ length ws) at
+      (openings-pending (length memory) (length bodies) (length ws) ks (worded i) wlong (worded-opens pos i) waiting stops)) in
+      let final : stores (openPlan first u) u ≡ stores (journal first ws) t =
+      ap (λ (x : List ℕ). stores (openPlan first (openings first ks x)) (openings first ks x)) (cut-is pos i)
+      ∙ law.cut-openings-again first ws t (pendingAt-below e) (room pos) idle pos names i ks after6
+      ∙ ap (λ (ps : List Store). stores ps t) (journal-some first ws pos) in
+      let plan : openPlan first u ≡ applyPlan u first (length ws) = open-pending first (length ws) u (sym count) pos in
+      let all : stores (take j (applyPlan u first (length ws))) u ≡ stores (journal first ws) t =
+      ap (λ (ps : List Store). stores ps u) (take-all j (applyPlan u first (length ws)) (rw length-applyPlan (omega arith)))
+      ∙ ap (λ (ps : List Store). stores ps u) (sym plan) ∙ final in
+      sym (ap (λ (b : List ℕ). leaves (done (length ws + 1) 0) (buffers memory b (stores (journal first ws) t))) (sym full)
+      ∙ open-performed memory (filled k) u j (length ws) first (stores (journal first ws) t) (done (length ws + 1) 0) opens count (λ z. omega arith)
+      (ap (λ (x : ℕ). pairsAt (slotsOf x)) (sym ul)) (sym all) (sym (ended-done (length ws + 1) 0 j (omega arith))))

@@ -1,0 +1,137 @@
+-- Create, from its stores to what it means and to what opening finds after every cut of it. Assumes nothing.
+use Prim.Native.Nat.{ℕ, zero, suc, _+_, _-_, _*_, _≤_, _<_}
+use mathlib.Core.Bool.{Bool, true, false, cond}
+use mathlib.Core.List.{List, [], _∷_, map}
+use mathlib.Core.Option.{Option, none, some}
+use mathlib.Core.Path.{_≡_, refl, sym, ap, subst, _∙_}
+use native.Mathlib.Omega.{arith}
+use borrow.Author.Tests.{ltb-true}
+use lib.Dec.{leb, ltb, eqb}
+use lib.ListN.{length, getD, take, length-take}
+use lib.Seq.{getD-take, take-nil}
+use Rattle.words.specs.Layout.{liveAt, nextAt, pairsAt, slotsOf, cellsOf, tableWords, maxLive, handleAt}
+use Rattle.words.specs.Stores.{Store, stores}
+use Rattle.words.specs.Journal.{pending, namesOk, journal, openings}
+use Rattle.words.proofs.Plans.{Each, stores-none}
+use Rattle.table.specs.Entry.{live, nextHandle}
+use Rattle.table.proofs.Rule.{Rule}
+use Rattle.model.specs.State.{State}
+use Rattle.model.specs.Answer.{Report, done, refused, ended, ask, orElse, view}
+use Rattle.model.specs.Calls.{Effect, viewed, change, orRefuse, created, createEffect}
+use Rattle.store.specs.Outcome.{Buffers, buffers, changePlan, Outcome, outcome, leaves, perform, unless}
+use Rattle.store.specs.Checks.{openCheck, storeCheck, createCheck}
+use Rattle.store.specs.State.{stateIn, stateOf, standing}
+use Rattle.store.specs.Calls.{openCall, createWords, createCall}
+use Rattle.store.specs.Means.{orRefused, callMeans, createMeans}
+use Rattle.store.proofs.Checks.{ask-yes, create-store, create-live}
+use Rattle.store.proofs.Outcome.{refuses}
+use Rattle.store.proofs.Means.{seenOf, by-check, t-long, store-rule, store-state, store-standing, live-count, next-is}
+use Rattle.store.proofs.Creating.{create-rule, create-state, create-names}
+use Rattle.store.proofs.Changes.{Spares, change-performed, change-seen, change-unmade, change-reopened}
+
+pub create-words : (t : List ℕ) → length (createWords t) ≡ 3
+unfolding createWords
+create-words t = refl
+
+module _ (memory bodies t : List ℕ) (yes : storeCheck (length memory) (length bodies) t ≡ 0) (few : live t < maxLive) where
+  abbrev first : ℕ
+  first = pairsAt (slotsOf (length t))
+
+  same-live : live (take first t) ≡ live t
+  same-live = getD-take first t liveAt 0 (omega arith)
+
+  same-next : nextHandle (take first t) ≡ nextHandle t
+  same-next = getD-take first t nextAt 0 (omega arith)
+
+  long-head : pairsAt (slotsOf (length t)) ≤ length (take first t)
+  long-head = rw length-take (omega (arith, t-long memory bodies t yes))
+
+  -- the new table is right
+  pub new-rule : Rule (cellsOf (length memory)) (slotsOf (length t)) (cellsOf (length bodies)) (stores (createWords t) (take (pairsAt (slotsOf (length t))) t))
+  unfolding createWords
+  new-rule =
+      rw (same-live, same-next) at (create-rule (cellsOf (length memory)) (slotsOf (length t)) (cellsOf (length bodies)) (take first t) (store-rule memory bodies t yes) long-head (rw same-live few))
+
+  -- and stands for the state with one domain more
+  pub new-state : stateIn (slotsOf (length t)) (stores (createWords t) (take (pairsAt (slotsOf (length t))) t)) bodies ≡ created (stateOf (buffers memory bodies t))
+  unfolding createWords
+  new-state =
+      (rw (same-live, same-next) at (create-state (cellsOf (length memory)) (slotsOf (length t)) (cellsOf (length bodies)) (take first t) (store-rule memory bodies t yes) long-head (rw same-live few) bodies))
+      ∙ ap created (sym (store-state memory bodies t yes))
+
+  new-names : namesOk (pairsAt (slotsOf (length t))) 0 (createWords t) ≡ true
+  unfolding createWords
+  new-names = create-names first (live t) (nextHandle t) few (omega arith)
+
+  create-seen : (k : ℕ) → seenOf (outcome (perform (changePlan first [] (createWords t)) (nextHandle t)) k (buffers memory bodies t))
+      ≡ viewed (change 0 3 (nextHandle t) (created (stateOf (buffers memory bodies t)))) k (stateOf (buffers memory bodies t)) memory
+  unfolding createWords
+  create-seen k = change-seen memory bodies t yes [] (createWords t) tt (omega arith) new-names new-rule (nextHandle t) (created (stateOf (buffers memory bodies t))) new-state k
+
+  -- ---- cuts: 0 to 6 not made, 7 to 10 made by opening in 4 steps
+
+  pub create-unmade : (k j : ℕ) → k ≤ 6
+      → outcome (openCall (buffers memory bodies (stores (take k (journal (pairsAt (slotsOf (length t))) (createWords t))) t))) j
+      (buffers memory bodies (stores (take k (journal (pairsAt (slotsOf (length t))) (createWords t))) t))
+      ≡ leaves (done 0 0) (buffers memory bodies (stores (take k (journal (pairsAt (slotsOf (length t))) (createWords t))) t))
+  unfolding createWords
+  create-unmade k j l =
+      let z : k - 0 ≡ k = omega arith in
+      let nil : take {A = Store} k [] ≡ [] = take-nil k in
+      rw (z, nil) at (change-unmade memory bodies t yes [] (createWords t) tt (omega arith) new-names new-rule k j l)
+
+  pub create-reopened : (k j : ℕ) (ks : List ℕ) → 6 < k → k ≤ 10 → Each (λ x. x ≤ 3) ks → 3 < j
+      → outcome (openCall (buffers memory bodies (openings (pairsAt (slotsOf (length t))) ks (stores (take k (journal (pairsAt (slotsOf (length t))) (createWords t))) t)))) j
+      (buffers memory bodies (openings (pairsAt (slotsOf (length t))) ks (stores (take k (journal (pairsAt (slotsOf (length t))) (createWords t))) t)))
+      ≡ leaves (done 4 0) (buffers memory bodies (stores (journal (pairsAt (slotsOf (length t))) (createWords t)) t))
+  unfolding createWords
+  create-reopened k j ks late early stops enough =
+      let z : k - 0 ≡ k = omega arith in
+      let nil : take {A = Store} k [] ≡ [] = take-nil k in
+      rw (z, nil) at (change-reopened memory bodies t yes [] (createWords t) tt (omega arith) new-names new-rule k j ks (omega arith) late early stops enough)
+
+-- questions 9 and 10, of words and of a state
+abbrev asked : ℕ → ℕ → ℕ
+asked n h = ask (ltb n maxLive) 9 (ask (ltb h 4_294_967_295) 10 0)
+
+abbrev goal : (words-say state-says k : ℕ) → Buffers → Type 0
+goal q r k b =
+    seenOf (outcome (unless q (perform (changePlan (pairsAt (slotsOf (length (b .table)))) [] (createWords (b .table))) (nextHandle (b .table)))) k b)
+    ≡ viewed (orRefuse r (change 0 3 (stateOf b .next) (created (stateOf b)))) k (stateOf b) (b .memory)
+
+pub create-means : (k : ℕ) (b : Buffers) → seenOf (outcome (createCall b) k b) ≡ createMeans k b
+unfolding createCall callMeans createCheck outcome
+create-means k b =
+    by-check (λ q. seenOf (outcome (unless (orElse q (asked (live (b .table)) (nextHandle (b .table))))
+    (perform (changePlan (pairsAt (slotsOf (length (b .table)))) [] (createWords (b .table))) (nextHandle (b .table)))) k b)
+    ≡ orRefused q b (viewed (createEffect (stateOf b)) k (stateOf b) (b .memory)))
+    (storeCheck (length (b .memory)) (length (b .bodies)) (b .table))
+    (λ n e. refl)
+    (λ yes.
+    let count = live-count (b .memory) (b .bodies) (b .table) yes in
+    let next = next-is (b .memory) (b .bodies) (b .table) yes in
+    let stands = store-standing (b .memory) (b .bodies) (b .table) yes in
+    let same : asked (live (b .table)) (nextHandle (b .table)) ≡ asked (length (stateOf b .domains)) (stateOf b .next) = λ i. asked (sym count i) (sym next i) in
+    subst (λ (r : ℕ). goal (asked (live (b .table)) (nextHandle (b .table))) r k b) same
+    (by-check (λ q. goal q q k b) (asked (live (b .table)) (nextHandle (b .table)))
+    (λ n e. ap (λ (s : Option State). view (refused (suc n)) s (b .memory)) stands)
+    (λ e.
+    let few = ask-yes (ltb (live (b .table)) maxLive) 9 (ask (ltb (nextHandle (b .table)) 4_294_967_295) 10 0) (omega arith) e in
+    create-seen (b .memory) (b .bodies) (b .table) yes (ltb-true _ _ few) k
+    ∙ ap (λ (h : ℕ). viewed (change 0 3 h (created (stateOf b))) k (stateOf b) (b .memory)) (sym next))))
+
+-- ---- what the code cites
+
+module _ (m b t : List ℕ) (k : ℕ) where
+  pub create-refused : (q : ℕ) → q ≡ createCheck (length m) (length b) t → (q ≡ 0 → ⊥) → leaves (refused q) (buffers m b t) ≡ outcome (createCall (buffers m b t)) k (buffers m b t)
+  unfolding createCall
+  create-refused q e h = refuses q (createCheck (length m) (length b) t) _ k (buffers m b t) e h
+
+  pub create-performed : (h : ℕ) (t′ : List ℕ) (r : Report) → createCheck (length m) (length b) t ≡ 0 → h ≡ nextHandle t
+      → t′ ≡ stores (take k (journal (pairsAt (slotsOf (length t))) (createWords t))) t → r ≡ ended 11 h k
+      → leaves r (buffers m b t′) ≡ outcome (createCall (buffers m b t)) k (buffers m b t)
+  unfolding createCall createWords
+  create-performed h t′ r yes10 p w q =
+      let z : k - 0 ≡ k = omega arith in
+      let none-stored : b ≡ stores (take k []) b = stores-none k b in
+      rw yes10 (change-performed (pairsAt (slotsOf (length t))) 11 (nextHandle t) k [] (createWords t) m b t b t′ r refl none-stored (rw z w) (q ∙ rw p))
