@@ -2,3 +2,4 @@
 pub mod State
 pub mod Answer
 pub mod Calls
+pub mod Holdings

@@ -4,3 +4,5 @@ pub mod Holders
 pub mod Value
 pub mod Change
 pub mod Free
+pub mod Domain
+pub mod Counts

@@ -3,13 +3,19 @@
 use table::first_word;
 use table::named;
 use words::layout::LIVE_AT;
+use words::layout::handle_at;
+use words::wide;
 ghost use mathlib.Core.Path.{_≡_};
+ghost use mathlib.Core.Bool.{cond};
 ghost use Prim.Native.Nat.{ℕ, _+_, _-_, _*_, _<_, _≤_};
-ghost use lib.ListN.{length, getD};
-ghost use Rattle.words.specs.Layout.{pairsAt, maxSlots, maxLive, maxBodies};
-ghost use Rattle.table.specs.Entry.{live, findIn};
+ghost use lib.ListN.{length, getD, set};
+ghost use lib.Dec.{eqb};
+ghost use Rattle.words.specs.Layout.{pairsAt, handleAt, maxSlots, maxLive, maxBodies, maxCells};
+ghost use Rattle.table.specs.Entry.{live, depthOf, cellOf, findIn};
+ghost use Rattle.table.specs.Marks.{zeros};
 ghost use Rattle.search.specs.Search.{holderIn, sourceIn};
 ghost use Rattle.search.specs.Free.{usedSlots, copies, freeSlotFrom, unmarkedFrom};
+ghost use Rattle.search.specs.Domain.{depthNamed, markOf, markIn};
 
 // The first holder of a cell in a search inwards: its depth and its entry.
 pub enum Holder {
@@ -137,4 +143,57 @@ pub fn next_free_body(used: &[u8], bodies: usize, from: usize) -> usize
         k += 1;
     }
     k
+}
+
+// ---- a domain by its handle, and what it holds
+
+// The depth of the live domain with this handle, or of the innermost for 0; 0 where there is none.
+pub fn find_domain(table: &[u32], handle: u32) -> u32
+    requires { ⌜ (handleAt maxLive ≤ length (now table)) × (live (now table) ≤ maxLive) ⌝ }
+    ensures { λ r. ⌜ r ≡ depthNamed (now (table .entry)) handle ⌝ }
+{
+    let live = table[LIVE_AT];
+    if handle == 0 {
+        return live;
+    }
+    let mut k: u32 = 0;
+    while k < live {
+        if table[handle_at(wide(k))] == handle {
+            return k + 1;
+        }
+        k += 1;
+    }
+    0
+}
+
+// Marks the cell of an entry of this depth: 1, and 1 more for read-write, and 2 more for via parent.
+fn mark_entry(marks: &mut [u8], word: u32, depth: u32)
+    requires { ⌜ length (now marks) ≡ maxCells ⌝ }
+    ensures { λ _. ⌜ now (marks .exit) ≡ cond (eqb (depthOf word) depth) (set (now (marks .entry)) (cellOf word) (markOf word)) (now (marks .entry)) ⌝ }
+{
+    if word / 268435456 != depth {
+        return;
+    }
+    marks[wide(word % 65536)] = (1 + word / 134217728 % 2 + 2 * (word / 67108864 % 2)) as u8;
+}
+
+// Marks each cell that the domain at this depth holds, in one pass over the entries. The pass goes from the last entry to the first,
+// so that the mark left at a cell is that of the entry which `find_entry` finds.
+pub fn mark_held(table: &[u32], slots: usize, depth: u32, marks: &mut [u8])
+    requires { ⌜ (slots ≤ maxSlots) × (pairsAt slots ≤ length (now table)) × (length (now marks) ≡ maxCells) ⌝ }
+    requires { ⌜ ((c : ℕ) → getD (now marks) c 0 ≡ 0) ⌝ }
+    ensures { λ _. ⌜ ((c : ℕ) → c < maxCells → getD (now (marks .exit)) c 0 ≡ markIn slots (now (table .entry)) depth c) ⌝ }
+{
+    let mut i = slots;
+    while 0 < i {
+        i -= 1;
+        mark_entry(marks, first_word(table, slots, i), depth);
+    }
+}
+
+// No cell is marked. A function of its own, so that the checker does not write the list out.
+pub fn no_marks() -> [u8; 65536]
+    ensures { λ r. ⌜ r ≡ zeros 65536 ⌝ }
+{
+    [0u8; 65536]
 }

@@ -11,3 +11,4 @@ pub mod Created
 pub mod Handles
 pub mod Standing
 pub mod Bounds
+pub mod Domains

@@ -5,9 +5,12 @@ use mathlib.Core.List.{List}
 use mathlib.Core.Option.{Option}
 use lib.Dec.{eqb}
 use lib.ListN.{length}
+use Rattle.words.specs.Layout.{cellsOf}
 use Rattle.words.specs.Journal.{pending}
+use Rattle.search.specs.Free.{usedSlots, copies}
 use Rattle.model.specs.State.{State}
 use Rattle.model.specs.Answer.{Report, refused, View, view}
+use Rattle.model.specs.Holdings.{Room}
 use Rattle.model.specs.Calls.{Effect, viewed, makeView, openView, createEffect, Listed, listed, listRefused}
 use Rattle.store.specs.Outcome.{Buffers, report}
 use Rattle.store.specs.Checks.{makeCheck, openCheck, storeCheck}
@@ -53,3 +56,14 @@ orListRefused (ℕ.suc n) l = listRefused (ℕ.suc n)
 
 unfoldable pub listMeans : Buffers → Listed
 listMeans b = orListRefused (storeCheck (length (b .memory)) (length (b .bodies)) (b .table)) (listed (stateOf b))
+
+-- ---- the room that add and advance ask for
+
+abbrev pub roomOf : Buffers → Room
+roomOf b = record {
+  cells = cellsOf (length (b .memory));
+  slots = slots b;
+  bodies = cellsOf (length (b .bodies));
+  used = usedSlots (slots b) (b .table);
+  copies = copies (slots b) (b .table);
+}

@@ -91,7 +91,7 @@ fn open_check(memory: usize, bodies: usize, table: &[u32]) -> u32
 }
 
 // The questions put to every call but make and open.
-fn store_check(memory: usize, bodies: usize, table: &[u32]) -> u32
+pub fn store_check(memory: usize, bodies: usize, table: &[u32]) -> u32
     ensures { λ r. ⌜ r ≡ storeCheck memory bodies (now (table .entry)) ⌝ }
 {
     let no = shape_check(memory, bodies, table);
@@ -122,7 +122,7 @@ fn create_check(memory: usize, bodies: usize, table: &[u32]) -> u32
 }
 
 // The answer of a call that needs so many steps.
-fn answer_of(need: usize, handle: u32, budget: usize) -> Answer
+pub fn answer_of(need: usize, handle: u32, budget: usize) -> Answer
     ensures { λ r. ⌜ report r ≡ ended need handle budget ⌝ }
 {
     if need <= budget {

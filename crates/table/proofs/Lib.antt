@@ -9,3 +9,4 @@ pub mod Parts
 pub mod Pairs
 pub mod Checks
 pub mod Head
+pub mod Entries

@@ -3,3 +3,4 @@ pub mod Entry
 pub mod Checks
 pub mod Rule
 pub mod Marks
+pub mod Changes

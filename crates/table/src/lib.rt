@@ -20,16 +20,19 @@ use words::layout::handle_at;
 use words::layout::pairs_at;
 use words::layout::second_at;
 use words::layout::slots_of;
+use words::remaining;
 use words::wide;
+use words::write_pair;
 ghost use mathlib.Core.Path.{_≡_};
 ghost use mathlib.Core.Bool.{true, false, cond, _&&_};
 ghost use Prim.Native.Nat.{ℕ, _+_, _-_, _*_, _<_, _≤_};
-ghost use lib.ListN.{length, getD};
+ghost use lib.ListN.{length, getD, take};
 ghost use lib.Dec.{ltb, leb, eqb};
 ghost use Rattle.words.specs.Layout.{pairsAt, tableWords, maxSlots, maxBodies, maxCells, maxLive, handleAt};
 ghost use Rattle.words.specs.Scan.{all};
 ghost use Rattle.words.specs.Stores.{stores};
-ghost use Rattle.words.specs.Journal.{nameOk, namesOk, pairs, effective};
+ghost use Rattle.words.specs.Journal.{nameOk, namesOk, pairs, pairPlans, effective};
+ghost use Rattle.table.specs.Changes.{put, entryStores};
 ghost use Rattle.table.specs.Entry.{live, names, word1, word2, viaOf, depthOf};
 ghost use Rattle.table.specs.Checks.{lengthsOk, headerOk};
 ghost use Rattle.table.specs.Rule.{handleOk, headOk, entryOk, pairsOk, ruleOk, tableOk};
@@ -407,4 +410,29 @@ pub fn table_ok(table: &[u32], cells: usize, slots: usize, bodies: usize) -> boo
         return rule_ok(table, cells, slots, bodies);
     }
     pending_ok(table, cells, slots, bodies)
+}
+
+// ---- changes of entries
+
+// Writes the two pairs that give entry i two new words, at index `at`.
+pub fn write_entry(
+    table: &mut [u32],
+    slots: usize,
+    at: usize,
+    i: usize,
+    first: u32,
+    second: u32,
+    budget: usize,
+)
+    requires { ⌜ (i < slots) × (slots ≤ maxSlots) × (at + 3 < length (now table)) ⌝ }
+    ensures { λ _. ⌜ now (table .exit) ≡ stores (take budget (pairPlans at (entryStores slots i (put first second)))) (now (table .entry)) ⌝ }
+{
+    write_pair(table, at, first_at(slots, i) as u32, first, budget);
+    write_pair(
+        table,
+        at + 2,
+        second_at(slots, i) as u32,
+        second,
+        remaining(budget, 2),
+    );
 }

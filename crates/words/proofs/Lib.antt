@@ -9,3 +9,6 @@ pub mod Phases
 pub mod Opening
 pub mod Journal
 pub mod Unread
+pub mod Gather
+pub mod Image
+pub mod Nth

@@ -1,0 +1,64 @@
+-- `edge_cases::stopped::show_runs` meets its contract: the loop counts to the last budget, and the table keeps its length.
+use borrow.Author.Needs.{needs}
+use mathlib.Core.Path.{_≡_}
+use Prim.Native.Nat.{_≤_, _-_}
+use lib.ListN.{length}
+use Rattle.edge_cases.proofs.stopped.show_runs.Statement.{statement}
+use Rattle.edge_cases.proofs.stopped.show_runs.Tie as tie
+
+abbrev Inv-loop : tie.InvT-loop
+Inv-loop call memory bodies start table₀ last run₀ budget₀ table run budget = (budget ≤ last) × (length table ≡ length table₀)
+
+abbrev μ-loop : tie.MeasureT-loop
+μ-loop call memory bodies start table₀ last run₀ budget₀ table run budget = last - budget
+
+try-budget-requires : tie.Need-try-budget-requires Inv-loop μ-loop
+try-budget-requires c κs = search needs
+
+loop-holds : tie.Need-loop-holds Inv-loop μ-loop
+loop-holds c = search needs
+
+add-try-budget : tie.Need-add-try-budget Inv-loop μ-loop
+add-try-budget c = search needs
+
+try-budget-requires-2 : tie.Need-try-budget-requires-2 Inv-loop μ-loop
+try-budget-requires-2 c κs = search needs
+
+next-run-requires : tie.Need-next-run-requires Inv-loop μ-loop
+next-run-requires c κs = search needs
+
+add-budget : tie.Need-add-budget Inv-loop μ-loop
+add-budget c = search needs
+
+loop-less : tie.Need-loop-less Inv-loop μ-loop
+loop-less c = search needs
+
+loop-again : tie.Need-loop-again Inv-loop μ-loop
+loop-again c = search needs
+
+say-run-requires : tie.Need-say-run-requires Inv-loop μ-loop
+say-run-requires c κs = search needs
+
+same-length : tie.Need-same-length Inv-loop μ-loop
+same-length c = search needs
+
+returns : tie.Need-returns Inv-loop μ-loop
+returns c = search needs
+
+pub show-runs-spec : {M : Type 1} → statement M
+show-runs-spec =
+    tie.close
+    (tie.spec
+    Inv-loop
+    μ-loop
+    try-budget-requires
+    loop-holds
+    add-try-budget
+    try-budget-requires-2
+    next-run-requires
+    add-budget
+    loop-less
+    loop-again
+    say-run-requires
+    same-length
+    returns)

@@ -1,0 +1,263 @@
+-- Document 01, "The calls": what add, delete, advance and commit mean for the state and memory, with their questions and step counts.
+use Prim.Native.Nat.{ℕ, zero, suc, _+_, _*_, _-_}
+use mathlib.Core.Bool.{Bool, true, false, cond, not, _&&_, _||_}
+use mathlib.Core.List.{List, [], _∷_}
+use mathlib.Core.Option.{Option, none, some}
+use lib.Dec.{leb, ltb, eqb}
+use lib.ListN.{length, getD}
+use Rattle.words.specs.Scan.{all, count}
+use Rattle.words.specs.Cells.{cellBytes, sameCell}
+use Rattle.model.specs.State.{Label, readOnly, readWrite, Kind, copy, viaParent, Holding, Domain, State}
+use Rattle.model.specs.Answer.{ask}
+use Rattle.model.specs.Calls.{Effect, change, orRefuse}
+
+-- ---- domains and handles
+
+-- the depth of the domain with handle h, 1 at the outermost; 0 where there is none
+abbrev pub deeper : ℕ → ℕ
+deeper zero = zero
+deeper (suc d) = suc (suc d)
+
+abbrev pub depthIn : ℕ → List Domain → ℕ
+depthIn h [] = 0
+depthIn h (d ∷ ds) = cond (eqb (d .handle) h) 1 (deeper (depthIn h ds))
+
+-- "Handle 0 in any later call means the innermost domain"
+abbrev pub named : ℕ → State → ℕ
+named h s = cond (eqb h 0) (length (s .domains)) (depthIn h (s .domains))
+
+-- what the domain at a depth holds of a cell: nothing at depth 0 and past the innermost
+abbrev pub holdingAt : List Domain → ℕ → ℕ → Option Holding
+holdingAt [] d c = none
+holdingAt (x ∷ xs) zero c = none
+holdingAt (x ∷ xs) (suc zero) c = x .holds c
+holdingAt (x ∷ xs) (suc (suc d)) c = holdingAt xs (suc d) c
+
+abbrev pub isHeld : Option Holding → Bool
+isHeld none = false
+isHeld (some h) = true
+
+abbrev pub isWritable : Label → Bool
+isWritable readOnly = false
+isWritable readWrite = true
+
+-- held read-write, held read-only, held via parent
+abbrev pub heldWritable : Option Holding → Bool
+heldWritable none = false
+heldWritable (some h) = isWritable (h .label)
+
+abbrev pub heldReadOnly : Option Holding → Bool
+heldReadOnly o = isHeld o && not (heldWritable o)
+
+abbrev pub isVia : Kind → Bool
+isVia copy = false
+isVia viaParent = true
+
+abbrev pub heldVia : Option Holding → Bool
+heldVia none = false
+heldVia (some h) = isVia (h .kind)
+
+-- the value held, and what there is otherwise
+abbrev pub valueOr : List ℕ → Option Holding → List ℕ
+valueOr v none = v
+valueOr v (some h) = h .value
+
+-- ---- changes of one domain in the list: of the one at a depth, and of the innermost, whose parent is given where it has one
+
+abbrev pub onDepth : ℕ → (Domain → Domain) → List Domain → List Domain
+onDepth d f [] = []
+onDepth zero f (x ∷ xs) = x ∷ xs
+onDepth (suc zero) f (x ∷ xs) = f x ∷ xs
+onDepth (suc (suc d)) f (x ∷ xs) = x ∷ onDepth (suc d) f xs
+
+abbrev pub onInnermost : (Domain → Domain) → List Domain → List Domain
+onInnermost f [] = []
+onInnermost f (x ∷ []) = f x ∷ []
+onInnermost f (x ∷ y ∷ ys) = x ∷ onInnermost f (y ∷ ys)
+
+-- the innermost leaves, and its parent, if any, is changed by what it held
+abbrev pub onCommit : (Domain → Domain → Domain) → List Domain → List Domain
+onCommit f [] = []
+onCommit f (x ∷ []) = []
+onCommit f (x ∷ y ∷ []) = f x y ∷ []
+onCommit f (x ∷ y ∷ z ∷ zs) = x ∷ onCommit f (y ∷ z ∷ zs)
+
+-- the domain with other holdings
+abbrev pub holding : (ℕ → Option Holding) → Domain → Domain
+holding f d = record { handle = d .handle; holds = f }
+
+-- ---- the questions that several calls are put
+
+-- the lengths, and what is in use: live entries, and copies
+pub record Room : Type 0 where
+  pub cells : ℕ
+  pub slots : ℕ
+  pub bodies : ℕ
+  pub used : ℕ
+  pub copies : ℕ
+
+-- 5: "Does the handle name a live domain?"   6: "Is it the innermost?"
+abbrev pub isLive : ℕ → State → Bool
+isLive h s = ltb 0 (named h s)
+
+abbrev pub isInnermost : ℕ → State → Bool
+isInnermost h s = eqb (named h s) (length (s .domains))
+
+-- 8: "Is the count at least 1 and first + count at most m?"
+abbrev pub rangeOk : (m first n : ℕ) → Bool
+rangeOk m first n = leb 1 n && leb (first + n) m
+
+-- is cell c one of first, .., first + n - 1?
+abbrev pub inRange : (first n c : ℕ) → Bool
+inRange first n c = leb first c && ltb c (first + n)
+
+-- ---- add
+
+abbrev pub labelNumbered : ℕ → Label
+labelNumbered l = cond (eqb l 1) readWrite readOnly
+
+abbrev pub kindNumbered : ℕ → Kind
+kindNumbered k = cond (eqb k 1) viaParent copy
+
+-- "becomes read-write if the new label is read-write; it never goes back"
+abbrev pub raised : Label → Label → Label
+raised readOnly old = old
+raised readWrite old = readWrite
+
+-- "A cell not yet held is held with memory's bytes, or via parent. A cell already held keeps its kind and value"
+abbrev pub added : Label → Kind → (value : List ℕ) → Option Holding → Option Holding
+added l k v none = some (record { label = l; kind = k; value = v })
+added l k v (some h) = some (record { label = raised l (h .label); kind = h .kind; value = h .value })
+
+-- the value of a cell newly held: memory's bytes, or what the parent holds
+abbrev pub givenValue : Kind → List ℕ → Option Holding → ℕ → List ℕ
+givenValue copy memory o c = cellBytes memory c
+givenValue viaParent memory o c = valueOr (cellBytes memory c) o
+
+-- s with n cells from `first` on added to its innermost domain
+abbrev pub addTo : List ℕ → (first n : ℕ) → Kind → Label → State → State
+addTo memory first n k l s = record {
+  next = s .next;
+  domains = onInnermost (λ d. holding (λ c. cond (inRange first n c) (added l k (givenValue k memory (holdingAt (s .domains) (length (s .domains) - 1) c) c) (d .holds c)) (d .holds c)) d) (s .domains);
+}
+
+-- cells of the range that are newly held, and those whose label rises
+abbrev pub newlyHeld : (first n : ℕ) → State → ℕ
+newlyHeld first n s = count n (λ j. not (isHeld (holdingAt (s .domains) (length (s .domains)) (first + j))))
+
+abbrev pub relabelled : (first n : ℕ) → Label → State → ℕ
+relabelled first n l s = cond (isWritable l) (count n (λ j. heldReadOnly (holdingAt (s .domains) (length (s .domains)) (first + j)))) 0
+
+-- 11: "Does the next domain out hold every newly held cell?"
+abbrev pub parentHolds : (first n : ℕ) → State → Bool
+parentHolds first n s =
+    all n (λ j. isHeld (holdingAt (s .domains) (length (s .domains)) (first + j)) || isHeld (holdingAt (s .domains) (length (s .domains) - 1) (first + j)))
+
+-- 12: "Does memory equal that domain's value in each of them?"
+abbrev pub parentSame : List ℕ → (first n : ℕ) → State → Bool
+parentSame memory first n s =
+    all n (λ j. isHeld (holdingAt (s .domains) (length (s .domains)) (first + j))
+    || sameCell (valueOr (cellBytes memory (first + j)) (holdingAt (s .domains) (length (s .domains) - 1) (first + j))) (cellBytes memory (first + j)))
+
+-- new bodies: none for via parent
+abbrev pub newBodies : Kind → ℕ → ℕ
+newBodies copy n = n
+newBodies viaParent n = 0
+
+abbrev pub addChecks : Room → List ℕ → (h first n k l : ℕ) → State → ℕ
+addChecks room memory h first n k l s =
+    ask (isLive h s) 5
+    (ask (isInnermost h s) 6
+    (ask (leb k 1 && leb l 1) 7
+    (ask (rangeOk (room .cells) first n) 8
+    (ask (not (isVia (kindNumbered k)) || parentHolds first n s) 11
+    (ask (not (isVia (kindNumbered k)) || parentSame memory first n s) 12
+    (ask (leb (room .used + newlyHeld first n s) (room .slots)) 16
+    (ask (isVia (kindNumbered k) || leb (room .copies + newlyHeld first n s) (room .bodies)) 17 0)))))))
+
+abbrev pub addEffect : Room → List ℕ → (h first n k l : ℕ) → State → Effect
+addEffect room memory h first n k l s =
+    orRefuse (addChecks room memory h first n k l s)
+    (change (64 * newBodies (kindNumbered k) (newlyHeld first n s)) (2 * (newlyHeld first n s + relabelled first n (labelNumbered l) s)) 0
+    (addTo memory first n (kindNumbered k) (labelNumbered l) s))
+
+-- ---- delete: "frees the named cells of the named domain only"
+
+abbrev pub deleteFrom : (d first n : ℕ) → State → State
+deleteFrom d first n s = record {
+  next = s .next;
+  domains = onDepth d (λ x. holding (λ c. cond (inRange first n c) none (x .holds c)) x) (s .domains);
+}
+
+abbrev pub deleteChecks : (m h first n : ℕ) → State → ℕ
+deleteChecks m h first n s =
+    ask (isLive h s) 5
+    (ask (rangeOk m first n) 8
+    (ask (all n (λ j. isHeld (holdingAt (s .domains) (named h s) (first + j)))) 13
+    (ask (all n (λ j. not (heldVia (holdingAt (s .domains) (suc (named h s)) (first + j))))) 14 0)))
+
+abbrev pub deleteEffect : (m h first n : ℕ) → State → Effect
+deleteEffect m h first n s = orRefuse (deleteChecks m h first n s) (change 0 (2 * n) 0 (deleteFrom (named h s) first n s))
+
+-- ---- advance: "gives every read-write cell of the innermost domain memory's bytes, as a copy. Read-only cells keep theirs"
+
+abbrev pub advanced : List ℕ → Option Holding → Option Holding
+advanced bytes none = none
+advanced bytes (some h) = cond (isWritable (h .label)) (some (record { label = readWrite; kind = copy; value = bytes })) (some h)
+
+abbrev pub advance : List ℕ → State → State
+advance memory s = record {
+  next = s .next;
+  domains = onInnermost (λ d. holding (λ c. advanced (cellBytes memory c) (d .holds c)) d) (s .domains);
+}
+
+-- the read-write cells of the innermost domain, of m cells
+abbrev pub writableCells : ℕ → State → ℕ
+writableCells m s = count m (λ c. heldWritable (holdingAt (s .domains) (length (s .domains)) c))
+
+-- 15: "Does the next domain out, if any, hold every read-write cell?"
+abbrev pub parentCovers : ℕ → State → Bool
+parentCovers m s =
+    leb (length (s .domains)) 1
+    || all m (λ c. not (heldWritable (holdingAt (s .domains) (length (s .domains)) c)) || isHeld (holdingAt (s .domains) (length (s .domains) - 1) c))
+
+abbrev pub advanceChecks : Room → (h : ℕ) → State → ℕ
+advanceChecks room h s =
+    ask (isLive h s) 5
+    (ask (isInnermost h s) 6
+    (ask (parentCovers (room .cells) s) 15
+    (ask (leb (room .copies + writableCells (room .cells) s) (room .bodies)) 17 0)))
+
+abbrev pub advanceEffect : Room → List ℕ → (h : ℕ) → State → Effect
+advanceEffect room memory h s =
+    orRefuse (advanceChecks room h s)
+    (change (64 * writableCells (room .cells) s) (2 * writableCells (room .cells) s) 0 (advance memory s))
+
+-- ---- commit
+
+-- "A cell that the next domain out lacks moves there. One that both hold keeps the outer value, and the outer label becomes read-write if
+-- the inner was": outer, then inner
+abbrev pub merged : Option Holding → Option Holding → Option Holding
+merged none i = i
+merged (some o) none = some o
+merged (some o) (some i) = some (record { label = raised (i .label) (o .label); kind = o .kind; value = o .value })
+
+abbrev pub commit : State → State
+commit s = record {
+  next = s .next;
+  domains = onCommit (λ o i. holding (λ c. merged (o .holds c) (i .holds c)) o) (s .domains);
+}
+
+-- the entries that change: those of the innermost domain, which move or are freed, and those of its parent whose label rises
+abbrev pub innerCells : ℕ → State → ℕ
+innerCells m s = count m (λ c. isHeld (holdingAt (s .domains) (length (s .domains)) c))
+
+abbrev pub raisedCells : ℕ → State → ℕ
+raisedCells m s =
+    count m (λ c. heldReadOnly (holdingAt (s .domains) (length (s .domains) - 1) c) && heldWritable (holdingAt (s .domains) (length (s .domains)) c))
+
+abbrev pub commitChecks : (h : ℕ) → State → ℕ
+commitChecks h s = ask (isLive h s) 5 (ask (isInnermost h s) 6 0)
+
+abbrev pub commitEffect : (m h : ℕ) → State → Effect
+commitEffect m h s = orRefuse (commitChecks h s) (change 0 (2 + 2 * (innerCells m s + raisedCells m s)) 0 (commit s))
