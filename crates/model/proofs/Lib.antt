@@ -1,0 +1,10 @@
+-- The laws of the model: demand 3 over abstract states, and that what the calls leave to be seen is what sessions allow.
+pub mod Effects
+pub mod Byte
+pub mod Agree
+pub mod Bytes
+pub mod Invariant
+pub mod Demand
+pub mod Views
+pub mod Idle
+pub mod Samples

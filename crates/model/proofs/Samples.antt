@@ -1,0 +1,146 @@
+-- Small sessions computed: that the history counts at all, that it counts wrong memory, and that such lists are lists of sessions.
+use Prim.Native.Nat.{ℕ}
+use mathlib.Core.List.{List, [], _∷_}
+use mathlib.Core.Path.{_≡_, refl}
+use lib.ListN.{replicate}
+use Rattle.words.specs.Scan.{all, count}
+use Rattle.words.specs.Stores.{Store, _≔_, tab}
+use Rattle.words.specs.Cells.{sameCell}
+use Rattle.model.specs.Answer.{isDone, isStopped, Report, done}
+use Rattle.model.specs.Holdings.{Room}
+use Rattle.model.specs.Restore.{restoredMemory}
+use Rattle.model.specs.History.{create, add, advance, commit, restore, Event, called, opened, written, Observation, observed, begun, counts}
+use Rattle.model.specs.Session.{call, opening, write, World, memoryOf, call-done, call-late, open-finishes, open-stopped, written-to, Session, end, next, afterMake}
+
+-- memory of one cell, filled with one byte; all its places
+abbrev filled : ℕ → List ℕ
+filled v = replicate 64 v
+
+abbrev places : List ℕ
+places = tab 64 (λ x. x)
+
+abbrev does : Event → ℕ → Observation
+does e v = observed e (filled v)
+
+-- domain 1 copies cell 0 = 7 read-write, write 9, restore 1: memory is 7, or was left at 9
+kept : counts begun (does (called create 100 isDone) 7 ∷ does (called (add 1 0 1 0 1) 100 isDone) 7 ∷ does (written places) 9
+    ∷ does (called (restore 1) 100 isDone) 7 ∷ []) ≡ 0 ∷ []
+unfolding count
+kept = refl
+
+lost : counts begun (does (called create 100 isDone) 7 ∷ does (called (add 1 0 1 0 1) 100 isDone) 7 ∷ does (written places) 9
+    ∷ does (called (restore 1) 100 isDone) 9 ∷ []) ≡ 64 ∷ []
+unfolding count
+lost = refl
+
+-- held read-only: the write leaves the cell unprotected, and nothing is asked of it
+unheld : counts begun (does (called create 100 isDone) 7 ∷ does (called (add 1 0 1 0 0) 100 isDone) 7 ∷ does (written places) 9
+    ∷ does (called (restore 1) 100 isDone) 9 ∷ []) ≡ 0 ∷ []
+unfolding count
+unheld = refl
+
+-- the restore of 1 cut late, with 2 inside: counted at the opening that carries it out, though that was cut itself
+late : counts begun (does (called create 100 isDone) 7 ∷ does (called (add 1 0 1 0 1) 100 isDone) 7 ∷ does (written places) 9
+    ∷ does (called create 100 isDone) 9 ∷ does (called (restore 1) 70 isStopped) 7 ∷ does (opened 1 isStopped 1) 7 ∷ does (opened 100 isDone 3) 7
+    ∷ does (called (restore 0) 100 isDone) 7 ∷ []) ≡ 0 ∷ 0 ∷ []
+unfolding count
+late = refl
+
+-- cut early, with memory mixed: 2 is excluded and its own restore not counted, 1 is counted
+early : counts begun (does (called create 100 isDone) 7 ∷ does (called (add 1 0 1 0 1) 100 isDone) 7 ∷ does (written places) 9
+    ∷ does (called create 100 isDone) 9 ∷ does (called (restore 1) 3 isStopped) 8 ∷ does (opened 100 isDone 0) 8
+    ∷ does (called (restore 2) 100 isDone) 8 ∷ does (called (restore 1) 100 isDone) 7 ∷ []) ≡ 0 ∷ []
+unfolding count
+early = refl
+
+-- 1 holds 7 read-only, 2 copies it read-write, write 9, commit, advance 1, write 11, restore 1: 9; a stale 7 is counted
+moved-on : counts begun (does (called create 100 isDone) 7 ∷ does (called (add 1 0 1 0 0) 100 isDone) 7 ∷ does (called create 100 isDone) 7
+    ∷ does (called (add 2 0 1 0 1) 100 isDone) 7 ∷ does (written places) 9 ∷ does (called (commit 2) 100 isDone) 9
+    ∷ does (called (advance 1) 100 isDone) 9 ∷ does (written places) 11 ∷ does (called (restore 1) 100 isDone) 9 ∷ []) ≡ 0 ∷ []
+unfolding count
+moved-on = refl
+
+stale : counts begun (does (called create 100 isDone) 7 ∷ does (called (add 1 0 1 0 0) 100 isDone) 7 ∷ does (called create 100 isDone) 7
+    ∷ does (called (add 2 0 1 0 1) 100 isDone) 7 ∷ does (written places) 9 ∷ does (called (commit 2) 100 isDone) 9
+    ∷ does (called (advance 1) 100 isDone) 9 ∷ does (written places) 11 ∷ does (called (restore 1) 100 isDone) 7 ∷ []) ≡ 64 ∷ []
+unfolding count
+stale = refl
+
+-- ---- sessions: the states and the memory are those that the calls' meanings give
+
+abbrev room : Room
+room = record { cells = 1; slots = 8; bodies = 8; used = 0; copies = 0 }
+
+abbrev fill : ℕ → List Store
+fill v = tab 64 (λ x. x ≔ v)
+
+-- a write has no report
+abbrev none-given : Report
+none-given = done 0 0
+
+-- the first list above is the list of a session from memory filled with 7, and its count is taken
+session-kept : (l : List Observation) × (w : World) × Session 1 (afterMake (filled 7)) l w × (counts begun l ≡ 0 ∷ [])
+unfolding count all sameCell restoredMemory
+session-kept = (
+  _,
+  _,
+  next {i = call create 100} (call-done room refl refl)
+      (next {i = call (add 1 0 1 0 1) 100} (call-done room refl refl)
+      (next {i = write (fill 9)} (written-to {r = none-given})
+      (next {i = call (restore 1) 100} (call-done room refl refl) end))),
+  refl,
+)
+
+-- 1 holds 7 read-only, 2 copies it read-write, write 9, commit, advance 1, write 11, restore 1: 9
+session-moved-on : (l : List Observation) × (w : World) × Session 1 (afterMake (filled 7)) l w × (counts begun l ≡ 0 ∷ []) × (memoryOf w ≡ filled 9)
+unfolding count all sameCell restoredMemory
+session-moved-on = (
+  _,
+  _,
+  next {i = call create 100} (call-done room refl refl)
+      (next {i = call (add 1 0 1 0 0) 100} (call-done room refl refl)
+      (next {i = call create 100} (call-done room refl refl)
+      (next {i = call (add 2 0 1 0 1) 100} (call-done room refl refl)
+      (next {i = write (fill 9)} (written-to {r = none-given})
+      (next {i = call (commit 2) 100} (call-done room refl refl)
+      (next {i = call (advance 1) 200} (call-done room refl refl)
+      (next {i = write (fill 11)} (written-to {r = none-given})
+      (next {i = call (restore 1) 100} (call-done room refl refl) end)))))))),
+  refl,
+  refl,
+)
+
+-- 1 holds 7 read-write, 2 holds it via parent read-write, write 9, add by copy to 2, restore 2: 7
+session-via : (l : List Observation) × (w : World) × Session 1 (afterMake (filled 7)) l w × (counts begun l ≡ 0 ∷ []) × (memoryOf w ≡ filled 7)
+unfolding count all sameCell restoredMemory
+session-via = (
+  _,
+  _,
+  next {i = call create 100} (call-done room refl refl)
+      (next {i = call (add 1 0 1 0 1) 100} (call-done room refl refl)
+      (next {i = call create 100} (call-done room refl refl)
+      (next {i = call (add 2 0 1 1 1) 100} (call-done room refl refl)
+      (next {i = write (fill 9)} (written-to {r = none-given})
+      (next {i = call (add 2 0 1 0 1) 100} (call-done room refl refl)
+      (next {i = call (restore 2) 100} (call-done room refl refl) end)))))),
+  refl,
+  refl,
+)
+
+-- 1 holds 7, write 9, 2 holds 9, restore 1 cut after the bytes and word 6, opening cut too, opening: 7, counted there
+session-late : (l : List Observation) × (w : World) × Session 1 (afterMake (filled 7)) l w × (counts begun l ≡ 0 ∷ []) × (memoryOf w ≡ filled 7)
+unfolding count all sameCell restoredMemory
+session-late = (
+  _,
+  _,
+  next {i = call create 100} (call-done room refl refl)
+      (next {i = call (add 1 0 1 0 1) 100} (call-done room refl refl)
+      (next {i = write (fill 9)} (written-to {r = none-given})
+      (next {i = call create 100} (call-done room refl refl)
+      (next {i = call (add 2 0 1 0 1) 100} (call-done room refl refl)
+      (next {i = call (restore 1) 75} (call-late room refl refl)
+      (next {i = opening 1} open-stopped
+      (next {i = opening 100} (open-finishes {n = 4} {h = 0}) end))))))),
+  refl,
+  refl,
+)
