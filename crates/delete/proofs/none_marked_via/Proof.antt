@@ -1,0 +1,58 @@
+-- `delete::none_marked_via` meets its contract. The loop's invariant: no cell passed has a mark of via parent. Assumes nothing.
+use Prim.Native.Nat.{ℕ, _+_, _-_, _≤_, _<_}
+use mathlib.Core.Bool.{true}
+use mathlib.Core.Path.{_≡_, sym}
+use native.Mathlib.Omega.{arith}
+use borrow.Author.Tests.{lt-ltb, le-ltb}
+use borrow.Author.Needs.{needs}
+use borrow.Author.Count.{below-none, below-more}
+use lib.Dec.{ltb}
+use lib.ListN.{getD}
+use Rattle.words.proofs.Scan.{all-make, all-not}
+use Rattle.delete.proofs.none_marked_via.Statement.{statement}
+use Rattle.delete.proofs.none_marked_via.Tie as tie
+
+abbrev Inv-loop : tie.InvT-loop
+Inv-loop marks first count j₀ j = (j ≤ count) × ((k : ℕ) → k < j → ltb (getD marks (first + k) 0) 3 ≡ true)
+
+abbrev μ-loop : tie.MeasureT-loop
+μ-loop marks first count j₀ j = count - j
+
+loop-holds : tie.Need-loop-holds Inv-loop μ-loop
+loop-holds c = (search needs, below-none _)
+
+add-if1 : tie.Need-add-if1 Inv-loop μ-loop
+add-if1 c = search needs
+
+shared-slice-read-if1 : tie.Need-shared-slice-read-if1 Inv-loop μ-loop
+shared-slice-read-if1 c = search needs
+
+returns : tie.Need-returns Inv-loop μ-loop
+returns c = sym (all-not _ _ _ (c .before .before .loop-test .taken) (le-ltb _ 3 (c .if1 .taken)))
+
+add-j : tie.Need-add-j Inv-loop μ-loop
+add-j c = search needs
+
+loop-less : tie.Need-loop-less Inv-loop μ-loop
+loop-less c = search needs
+
+loop-again : tie.Need-loop-again Inv-loop μ-loop
+loop-again c = (search needs, below-more _ _ (c .before .before .before .loop .inv .1) (lt-ltb _ 3 (c .if1 .left)))
+
+returns-2 : tie.Need-returns-2 Inv-loop μ-loop
+returns-2 c = sym (all-make _ _ (λ k l. c .before .loop .inv .1 k (omega arith)))
+
+pub none-marked-via-spec : {M : Type 1} → statement M
+none-marked-via-spec =
+    tie.close
+    (tie.spec
+    Inv-loop
+    μ-loop
+    loop-holds
+    add-if1
+    shared-slice-read-if1
+    returns
+    add-j
+    loop-less
+    loop-again
+    returns-2)

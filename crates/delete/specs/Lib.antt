@@ -1,0 +1,2 @@
+-- The definitions that the contracts of `delete` cite.
+pub mod Delete
