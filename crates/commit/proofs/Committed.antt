@@ -1,0 +1,240 @@
+-- Commit, from its stores to what it means and to what opening finds after every cut of it. Assumes nothing.
+use Prim.Native.Nat.{ℕ, suc, _+_, _-_, _*_, _≤_, _<_}
+use mathlib.Core.Bool.{true, false}
+use mathlib.Core.List.{List, [], _++_}
+use mathlib.Core.Option.{Option}
+use mathlib.Core.Path.{_≡_, refl, sym, ap, subst, _∙_}
+use native.Mathlib.Nat.{zero-add}
+use native.Mathlib.Omega.{arith}
+use borrow.Author.Tests.{ltb-true, lt-ltb, le-ltb}
+use lib.Dec.{ltb, eqb}
+use lib.ListN.{length, take, length-take, length-append}
+use lib.Seq.{take-nil}
+use Rattle.words.specs.Layout.{liveAt, handleAt, pairsAt, maxPairs, slotsOf, cellsOf, maxLive}
+use Rattle.words.specs.Scan.{count}
+use Rattle.words.specs.Stores.{Store, stores}
+use Rattle.words.specs.Journal.{namesOk, nameOk, journal, journalSteps, openings}
+use Rattle.words.proofs.Scan.{by-bool, count-le}
+use Rattle.words.proofs.Plans.{Each, stores-none}
+use Rattle.words.proofs.Journal.{effective-idle}
+use Rattle.words.proofs.Names.{name-live, name-from}
+use Rattle.table.specs.Entry.{live}
+use Rattle.table.specs.Changes.{isChanged, entryChanges}
+use Rattle.table.proofs.Rule.{Rule}
+use Rattle.table.proofs.Entries.{changes-count, changes-names}
+use Rattle.search.specs.Domain.{depthNamed}
+use Rattle.search.proofs.Domain.{depth-small}
+use Rattle.model.specs.State.{State}
+use Rattle.model.specs.Answer.{Report, done, refused, ended, ask, orElse, view, stepsOf}
+use Rattle.model.specs.Calls.{viewed, change, orRefuse}
+use Rattle.model.specs.Holdings.{named, innerCells, raisedCells, commit, commitChecks, commitEffect}
+use Rattle.store.specs.Outcome.{Buffers, buffers, changePlan, outcome, leaves, perform, unless}
+use Rattle.store.specs.Checks.{storeCheck}
+use Rattle.store.specs.State.{stateIn, stateOf}
+use Rattle.store.specs.Calls.{openCall}
+use Rattle.store.specs.Means.{orRefused, callMeans}
+use Rattle.store.proofs.Checks.{ask-yes, orElse-both, store-idle, store-table, table-rule}
+use Rattle.store.proofs.Outcome.{refuses}
+use Rattle.store.proofs.Domains.{state-named}
+use Rattle.store.proofs.Means.{seenOf, by-check, t-long, store-rule, store-state, store-standing, live-count}
+use Rattle.store.proofs.Changes.{change-performed, change-seen, change-unmade, change-reopened}
+use Rattle.commit.specs.Commit.{commitCheck, commitChange, commitWords, commitCall, commitMeans}
+use Rattle.commit.proofs.Taken.{live-taken, named-taken, changes-taken}
+use Rattle.commit.proofs.Merging.{headWords, commit-rule, commit-state-is}
+use Rattle.commit.proofs.Counting.{changes-are}
+
+-- ---- the words
+
+-- two of the head, and two for each entry that changes
+pub words-count : (t : List ℕ) → length (commitWords t) ≡ 2 + 2 * count (slotsOf (length t)) (λ i. isChanged (commitChange (slotsOf (length t)) t (live t) i))
+unfolding commitWords
+words-count t =
+    length-append (headWords (live t)) (entryChanges (slotsOf (length t)) (commitChange (slotsOf (length t)) t (live t)))
+    ∙ rw (changes-count (slotsOf (length t)) (commitChange (slotsOf (length t)) t (live t)))
+
+pub words-few : (t : List ℕ) → length (commitWords t) ≤ 2 + 2 * slotsOf (length t)
+words-few t =
+    let l = count-le (slotsOf (length t)) (λ i. isChanged (commitChange (slotsOf (length t)) t (live t) i)) in
+    omega (arith, words-count t)
+
+-- pairs may name them
+pub words-names : (t : List ℕ) → 1 ≤ live t → live t ≤ maxLive → namesOk (pairsAt (slotsOf (length t))) 0 (commitWords t) ≡ true
+unfolding commitWords namesOk
+words-names t low high =
+    let first : ℕ = pairsAt (slotsOf (length t)) in
+    let second : nameOk (pairsAt (slotsOf (length t))) (handleAt (live t - 1)) ≡ true = name-from (pairsAt (slotsOf (length t))) (handleAt (live t - 1)) (omega arith) (omega arith) in
+    changes-names (slotsOf (length t)) (commitChange (slotsOf (length t)) t (live t)) (headWords (live t))
+    (rw (name-live (pairsAt (slotsOf (length t))), second, lt-ltb liveAt (handleAt (live t - 1)) (omega arith)))
+    (omega arith, (omega arith, tt))
+
+-- ---- a table that passes questions 1 to 4, with a live domain
+
+module _ (memory bodies t : List ℕ) (yes : storeCheck (length memory) (length bodies) t ≡ 0) where
+  abbrev e : ℕ
+  e = slotsOf (length t)
+
+  abbrev head : List ℕ
+  head = take (pairsAt (slotsOf (length t))) t
+
+  right : Rule (cellsOf (length memory)) (slotsOf (length t)) (cellsOf (length bodies)) head
+  right = store-rule memory bodies t yes
+
+  pub live-small : live t ≤ maxLive
+  live-small = subst (λ (x : ℕ). x ≤ maxLive) (live-taken e t) (right .live)
+
+  -- questions 5 and 6 are the model's
+  pub same-depth : (h : ℕ) → named h (stateOf (buffers memory bodies t)) ≡ depthNamed t h
+  same-depth h = ap (named h) (store-state memory bodies t yes) ∙ state-named e head bodies h ∙ named-taken e t h live-small
+
+  pub same-checks : (h : ℕ) → ask (ltb 0 (depthNamed t h)) 5 (ask (eqb (depthNamed t h) (live t)) 6 0) ≡ commitChecks h (stateOf (buffers memory bodies t))
+  same-checks h = rw (same-depth h, live-count memory bodies t yes)
+
+  module _ (some-live : 1 ≤ live t) where
+    long-head : pairsAt (slotsOf (length t)) ≤ length head
+    long-head = rw length-take (omega (arith, t-long memory bodies t yes))
+
+    head-live : 1 ≤ live head
+    head-live = rw (live-taken e t) some-live
+
+    same-words : headWords (live head) ++ entryChanges e (commitChange e head (live head)) ≡ commitWords t
+    unfolding commitWords
+    same-words = rw (live-taken e t, changes-taken e t (live t))
+
+    -- the new table is right
+    pub new-rule : Rule (cellsOf (length memory)) (slotsOf (length t)) (cellsOf (length bodies)) (stores (commitWords t) (take (pairsAt (slotsOf (length t))) t))
+    new-rule =
+        subst (λ (ws : List Store). Rule (cellsOf (length memory)) e (cellsOf (length bodies)) (stores ws head)) same-words
+        (commit-rule (cellsOf (length memory)) e (cellsOf (length bodies)) head right long-head head-live)
+
+    -- and stands for the state without the innermost domain
+    pub new-state : stateIn (slotsOf (length t)) (stores (commitWords t) (take (pairsAt (slotsOf (length t))) t)) bodies ≡ commit (stateOf (buffers memory bodies t))
+    new-state =
+        ap (λ (ws : List Store). stateIn e (stores ws head) bodies) (sym same-words)
+        ∙ commit-state-is (cellsOf (length memory)) e (cellsOf (length bodies)) head right long-head head-live bodies
+        ∙ ap commit (sym (store-state memory bodies t yes))
+
+    -- as many words as the model says
+    pub new-count : length (commitWords t)
+        ≡ 2 + 2 * (innerCells (cellsOf (length memory)) (stateOf (buffers memory bodies t)) + raisedCells (cellsOf (length memory)) (stateOf (buffers memory bodies t)))
+    new-count =
+        ap length (sym same-words)
+        ∙ length-append (headWords (live head)) (entryChanges e (commitChange e head (live head)))
+        ∙ rw (changes-count e (commitChange e head (live head)), changes-are (cellsOf (length memory)) e (cellsOf (length bodies)) head right head-live bodies, store-state memory bodies t yes)
+
+    -- at most 70E + 32 steps
+    pub commit-bound :
+        stepsOf 0 (2 + 2 * (innerCells (cellsOf (length memory)) (stateOf (buffers memory bodies t)) + raisedCells (cellsOf (length memory)) (stateOf (buffers memory bodies t))))
+        ≤ 70 * slotsOf (length t) + 32
+    commit-bound = rw (← new-count) (few (length (commitWords t)) e (words-few t))
+      where
+        few : (p e : ℕ) → p ≤ 2 + 2 * e → stepsOf 0 p ≤ 70 * e + 32
+        few p e l = by-bool (eqb p 0) (λ z. rw z (omega arith)) (λ z. rw z (omega arith))
+
+    room : length (commitWords t) ≤ maxPairs (slotsOf (length t))
+    room = omega (arith, words-few t)
+
+    names : namesOk (pairsAt (slotsOf (length t))) 0 (commitWords t) ≡ true
+    names = words-names t some-live live-small
+
+    commit-seen : (k : ℕ) → seenOf (outcome (perform (changePlan (pairsAt (slotsOf (length t))) [] (commitWords t)) 0) k (buffers memory bodies t))
+        ≡ viewed (change 0 (2 + 2 * (innerCells (cellsOf (length memory)) (stateOf (buffers memory bodies t)) + raisedCells (cellsOf (length memory)) (stateOf (buffers memory bodies t)))) 0
+        (commit (stateOf (buffers memory bodies t)))) k (stateOf (buffers memory bodies t)) memory
+    commit-seen k =
+        change-seen memory bodies t yes [] (commitWords t) tt room names new-rule 0 (commit (stateOf (buffers memory bodies t))) new-state k
+        ∙ ap (λ (p : ℕ). viewed (change 0 p 0 (commit (stateOf (buffers memory bodies t)))) k (stateOf (buffers memory bodies t)) memory) new-count
+
+    -- ---- cuts: with p words, 0 to 2p not made, 2p + 1 to 3p + 1 made by opening in p + 1 steps
+
+    pub commit-unmade : (k j : ℕ) → k ≤ 2 * length (commitWords t)
+        → outcome (openCall (buffers memory bodies (stores (take k (journal (pairsAt (slotsOf (length t))) (commitWords t))) t))) j
+        (buffers memory bodies (stores (take k (journal (pairsAt (slotsOf (length t))) (commitWords t))) t))
+        ≡ leaves (done 0 0) (buffers memory bodies (stores (take k (journal (pairsAt (slotsOf (length t))) (commitWords t))) t))
+    commit-unmade k j l =
+        let z : k - 0 ≡ k = omega arith in
+        let nil : take {A = Store} k [] ≡ [] = take-nil k in
+        rw (z, nil) at (change-unmade memory bodies t yes [] (commitWords t) tt room names new-rule k j (omega arith))
+
+    pub commit-reopened : (k j : ℕ) (ks : List ℕ) → 2 * length (commitWords t) < k → k ≤ 3 * length (commitWords t) + 1
+        → Each (λ x. x ≤ length (commitWords t)) ks → length (commitWords t) < j
+        → outcome (openCall (buffers memory bodies (openings (pairsAt (slotsOf (length t))) ks (stores (take k (journal (pairsAt (slotsOf (length t))) (commitWords t))) t)))) j
+        (buffers memory bodies (openings (pairsAt (slotsOf (length t))) ks (stores (take k (journal (pairsAt (slotsOf (length t))) (commitWords t))) t)))
+        ≡ leaves (done (length (commitWords t) + 1) 0) (buffers memory bodies (stores (journal (pairsAt (slotsOf (length t))) (commitWords t)) t))
+    commit-reopened k j ks late early stops enough =
+        let z : k - 0 ≡ k = omega arith in
+        let nil : take {A = Store} k [] ≡ [] = take-nil k in
+        rw (z, nil) at (change-reopened memory bodies t yes [] (commitWords t) tt room names new-rule k j ks (omega (arith, words-count t)) (omega arith) (omega arith) stops enough)
+
+-- ---- the call
+
+-- questions 5 and 6, of words
+abbrev asked : List ℕ → ℕ → ℕ
+asked t h = ask (ltb 0 (depthNamed t h)) 5 (ask (eqb (depthNamed t h) (live t)) 6 0)
+
+-- answered by yes, there is a live domain
+asked-live : (t : List ℕ) (h : ℕ) → asked t h ≡ 0 → 1 ≤ live t
+asked-live t h q =
+    let s = ltb-true 0 (depthNamed t h) (ask-yes (ltb 0 (depthNamed t h)) 5 (ask (eqb (depthNamed t h) (live t)) 6 0) (omega arith) q) in
+    omega (arith, depth-small t h)
+
+abbrev goal : (words-say state-says k : ℕ) → Buffers → Type 0
+goal q r k b =
+    seenOf (outcome (unless q (perform (changePlan (pairsAt (slotsOf (length (b .table)))) [] (commitWords (b .table))) 0)) k b)
+    ≡ viewed (orRefuse r (change 0 (2 + 2 * (innerCells (cellsOf (length (b .memory))) (stateOf b) + raisedCells (cellsOf (length (b .memory))) (stateOf b))) 0 (commit (stateOf b)))) k (stateOf b) (b .memory)
+
+pub commit-means : (h k : ℕ) (b : Buffers) → seenOf (outcome (commitCall h b) k b) ≡ commitMeans h k b
+unfolding commitCall callMeans commitCheck outcome
+commit-means h k b =
+    by-check (λ q. seenOf (outcome (unless (orElse q (asked (b .table) h)) (perform (changePlan (pairsAt (slotsOf (length (b .table)))) [] (commitWords (b .table))) 0)) k b)
+    ≡ orRefused q b (viewed (commitEffect (cellsOf (length (b .memory))) h (stateOf b)) k (stateOf b) (b .memory)))
+    (storeCheck (length (b .memory)) (length (b .bodies)) (b .table))
+    (λ n e. refl)
+    (λ yes.
+    let stands = store-standing (b .memory) (b .bodies) (b .table) yes in
+    subst (λ (r : ℕ). goal (asked (b .table) h) r k b) (same-checks (b .memory) (b .bodies) (b .table) yes h)
+    (by-check (λ q. goal q q k b) (asked (b .table) h)
+    (λ n e. ap (λ (s : Option State). view (refused (suc n)) s (b .memory)) stands)
+    (λ e. commit-seen (b .memory) (b .bodies) (b .table) yes (asked-live (b .table) h e) k)))
+
+-- ---- what the code cites
+
+module _ (memory bodies : ℕ) (t : List ℕ) (h : ℕ) (passed : commitCheck memory bodies t h ≡ 0) where
+  pub commit-store : storeCheck memory bodies t ≡ 0
+  unfolding commitCheck
+  commit-store = orElse-both (storeCheck memory bodies t) (asked t h) passed .0
+
+  pub commit-live : 1 ≤ live t
+  unfolding commitCheck
+  commit-live = asked-live t h (orElse-both (storeCheck memory bodies t) (asked t h) passed .1)
+
+module _ (m b t : List ℕ) (h k : ℕ) where
+  pub commit-refused : (q : ℕ) → q ≡ commitCheck (length m) (length b) t h → (q ≡ 0 → ⊥) → leaves (refused q) (buffers m b t) ≡ outcome (commitCall h (buffers m b t)) k (buffers m b t)
+  unfolding commitCall
+  commit-refused q e n = refuses q (commitCheck (length m) (length b) t h) _ k (buffers m b t) e n
+
+  pub commit-performed : (need : ℕ) (t′ : List ℕ) (r : Report) → commitCheck (length m) (length b) t h ≡ 0
+      → need ≡ stepsOf 0 (length (commitWords t)) → t′ ≡ stores (take k (journal (pairsAt (slotsOf (length t))) (commitWords t))) t → r ≡ ended need 0 k
+      → leaves r (buffers m b t′) ≡ outcome (commitCall h (buffers m b t)) k (buffers m b t)
+  unfolding commitCall
+  commit-performed need t′ r passed n w q =
+      let z : k - 0 ≡ k = omega arith in
+      let none-stored : b ≡ stores (take k []) b = stores-none k b in
+      rw passed (change-performed (pairsAt (slotsOf (length t))) need 0 k [] (commitWords t) m b t b t′ r n none-stored (rw z w) q)
+
+-- the steps that `finish_journal` gives
+pub journal-need : (p : ℕ) → journalSteps p ≡ stepsOf 0 p
+unfolding journalSteps
+journal-need p = sym (zero-add _)
+
+-- a table that passes questions 1 to 4 has at most eight live domains
+pub live-within : (memory bodies : ℕ) (t : List ℕ) → storeCheck memory bodies t ≡ 0 → live t ≤ maxLive
+live-within memory bodies t passed =
+    let rule = table-rule memory bodies t (store-table memory bodies t passed) in
+    let same = effective-idle (pairsAt (slotsOf (length t))) t (store-idle memory bodies t passed) in
+    subst (λ (x : ℕ). x ≤ maxLive) (live-taken (slotsOf (length t)) t) (subst (λ (l : List ℕ). live l ≤ maxLive) same (rule .live))
+
+-- question 5, by a depth that was found
+pub none-named : (r d : ℕ) → r ≡ d → r ≡ 0 → ltb 0 d ≡ false
+none-named r d p q = le-ltb 0 d (omega arith)
+
+pub some-named : (r d : ℕ) → r ≡ d → (r ≡ 0 → ⊥) → ltb 0 d ≡ true
+some-named r d p q = lt-ltb 0 d (omega (arith, q))

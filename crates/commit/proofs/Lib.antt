@@ -1,0 +1,7 @@
+-- The laws of `commit`.
+pub mod Deciding
+pub mod Merging
+pub mod Counting
+pub mod Taken
+pub mod Committed
+pub mod Writing

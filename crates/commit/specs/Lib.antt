@@ -1,0 +1,3 @@
+-- The definitions that the contracts of `commit` cite.
+pub mod Commit
+pub mod Decide
