@@ -1,0 +1,344 @@
+-- Advance, from its stores to what it means and to what opening finds after every cut of it. The laws on stores hold for any choice of
+-- different free bodies; the call takes the lowest ones. Assumes nothing.
+use Prim.Native.Nat.{ℕ, suc, _+_, _-_, _*_, _≤_, _<_}
+use mathlib.Core.Bool.{true, not, _||_}
+use mathlib.Core.List.{List, [], _∷_}
+use mathlib.Core.Option.{Option}
+use mathlib.Core.Path.{_≡_, refl, sym, ap, subst, _∙_}
+use native.Mathlib.Omega.{arith}
+use borrow.Author.Tests.{eq-eqb, ne-eqb, ltb-true, leb-true, leb-false}
+use lib.Dec.{leb, ltb, eqb}
+use lib.ListN.{length, take}
+use Rattle.words.specs.Layout.{cellsOf, slotsOf, pairsAt}
+use Rattle.words.specs.Scan.{all, count}
+use Rattle.words.specs.Stores.{Store, stores, gather}
+use Rattle.words.specs.Journal.{namesOk, journal, journalSteps, openings}
+use Rattle.words.proofs.Scan.{by-bool, by-le, all-ext, count-ext, count-le}
+use Rattle.words.proofs.Plans.{Each}
+use Rattle.words.proofs.Names.{names-make, names-below}
+use Rattle.words.proofs.Places.{pendingAt-below}
+use Rattle.table.specs.Entry.{live, word2, parent, holdsIn}
+use Rattle.table.specs.Changes.{isChanged, entryChanges}
+use Rattle.table.proofs.Rule.{Rule}
+use Rattle.table.proofs.Entries.{changes-count, changes-names}
+use Rattle.search.specs.Domain.{depthNamed}
+use Rattle.search.specs.Free.{copies}
+use Rattle.search.proofs.Domain.{depth-small}
+use Rattle.search.proofs.Value.{Copy}
+use Rattle.model.specs.State.{State}
+use Rattle.model.specs.Answer.{Report, done, refused, ended, ask, orElse, view, stepsOf}
+use Rattle.model.specs.Calls.{viewed, change, orRefuse}
+use Rattle.model.specs.Holdings.{named, holdingAt, isHeld, heldWritable, advance, writableCells, parentCovers, advanceChecks, advanceEffect}
+use Rattle.store.specs.Outcome.{Buffers, buffers, changePlan, outcome, leaves, perform, unless}
+use Rattle.store.specs.Checks.{storeCheck}
+use Rattle.store.specs.State.{stateIn, stateOf}
+use Rattle.store.specs.Calls.{openCall}
+use Rattle.store.specs.Means.{orRefused, callMeans, roomOf}
+use Rattle.store.proofs.Checks.{ask-yes, ask-stop, ask-rest, orElse-both, shape-facts, store-shape}
+use Rattle.store.proofs.Outcome.{refuses}
+use Rattle.store.proofs.Domains.{state-named, state-holding, domains-count, held-holds, held-writable}
+use Rattle.store.proofs.Means.{seenOf, by-check, t-long, store-standing}
+use Rattle.store.proofs.Changes.{Spares, change-performed, change-seen, change-unmade, change-reopened}
+use Rattle.advance.specs.Advance.{advances, advanceCheck, bodyFor, advanceChange, advanceWords, advanceBytes, advanceCall, advanceMeans}
+use Rattle.advance.specs.Notes.{cellsCheck}
+use Rattle.advance.proofs.Raw.{raw-rule, raw-state, raw-next, raw-after, front-copy, front-second}
+use Rattle.advance.proofs.Copying.{Outside, plan, cell-kept, copies-length, copies-outside, copies-stored}
+use Rattle.advance.proofs.Turning.{changeWith, Choice, advances-cell, words-count, turned-rule, turned-state}
+use Rattle.advance.proofs.Choosing.{chosen}
+
+-- stores that keep out of every body in use spare them
+each-spares : (e : ℕ) (t : List ℕ) (ps : List Store) → ((i : ℕ) → Copy e t i → Each (Outside (word2 e t i)) ps) → Each (Spares e t) ps
+each-spares e t [] h = tt
+each-spares e t (p ∷ ps) h = ((λ i c. h i c .0), each-spares e t ps (λ i c. h i c .1))
+
+-- ---- for any choice of bodies
+
+module _ (memory bodies t : List ℕ) (yes : storeCheck (length memory) (length bodies) t ≡ 0) (low : 1 ≤ live t) (body : ℕ → ℕ)
+    (choice : Choice (slotsOf (length t)) (cellsOf (length bodies)) t body) where
+  abbrev m : ℕ
+  m = cellsOf (length memory)
+
+  abbrev b : ℕ
+  b = cellsOf (length bodies)
+
+  abbrev e : ℕ
+  e = slotsOf (length t)
+
+  abbrev head : List ℕ
+  head = take (pairsAt (slotsOf (length t))) t
+
+  abbrev pub bytesWith : List Store
+  bytesWith = gather (cellsOf (length memory)) (plan memory (advances (slotsOf (length t)) t) body)
+
+  abbrev pub wordsWith : List Store
+  wordsWith = entryChanges (slotsOf (length t)) (changeWith (slotsOf (length t)) t body)
+
+  ok : Rule m e b t
+  ok = raw-rule memory bodies t yes
+
+  long : pairsAt e ≤ length t
+  long = omega (arith, t-long memory bodies t yes)
+
+  -- the bytes keep out of the bodies in use
+  outside : (i : ℕ) → Copy e t i → Each (Outside (word2 e t i)) bytesWith
+  outside i c =
+      copies-outside memory (advances e t) body m (word2 e t i)
+      (λ k l goes q. choice .free k goes i (c .slot) (c .used, c .copy) q)
+
+  pub with-spares : Each (Spares (slotsOf (length t)) (take (pairsAt (slotsOf (length t))) t)) bytesWith
+  with-spares =
+      each-spares e head bytesWith (λ i c.
+      let old = front-copy e t i c in
+      subst (λ (k : ℕ). Each (Outside k) bytesWith) (sym (front-second e t i (c .slot))) (outside i old))
+
+  pub with-bytes : length bytesWith ≡ 64 * count (cellsOf (length memory)) (advances (slotsOf (length t)) t)
+  with-bytes = copies-length memory (advances e t) body m
+
+  pub with-words : length wordsWith ≡ 2 * count (cellsOf (length memory)) (advances (slotsOf (length t)) t)
+  with-words = words-count m e b t ok body low
+
+  with-few : length wordsWith ≤ 2 * e
+  with-few = omega (arith, changes-count e (changeWith e t body), count-le e (λ i. isChanged (changeWith e t body i)))
+
+  pub with-names : namesOk (pairsAt (slotsOf (length t))) 0 wordsWith ≡ true
+  with-names = changes-names e (changeWith e t body) [] (names-make (pairsAt e) 0 [] tt tt tt) tt
+
+  below : Each (λ s. s .at < pairsAt (slotsOf (length t))) wordsWith
+  below = names-below (pairsAt e) 0 wordsWith (pendingAt-below e) with-names
+
+  -- the new table is right
+  pub with-rule : Rule (cellsOf (length memory)) (slotsOf (length t)) (cellsOf (length bodies)) (stores wordsWith (take (pairsAt (slotsOf (length t))) t))
+  with-rule = raw-next memory bodies t yes wordsWith below (turned-rule m e b t ok long body choice)
+
+  -- and stands for the model's state
+  pub with-state : stateIn (slotsOf (length t)) (stores wordsWith (take (pairsAt (slotsOf (length t))) t)) (stores bytesWith bodies) ≡ advance memory (stateOf (buffers memory bodies t))
+  with-state =
+      let f = shape-facts (length memory) (length bodies) t (store-shape (length memory) (length bodies) t yes) in
+      raw-after memory bodies t yes wordsWith below (turned-rule m e b t ok long body choice) (stores bytesWith bodies)
+      ∙ turned-state m e b t ok long body choice memory bodies (stores bytesWith bodies)
+      (λ i c. cell-kept bytesWith bodies (word2 e t i) (outside i c))
+      (λ c goes.
+      let small : c < m = advances-cell m e b t ok c goes in
+      let fits : body c < b = choice .below c goes in
+      copies-stored memory (advances e t) body m c bodies small goes (omega arith) (omega arith) (λ k l other q. choice .own c k goes other q))
+      ∙ ap (advance memory) (sym (raw-state memory bodies t yes))
+
+  pub with-seen : (k : ℕ) → seenOf (outcome (perform (changePlan (pairsAt (slotsOf (length t))) bytesWith wordsWith) 0) k (buffers memory bodies t))
+      ≡ viewed (change (64 * count (cellsOf (length memory)) (advances (slotsOf (length t)) t)) (2 * count (cellsOf (length memory)) (advances (slotsOf (length t)) t)) 0
+      (advance memory (stateOf (buffers memory bodies t)))) k (stateOf (buffers memory bodies t)) memory
+  with-seen k =
+      change-seen memory bodies t yes bytesWith wordsWith with-spares (omega (arith, with-few)) with-names with-rule 0 (advance memory (stateOf (buffers memory bodies t))) with-state k
+      ∙ (λ i. viewed (change (with-bytes i) (with-words i) 0 (advance memory (stateOf (buffers memory bodies t)))) k (stateOf (buffers memory bodies t)) memory)
+
+  -- ---- cuts
+
+  -- cut in the bytes or in the pairs: opening takes no step, and everything is as before the call but for bytes of free bodies and spare pairs
+  pub with-unmade : (k j : ℕ) → k ≤ length bytesWith + 2 * length wordsWith
+      → outcome (openCall (buffers memory (stores (take k bytesWith) bodies) (stores (take (k - length bytesWith) (journal (pairsAt (slotsOf (length t))) wordsWith)) t))) j
+      (buffers memory (stores (take k bytesWith) bodies) (stores (take (k - length bytesWith) (journal (pairsAt (slotsOf (length t))) wordsWith)) t))
+      ≡ leaves (done 0 0) (buffers memory (stores (take k bytesWith) bodies) (stores (take (k - length bytesWith) (journal (pairsAt (slotsOf (length t))) wordsWith)) t))
+  with-unmade = change-unmade memory bodies t yes bytesWith wordsWith with-spares (omega (arith, with-few)) with-names with-rule
+
+  -- cut from word 6 on, with any number of stopped openings after it: opening gives the buffers of the uncut call
+  pub with-reopened : (k j : ℕ) (ks : List ℕ) → 0 < length wordsWith → length bytesWith + 2 * length wordsWith < k → k ≤ length bytesWith + (3 * length wordsWith + 1)
+      → Each (λ x. x ≤ length wordsWith) ks → length wordsWith < j
+      → outcome (openCall (buffers memory (stores (take k bytesWith) bodies) (openings (pairsAt (slotsOf (length t))) ks (stores (take (k - length bytesWith) (journal (pairsAt (slotsOf (length t))) wordsWith)) t)))) j
+      (buffers memory (stores (take k bytesWith) bodies) (openings (pairsAt (slotsOf (length t))) ks (stores (take (k - length bytesWith) (journal (pairsAt (slotsOf (length t))) wordsWith)) t)))
+      ≡ leaves (done (length wordsWith + 1) 0) (buffers memory (stores bytesWith bodies) (stores (journal (pairsAt (slotsOf (length t))) wordsWith) t))
+  with-reopened = change-reopened memory bodies t yes bytesWith wordsWith with-spares (omega (arith, with-few)) with-names with-rule
+
+  -- "every other call at most 70E + 32"
+  pub with-bound : stepsOf (length bytesWith) (length wordsWith) ≤ 70 * slotsOf (length t) + 32
+  with-bound =
+      let x = with-bytes in
+      let y = with-words in
+      let z = with-few in
+      by-le (length wordsWith) 0
+      (λ l. let q : length wordsWith ≡ 0 = omega arith in rw (eq-eqb (length wordsWith) 0 q) (omega arith))
+      (λ l. rw (ne-eqb (length wordsWith) 0 (λ q. omega arith)) (omega arith))
+
+-- ---- the questions, of words and of a state
+
+-- questions 5, 6, 15 and 17
+abbrev pub asked : (memory bodies : ℕ) → List ℕ → ℕ → ℕ
+asked memory bodies t h =
+    ask (ltb 0 (depthNamed t h)) 5 (ask (eqb (depthNamed t h) (live t)) 6 (cellsCheck (cellsOf memory) (slotsOf (length t)) (cellsOf bodies) t))
+
+pub check-is : (memory bodies : ℕ) (t : List ℕ) (h : ℕ) → advanceCheck memory bodies t h ≡ orElse (storeCheck memory bodies t) (asked memory bodies t h)
+unfolding advanceCheck
+check-is memory bodies t h = refl
+
+module _ (e : ℕ) (t bodies : List ℕ) (low : 1 ≤ live t) where
+  abbrev s : State
+  s = stateIn e t bodies
+
+  writable-same : (c : ℕ) → heldWritable (holdingAt (s .domains) (length (s .domains)) c) ≡ advances e t c
+  writable-same c =
+      ap (λ (n : ℕ). heldWritable (holdingAt (s .domains) n c)) (domains-count e t bodies)
+      ∙ ap heldWritable (state-holding e t bodies (live t) c low (omega arith))
+      ∙ held-writable e t bodies (live t) c
+
+  cells-same : (m : ℕ) → writableCells m s ≡ count m (advances e t)
+  cells-same m =
+      count-ext m (λ c. heldWritable (holdingAt (s .domains) (length (s .domains)) c)) (advances e t) (λ c l. writable-same c)
+
+  outer-same : (c : ℕ) → 1 < live t → isHeld (holdingAt (s .domains) (length (s .domains) - 1) c) ≡ holdsIn e t (parent (live t)) c
+  outer-same c two =
+      ap (λ (n : ℕ). isHeld (holdingAt (s .domains) (n - 1) c)) (domains-count e t bodies)
+      ∙ ap isHeld (state-holding e t bodies (live t - 1) c (omega arith) (omega arith))
+      ∙ held-holds e t bodies (live t - 1) c
+
+  covers-same : (m : ℕ) → parentCovers m s ≡ (leb (live t) 1 || all m (λ c. not (advances e t c) || holdsIn e t (parent (live t)) c))
+  covers-same m =
+      ap (λ (n : ℕ). leb n 1 || all m (λ c. not (heldWritable (holdingAt (s .domains) (length (s .domains)) c)) || isHeld (holdingAt (s .domains) (length (s .domains) - 1) c))) (domains-count e t bodies)
+      ∙ by-bool (leb (live t) 1)
+      (λ z. rw z)
+      (λ z.
+      let two = leb-false (live t) 1 z in
+      rw z
+      (all-ext m (λ c. not (heldWritable (holdingAt (s .domains) (length (s .domains)) c)) || isHeld (holdingAt (s .domains) (length (s .domains) - 1) c))
+      (λ c. not (advances e t c) || holdsIn e t (parent (live t)) c)
+      (λ c l. λ i. not (writable-same c i) || outer-same c two i)))
+
+checks-raw : (memory bodies t : List ℕ) (h : ℕ) → advanceChecks (roomOf (buffers memory bodies t)) h (stateIn (slotsOf (length t)) t bodies) ≡ asked (length memory) (length bodies) t h
+checks-raw memory bodies t h =
+    let e : ℕ = slotsOf (length t) in
+    let name : named h (stateIn e t bodies) ≡ depthNamed t h = state-named e t bodies h in
+    by-bool (ltb 0 (depthNamed t h))
+    (λ z.
+    let small = depth-small t h in
+    let some-depth = ltb-true 0 (depthNamed t h) z in
+    let low : 1 ≤ live t = omega arith in
+    (λ i. ask (ltb 0 (name i)) 5 (ask (eqb (name i) (domains-count e t bodies i)) 6
+    (ask (covers-same e t bodies low (cellsOf (length memory)) i) 15
+    (ask (leb (copies e t + cells-same e t bodies low (cellsOf (length memory)) i) (cellsOf (length bodies))) 17 0)))))
+    (λ z.
+    ask-stop _ 5 _ (ap (ltb 0) name ∙ z) ∙ sym (ask-stop _ 5 _ z))
+
+-- ---- what passed questions tell
+
+module _ (memory bodies : ℕ) (t : List ℕ) (h : ℕ) (pass : advanceCheck memory bodies t h ≡ 0) where
+  both : (storeCheck memory bodies t ≡ 0) × (asked memory bodies t h ≡ 0)
+  both = orElse-both (storeCheck memory bodies t) (asked memory bodies t h) (sym (check-is memory bodies t h) ∙ pass)
+
+  pub advance-store : storeCheck memory bodies t ≡ 0
+  advance-store = both .0
+
+  rest6 : ask (eqb (depthNamed t h) (live t)) 6 (cellsCheck (cellsOf memory) (slotsOf (length t)) (cellsOf bodies) t) ≡ 0
+  rest6 = ask-rest (ltb 0 (depthNamed t h)) 5 (ask (eqb (depthNamed t h) (live t)) 6 (cellsCheck (cellsOf memory) (slotsOf (length t)) (cellsOf bodies) t)) (omega arith) (both .1)
+
+  pub advance-low : 1 ≤ live t
+  advance-low =
+      let a = ltb-true 0 (depthNamed t h) (ask-yes (ltb 0 (depthNamed t h)) 5 (ask (eqb (depthNamed t h) (live t)) 6 (cellsCheck (cellsOf memory) (slotsOf (length t)) (cellsOf bodies) t)) (omega arith) (both .1)) in
+      let b = depth-small t h in
+      omega arith
+
+  rest15 : cellsCheck (cellsOf memory) (slotsOf (length t)) (cellsOf bodies) t ≡ 0
+  rest15 = ask-rest (eqb (depthNamed t h) (live t)) 6 (cellsCheck (cellsOf memory) (slotsOf (length t)) (cellsOf bodies) t) (omega arith) rest6
+
+  pub advance-room : copies (slotsOf (length t)) t + count (cellsOf memory) (advances (slotsOf (length t)) t) ≤ cellsOf bodies
+  advance-room =
+      let e : ℕ = slotsOf (length t) in
+      leb-true _ _ (ask-yes (leb (copies e t + count (cellsOf memory) (advances e t)) (cellsOf bodies)) 17 0 (omega arith)
+      (ask-rest (leb (live t) 1 || all (cellsOf memory) (λ c. not (advances e t c) || holdsIn e t (parent (live t)) c)) 15
+      (ask (leb (copies e t + count (cellsOf memory) (advances e t)) (cellsOf bodies)) 17 0) (omega arith) rest15))
+
+-- ---- the call, which takes the lowest free bodies
+
+module _ (memory bodies t : List ℕ) (h : ℕ) (pass : advanceCheck (length memory) (length bodies) t h ≡ 0) where
+  abbrev yes : storeCheck (length memory) (length bodies) t ≡ 0
+  yes = advance-store (length memory) (length bodies) t h pass
+
+  pub lowest : Choice (slotsOf (length t)) (cellsOf (length bodies)) t (bodyFor (slotsOf (length t)) (cellsOf (length bodies)) t)
+  lowest =
+      chosen (cellsOf (length memory)) (slotsOf (length t)) (cellsOf (length bodies)) t (raw-rule memory bodies t yes)
+      (advance-room (length memory) (length bodies) t h pass)
+
+  pub advance-seen : (k : ℕ) → seenOf (outcome (perform (changePlan (pairsAt (slotsOf (length t)))
+      (advanceBytes (cellsOf (length memory)) (cellsOf (length bodies)) memory t) (advanceWords (cellsOf (length bodies)) t)) 0) k (buffers memory bodies t))
+      ≡ viewed (change (64 * count (cellsOf (length memory)) (advances (slotsOf (length t)) t)) (2 * count (cellsOf (length memory)) (advances (slotsOf (length t)) t)) 0
+      (advance memory (stateOf (buffers memory bodies t)))) k (stateOf (buffers memory bodies t)) memory
+  unfolding advanceBytes advanceWords advanceChange
+  advance-seen k =
+      with-seen memory bodies t yes (advance-low (length memory) (length bodies) t h pass) (bodyFor (slotsOf (length t)) (cellsOf (length bodies)) t) lowest k
+
+  pub advance-unmade : (k j : ℕ) → k ≤ length (advanceBytes (cellsOf (length memory)) (cellsOf (length bodies)) memory t) + 2 * length (advanceWords (cellsOf (length bodies)) t)
+      → outcome (openCall (buffers memory (stores (take k (advanceBytes (cellsOf (length memory)) (cellsOf (length bodies)) memory t)) bodies)
+      (stores (take (k - length (advanceBytes (cellsOf (length memory)) (cellsOf (length bodies)) memory t)) (journal (pairsAt (slotsOf (length t))) (advanceWords (cellsOf (length bodies)) t))) t))) j
+      (buffers memory (stores (take k (advanceBytes (cellsOf (length memory)) (cellsOf (length bodies)) memory t)) bodies)
+      (stores (take (k - length (advanceBytes (cellsOf (length memory)) (cellsOf (length bodies)) memory t)) (journal (pairsAt (slotsOf (length t))) (advanceWords (cellsOf (length bodies)) t))) t))
+      ≡ leaves (done 0 0) (buffers memory (stores (take k (advanceBytes (cellsOf (length memory)) (cellsOf (length bodies)) memory t)) bodies)
+      (stores (take (k - length (advanceBytes (cellsOf (length memory)) (cellsOf (length bodies)) memory t)) (journal (pairsAt (slotsOf (length t))) (advanceWords (cellsOf (length bodies)) t))) t))
+  unfolding advanceBytes advanceWords advanceChange
+  advance-unmade =
+      with-unmade memory bodies t yes (advance-low (length memory) (length bodies) t h pass) (bodyFor (slotsOf (length t)) (cellsOf (length bodies)) t) lowest
+
+  pub advance-reopened : (k j : ℕ) (ks : List ℕ) → 0 < length (advanceWords (cellsOf (length bodies)) t)
+      → length (advanceBytes (cellsOf (length memory)) (cellsOf (length bodies)) memory t) + 2 * length (advanceWords (cellsOf (length bodies)) t) < k
+      → k ≤ length (advanceBytes (cellsOf (length memory)) (cellsOf (length bodies)) memory t) + (3 * length (advanceWords (cellsOf (length bodies)) t) + 1)
+      → Each (λ x. x ≤ length (advanceWords (cellsOf (length bodies)) t)) ks → length (advanceWords (cellsOf (length bodies)) t) < j
+      → outcome (openCall (buffers memory (stores (take k (advanceBytes (cellsOf (length memory)) (cellsOf (length bodies)) memory t)) bodies)
+      (openings (pairsAt (slotsOf (length t))) ks (stores (take (k - length (advanceBytes (cellsOf (length memory)) (cellsOf (length bodies)) memory t)) (journal (pairsAt (slotsOf (length t))) (advanceWords (cellsOf (length bodies)) t))) t)))) j
+      (buffers memory (stores (take k (advanceBytes (cellsOf (length memory)) (cellsOf (length bodies)) memory t)) bodies)
+      (openings (pairsAt (slotsOf (length t))) ks (stores (take (k - length (advanceBytes (cellsOf (length memory)) (cellsOf (length bodies)) memory t)) (journal (pairsAt (slotsOf (length t))) (advanceWords (cellsOf (length bodies)) t))) t)))
+      ≡ leaves (done (length (advanceWords (cellsOf (length bodies)) t) + 1) 0)
+      (buffers memory (stores (advanceBytes (cellsOf (length memory)) (cellsOf (length bodies)) memory t) bodies) (stores (journal (pairsAt (slotsOf (length t))) (advanceWords (cellsOf (length bodies)) t)) t))
+  unfolding advanceBytes advanceWords advanceChange
+  advance-reopened =
+      with-reopened memory bodies t yes (advance-low (length memory) (length bodies) t h pass) (bodyFor (slotsOf (length t)) (cellsOf (length bodies)) t) lowest
+
+  pub advance-bound : stepsOf (length (advanceBytes (cellsOf (length memory)) (cellsOf (length bodies)) memory t)) (length (advanceWords (cellsOf (length bodies)) t)) ≤ 70 * slotsOf (length t) + 32
+  unfolding advanceBytes advanceWords advanceChange
+  advance-bound =
+      with-bound memory bodies t yes (advance-low (length memory) (length bodies) t h pass) (bodyFor (slotsOf (length t)) (cellsOf (length bodies)) t) lowest
+
+-- ---- what it means
+
+abbrev goal : (h words-say state-says k : ℕ) → Buffers → Type 0
+goal h q r k b =
+    seenOf (outcome (unless q (perform (changePlan (pairsAt (slotsOf (length (b .table))))
+    (advanceBytes (cellsOf (length (b .memory))) (cellsOf (length (b .bodies))) (b .memory) (b .table)) (advanceWords (cellsOf (length (b .bodies))) (b .table))) 0)) k b)
+    ≡ viewed (orRefuse r (change (64 * writableCells (cellsOf (length (b .memory))) (stateOf b)) (2 * writableCells (cellsOf (length (b .memory))) (stateOf b)) 0 (advance (b .memory) (stateOf b)))) k (stateOf b) (b .memory)
+
+pub advance-means : (h k : ℕ) (b : Buffers) → seenOf (outcome (advanceCall h b) k b) ≡ advanceMeans h k b
+unfolding advanceCall callMeans advanceCheck outcome
+advance-means h k b =
+    by-check (λ q. seenOf (outcome (unless (orElse q (asked (length (b .memory)) (length (b .bodies)) (b .table) h))
+    (perform (changePlan (pairsAt (slotsOf (length (b .table))))
+    (advanceBytes (cellsOf (length (b .memory))) (cellsOf (length (b .bodies))) (b .memory) (b .table)) (advanceWords (cellsOf (length (b .bodies))) (b .table))) 0)) k b)
+    ≡ orRefused q b (viewed (advanceEffect (roomOf b) (b .memory) h (stateOf b)) k (stateOf b) (b .memory)))
+    (storeCheck (length (b .memory)) (length (b .bodies)) (b .table))
+    (λ n e. refl)
+    (λ yes.
+    let stands = store-standing (b .memory) (b .bodies) (b .table) yes in
+    let raw = raw-state (b .memory) (b .bodies) (b .table) yes in
+    let same : asked (length (b .memory)) (length (b .bodies)) (b .table) h ≡ advanceChecks (roomOf b) h (stateOf b) =
+    sym (ap (advanceChecks (roomOf b) h) raw ∙ checks-raw (b .memory) (b .bodies) (b .table) h) in
+    subst (λ (r : ℕ). goal h (asked (length (b .memory)) (length (b .bodies)) (b .table) h) r k b) same
+    (by-check (λ q. goal h q q k b) (asked (length (b .memory)) (length (b .bodies)) (b .table) h)
+    (λ n e. ap (λ (s : Option State). view (refused (suc n)) s (b .memory)) stands)
+    (λ e.
+    let pass : advanceCheck (length (b .memory)) (length (b .bodies)) (b .table) h ≡ 0 = rw yes e in
+    let low = advance-low (length (b .memory)) (length (b .bodies)) (b .table) h pass in
+    let n : count (cellsOf (length (b .memory))) (advances (slotsOf (length (b .table))) (b .table)) ≡ writableCells (cellsOf (length (b .memory))) (stateOf b) =
+    sym (ap (writableCells (cellsOf (length (b .memory)))) raw ∙ cells-same (slotsOf (length (b .table))) (b .table) (b .bodies) low (cellsOf (length (b .memory)))) in
+    advance-seen (b .memory) (b .bodies) (b .table) h pass k
+    ∙ ap (λ (x : ℕ). viewed (change (64 * x) (2 * x) 0 (advance (b .memory) (stateOf b))) k (stateOf b) (b .memory)) n)))
+
+-- ---- what the code cites
+
+module _ (m b t : List ℕ) (h k : ℕ) where
+  pub advance-refused : (q : ℕ) → q ≡ advanceCheck (length m) (length b) t h → (q ≡ 0 → ⊥) → leaves (refused q) (buffers m b t) ≡ outcome (advanceCall h (buffers m b t)) k (buffers m b t)
+  unfolding advanceCall
+  advance-refused q e stops = refuses q (advanceCheck (length m) (length b) t h) _ k (buffers m b t) e stops
+
+  pub advance-performed : (bytes words : ℕ) (b′ t′ : List ℕ) (r : Report) → advanceCheck (length m) (length b) t h ≡ 0
+      → bytes ≡ length (advanceBytes (cellsOf (length m)) (cellsOf (length b)) m t) → b′ ≡ stores (take k (advanceBytes (cellsOf (length m)) (cellsOf (length b)) m t)) b
+      → words ≡ journalSteps (length (advanceWords (cellsOf (length b)) t)) → t′ ≡ stores (take (k - bytes) (journal (pairsAt (slotsOf (length t))) (advanceWords (cellsOf (length b)) t))) t
+      → r ≡ ended (bytes + words) 0 k
+      → leaves r (buffers m b′ t′) ≡ outcome (advanceCall h (buffers m b t)) k (buffers m b t)
+  unfolding advanceCall journalSteps
+  advance-performed bytes words b′ t′ r pass x p y q e =
+      rw pass
+      (change-performed (pairsAt (slotsOf (length t))) (bytes + words) 0 k (advanceBytes (cellsOf (length m)) (cellsOf (length b)) m t) (advanceWords (cellsOf (length b)) t) m b t b′ t′ r
+      (rw (x, y)) p (rw x at q) e)

@@ -1,0 +1,7 @@
+-- Laws that belong to no one function.
+pub mod Raw
+pub mod Copying
+pub mod Turning
+pub mod Choosing
+pub mod Noting
+pub mod Advanced

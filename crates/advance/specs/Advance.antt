@@ -1,0 +1,59 @@
+-- Advance: its questions, the bytes and words that it stores, and what it means.
+use Prim.Native.Nat.{ℕ, _+_, _-_, _*_}
+use mathlib.Core.Bool.{Bool, cond, not, _&&_, _||_}
+use mathlib.Core.List.{List, []}
+use lib.Dec.{ltb, leb, eqb}
+use lib.ListN.{length}
+use Rattle.words.specs.Layout.{cellsOf, slotsOf, pairsAt}
+use Rattle.words.specs.Scan.{all, count, nth}
+use Rattle.words.specs.Cells.{cellPlan}
+use Rattle.words.specs.Stores.{Store, gather}
+use Rattle.table.specs.Entry.{live, word1, depthOf, cellOf, writableOf, viaOf, parent, findIn, holdsIn}
+use Rattle.table.specs.Changes.{Change, keep, put, entryChanges}
+use Rattle.search.specs.Domain.{depthNamed}
+use Rattle.search.specs.Free.{bodyFree, copies}
+use Rattle.model.specs.Answer.{ask, orElse, View}
+use Rattle.model.specs.Holdings.{advanceEffect}
+use Rattle.store.specs.Outcome.{Buffers, Call, perform, unless, changePlan}
+use Rattle.store.specs.Checks.{storeCheck}
+use Rattle.store.specs.Means.{callMeans, roomOf}
+
+-- does the innermost domain hold cell c read-write?
+abbrev pub advances : ℕ → List ℕ → ℕ → Bool
+advances e t c = holdsIn e t (live t) c && eqb (writableOf (word1 e t (findIn e t (live t) c))) 1
+
+-- questions 1 to 6, 15 and 17
+unfoldable pub advanceCheck : (memory bodies : ℕ) → List ℕ → (h : ℕ) → ℕ
+advanceCheck memory bodies t h =
+    orElse (storeCheck memory bodies t)
+    (ask (ltb 0 (depthNamed t h)) 5
+    (ask (eqb (depthNamed t h) (live t)) 6
+    (ask (leb (live t) 1 || all (cellsOf memory) (λ c. not (advances (slotsOf (length t)) t c) || holdsIn (slotsOf (length t)) t (parent (live t)) c)) 15
+    (ask (leb (copies (slotsOf (length t)) t + count (cellsOf memory) (advances (slotsOf (length t)) t)) (cellsOf bodies)) 17 0))))
+
+-- the body that the new copy of cell c takes: the lowest free bodies, in the order of the cells
+unfoldable pub bodyFor : (e b : ℕ) → List ℕ → ℕ → ℕ
+bodyFor e b t c = nth b (bodyFree e t) (count c (advances e t))
+
+-- an innermost read-write entry becomes a copy with a new body
+unfoldable pub advanceChange : (e b : ℕ) → List ℕ → ℕ → Change
+advanceChange e b t i =
+    cond (eqb (depthOf (word1 e t i)) (live t) && eqb (writableOf (word1 e t i)) 1)
+    (put (word1 e t i - 67_108_864 * viaOf (word1 e t i)) (bodyFor e b t (cellOf (word1 e t i)))) keep
+
+unfoldable pub advanceWords : (b : ℕ) → List ℕ → List Store
+advanceWords b t = entryChanges (slotsOf (length t)) (advanceChange (slotsOf (length t)) b t)
+
+-- "bytes first: 64 for each copy taken, rising by cell and byte"
+unfoldable pub advanceBytes : (m b : ℕ) → List ℕ → List ℕ → List Store
+advanceBytes m b memory t =
+    gather m (λ c. cond (advances (slotsOf (length t)) t c) (cellPlan memory c (bodyFor (slotsOf (length t)) b t c)) [])
+
+unfoldable pub advanceCall : (h : ℕ) → Buffers → Call
+advanceCall h b =
+    unless (advanceCheck (length (b .memory)) (length (b .bodies)) (b .table) h)
+    (perform (changePlan (pairsAt (slotsOf (length (b .table))))
+    (advanceBytes (cellsOf (length (b .memory))) (cellsOf (length (b .bodies))) (b .memory) (b .table)) (advanceWords (cellsOf (length (b .bodies))) (b .table))) 0)
+
+abbrev pub advanceMeans : (h : ℕ) → ℕ → Buffers → View
+advanceMeans h k b = callMeans (advanceEffect (roomOf b) (b .memory) h) k b

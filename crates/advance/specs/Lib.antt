@@ -1,0 +1,3 @@
+-- The definitions that the contracts of `advance` cite.
+pub mod Advance
+pub mod Notes
