@@ -1,0 +1,239 @@
+-- Add, from its stores to what it means and to what opening finds after every cut of it. Assumes nothing.
+use Prim.Native.Nat.{ℕ, zero, suc, _+_, _-_, _*_, _≤_, _<_}
+use mathlib.Core.Bool.{Bool, true, false, cond}
+use mathlib.Core.List.{List, []}
+use mathlib.Core.Option.{Option, none, some}
+use mathlib.Core.Path.{_≡_, refl, sym, ap, subst, _∙_}
+use native.Mathlib.Omega.{arith}
+use borrow.Author.Tests.{eq-eqb, ne-eqb}
+use lib.Dec.{eqb}
+use lib.ListN.{length, getD, take, length-take}
+use lib.Seq.{getD-take}
+use Rattle.words.specs.Layout.{liveAt, nextAt, handleAt, firstAt, secondAt, pairsAt, slotsOf, cellsOf, maxPairs, maxLive}
+use Rattle.words.specs.Stores.{Store, stores}
+use Rattle.words.specs.Journal.{namesOk, journal, openings}
+use Rattle.words.proofs.Scan.{by-le, by-bool}
+use Rattle.words.proofs.Plans.{Each, take-stores}
+use Rattle.table.specs.Entry.{live, nextHandle, handle, word1, word2}
+use Rattle.table.specs.Changes.{entryChanges}
+use Rattle.table.proofs.Rule.{Rule, ok-facts, ok-make}
+use Rattle.table.proofs.Agree.{ok-agree}
+use Rattle.search.proofs.Value.{Copy}
+use Rattle.model.specs.State.{State}
+use Rattle.model.specs.Answer.{Report, refused, done, ended, stepsOf, View, view}
+use Rattle.model.specs.Calls.{viewed, change, orRefuse}
+use Rattle.model.specs.Holdings.{kindNumbered, labelNumbered, newBodies, newlyHeld, relabelled, addChecks, addTo, addEffect}
+use Rattle.store.specs.Outcome.{Buffers, buffers, changePlan, outcome, leaves, perform, unless}
+use Rattle.store.specs.Checks.{storeCheck}
+use Rattle.store.specs.State.{stateIn, stateOf, standing}
+use Rattle.store.specs.Calls.{openCall}
+use Rattle.store.specs.Means.{orRefused, callMeans, roomOf}
+use Rattle.store.proofs.Checks.{orElse-go, orElse-stop}
+use Rattle.store.proofs.Outcome.{refuses}
+use Rattle.store.proofs.State.{state-kept}
+use Rattle.store.proofs.Means.{seenOf, by-check, store-state, store-standing, store-rule}
+use Rattle.store.proofs.Changes.{Spares, spared, change-performed, change-seen, change-unmade, change-reopened}
+use Rattle.add.specs.Add.{addCheck, addBytes, addWords, addCall, addMeans}
+use Rattle.add.specs.Walking.{Ready}
+use Rattle.add.proofs.Asking.{lengths, table-right, add-ready}
+use Rattle.add.proofs.Choices.{chosen, rule-after}
+use Rattle.add.proofs.Meaning.{state-after}
+use Rattle.add.proofs.Passing.{changes-ok, changes-below}
+use Rattle.add.proofs.Chosen.{choice, words-chosen, choice-rests, bytes-filled, bytes-spare}
+use Rattle.add.proofs.Numbers.{words-many, bytes-many, changed-few}
+use Rattle.add.proofs.Questions.{asked, questions-same}
+
+-- ---- the words in front of the pairs say all that is read
+
+module _ (memory bodies t : List ℕ) (yes : storeCheck (length memory) (length bodies) t ≡ 0) where
+  abbrev first : ℕ
+  first = pairsAt (slotsOf (length t))
+
+  pub head-word : (x : ℕ) → x < pairsAt (slotsOf (length t)) → getD (take (pairsAt (slotsOf (length t))) t) x 0 ≡ getD t x 0
+  head-word x h = getD-take first t x 0 h
+
+  pub state-whole : stateOf (buffers memory bodies t) ≡ stateIn (slotsOf (length t)) t bodies
+  state-whole =
+      store-state memory bodies t yes
+      ∙ state-kept (cellsOf (length memory)) (slotsOf (length t)) (cellsOf (length bodies)) t (take first t) bodies bodies (table-right memory bodies t yes)
+      (λ i h. head-word (firstAt (slotsOf (length t)) i) (omega arith)) (λ i c. let h = c .slot in head-word (secondAt (slotsOf (length t)) i) (omega arith)) (λ i c. refl)
+      (head-word liveAt (omega arith)) (head-word nextAt (omega arith)) (λ x h. let top = table-right memory bodies t yes .live in head-word (handleAt x) (omega arith))
+
+-- ---- the call, once no question refuses it
+
+module _ (memory bodies t : List ℕ) (base n k l : ℕ) (r : Ready memory bodies t base n k l) where
+  abbrev e : ℕ
+  e = slotsOf (length t)
+
+  abbrev ws : List Store
+  ws = addWords (cellsOf (length bodies)) t base n k l
+
+  abbrev bytes : List Store
+  bytes = addBytes (cellsOf (length bodies)) memory t base n k
+
+  abbrev before : State
+  before = stateIn (slotsOf (length t)) t bodies
+
+  long : pairsAt (slotsOf (length t)) ≤ length t
+  long = let w = lengths memory bodies t (r .store) in omega (arith, w .table-exact)
+
+  small : cellsOf (length memory) ≤ 65536
+  small = lengths memory bodies t (r .store) .cells-high
+
+  pub words-names : namesOk (pairsAt (slotsOf (length t))) 0 (addWords (cellsOf (length bodies)) t base n k l) ≡ true
+  words-names = rw (words-chosen memory bodies t base n k l r) (changes-ok e (chosen (choice memory bodies t base n k l r) l))
+
+  words-below : Each (λ s. s .at < pairsAt (slotsOf (length t))) (addWords (cellsOf (length bodies)) t base n k l)
+  words-below = rw (words-chosen memory bodies t base n k l r) (changes-below e (chosen (choice memory bodies t base n k l r) l))
+
+  words-few : length (addWords (cellsOf (length bodies)) t base n k l) ≤ maxPairs (slotsOf (length t))
+  words-few = rw (words-many memory bodies t base n k l r) (omega (arith, changed-few memory bodies t base n k l r))
+
+  rule-whole : Rule (cellsOf (length memory)) (slotsOf (length t)) (cellsOf (length bodies)) (stores (addWords (cellsOf (length bodies)) t base n k l) t)
+  rule-whole =
+      rw (words-chosen memory bodies t base n k l r)
+      (rule-after (cellsOf (length memory)) e (cellsOf (length bodies)) t (table-right memory bodies t (r .store)) long base n k l (r .inner) (r .kind) (r .label) (r .range) small
+      (choice memory bodies t base n k l r) (choice-rests memory bodies t base n k l r))
+
+  -- the table that opening finds: its words in front of the pairs
+  cut-is : stores (addWords (cellsOf (length bodies)) t base n k l) (take (pairsAt (slotsOf (length t))) t) ≡ take (pairsAt (slotsOf (length t))) (stores (addWords (cellsOf (length bodies)) t base n k l) t)
+  cut-is = sym (take-stores ws t (pairsAt e) words-below)
+
+  head-after : (x : ℕ) → x < pairsAt (slotsOf (length t)) → getD (stores (addWords (cellsOf (length bodies)) t base n k l) (take (pairsAt (slotsOf (length t))) t)) x 0 ≡ getD (stores (addWords (cellsOf (length bodies)) t base n k l) t) x 0
+  head-after x h = ap (λ (u : List ℕ). getD u x 0) cut-is ∙ getD-take (pairsAt e) (stores ws t) x 0 h
+
+  pub new-rule : Rule (cellsOf (length memory)) (slotsOf (length t)) (cellsOf (length bodies)) (stores (addWords (cellsOf (length bodies)) t base n k l) (take (pairsAt (slotsOf (length t))) t))
+  new-rule =
+      ok-facts _ _ _ _
+      (ok-agree (cellsOf (length memory)) e (cellsOf (length bodies)) (stores ws (take (pairsAt e) t)) (stores ws t) head-after
+      ∙ ok-make _ _ _ _ rule-whole)
+
+  -- the bytes spare the bodies in use
+  pub new-spares : Each (Spares (slotsOf (length t)) (take (pairsAt (slotsOf (length t))) t)) (addBytes (cellsOf (length bodies)) memory t base n k)
+  new-spares =
+      bytes-spare memory bodies t base n k l r (take (pairsAt e) t) (λ i h. getD-take (pairsAt e) t (firstAt e i) 0 (omega arith)) (λ i h. getD-take (pairsAt e) t (secondAt e i) 0 (omega arith))
+
+  state-new : stateIn (slotsOf (length t)) (stores (addWords (cellsOf (length bodies)) t base n k l) t) (stores (addBytes (cellsOf (length bodies)) memory t base n k) bodies)
+      ≡ addTo memory base n (kindNumbered k) (labelNumbered l) (stateIn (slotsOf (length t)) t bodies)
+  state-new =
+      rw (words-chosen memory bodies t base n k l r)
+      (state-after (cellsOf (length memory)) e (cellsOf (length bodies)) t (table-right memory bodies t (r .store)) long base n k l (r .inner) (r .kind) (r .label) (r .range) small
+      (choice memory bodies t base n k l r) (choice-rests memory bodies t base n k l r) memory bodies (stores bytes bodies)
+      (spared e t bytes bodies (bytes-spare memory bodies t base n k l r t (λ i h. refl) (λ i h. refl)))
+      (bytes-filled memory bodies t base n k l r))
+
+  -- and stands for the model's state after add
+  pub new-state : stateIn (slotsOf (length t)) (stores (addWords (cellsOf (length bodies)) t base n k l) (take (pairsAt (slotsOf (length t))) t)) (stores (addBytes (cellsOf (length bodies)) memory t base n k) bodies)
+      ≡ addTo memory base n (kindNumbered k) (labelNumbered l) (stateOf (buffers memory bodies t))
+  new-state =
+      state-kept (cellsOf (length memory)) e (cellsOf (length bodies)) (stores ws t) (stores ws (take (pairsAt e) t)) (stores bytes bodies) (stores bytes bodies) rule-whole
+      (λ i h. head-after (firstAt e i) (omega arith)) (λ i c. let h = c .slot in head-after (secondAt e i) (omega arith)) (λ i c. refl)
+      (head-after liveAt (omega arith)) (head-after nextAt (omega arith)) (λ x h. let top = rule-whole .live in head-after (handleAt x) (omega arith))
+      ∙ state-new
+      ∙ ap (addTo memory base n (kindNumbered k) (labelNumbered l)) (sym (state-whole memory bodies t (r .store)))
+
+  pub add-seen : (budget : ℕ) → seenOf (outcome (perform (changePlan (pairsAt (slotsOf (length t))) (addBytes (cellsOf (length bodies)) memory t base n k) (addWords (cellsOf (length bodies)) t base n k l)) 0) budget (buffers memory bodies t))
+      ≡ viewed (change (64 * newBodies (kindNumbered k) (newlyHeld base n (stateOf (buffers memory bodies t)))) (2 * (newlyHeld base n (stateOf (buffers memory bodies t)) + relabelled base n (labelNumbered l) (stateOf (buffers memory bodies t)))) 0
+      (addTo memory base n (kindNumbered k) (labelNumbered l) (stateOf (buffers memory bodies t)))) budget (stateOf (buffers memory bodies t)) memory
+  add-seen budget =
+      change-seen memory bodies t (r .store) bytes ws new-spares words-few words-names new-rule 0 (addTo memory base n (kindNumbered k) (labelNumbered l) (stateOf (buffers memory bodies t))) new-state budget
+      ∙ ap (λ (x : ℕ). viewed (change x (length ws) 0 (addTo memory base n (kindNumbered k) (labelNumbered l) (stateOf (buffers memory bodies t)))) budget (stateOf (buffers memory bodies t)) memory)
+      (bytes-many memory bodies t base n k l r ∙ ap (λ (s : State). 64 * newBodies (kindNumbered k) (newlyHeld base n s)) (sym (state-whole memory bodies t (r .store))))
+      ∙ ap (λ (x : ℕ). viewed (change (64 * newBodies (kindNumbered k) (newlyHeld base n (stateOf (buffers memory bodies t)))) x 0 (addTo memory base n (kindNumbered k) (labelNumbered l) (stateOf (buffers memory bodies t)))) budget (stateOf (buffers memory bodies t)) memory)
+      (words-many memory bodies t base n k l r ∙ ap (λ (s : State). 2 * (newlyHeld base n s + relabelled base n (labelNumbered l) s)) (sym (state-whole memory bodies t (r .store))))
+
+  -- ---- cuts
+
+  -- in the bytes or in the pairs: opening takes no step, and the call is not made
+  pub add-unmade : (x j : ℕ) → x ≤ length bytes + 2 * length ws
+      → outcome (openCall (buffers memory (stores (take x bytes) bodies) (stores (take (x - length bytes) (journal (pairsAt (slotsOf (length t))) ws)) t))) j
+      (buffers memory (stores (take x bytes) bodies) (stores (take (x - length bytes) (journal (pairsAt (slotsOf (length t))) ws)) t))
+      ≡ leaves (done 0 0) (buffers memory (stores (take x bytes) bodies) (stores (take (x - length bytes) (journal (pairsAt (slotsOf (length t))) ws)) t))
+  add-unmade x j h = change-unmade memory bodies t (r .store) bytes ws new-spares words-few words-names new-rule x j h
+
+  -- from word 6 on: opening leaves the buffers of the uncut call
+  pub add-reopened : (x j : ℕ) (ks : List ℕ) → 0 < length ws → length bytes + 2 * length ws < x → x ≤ length bytes + (3 * length ws + 1) → Each (λ y. y ≤ length ws) ks → length ws < j
+      → outcome (openCall (buffers memory (stores (take x bytes) bodies) (openings (pairsAt (slotsOf (length t))) ks (stores (take (x - length bytes) (journal (pairsAt (slotsOf (length t))) ws)) t)))) j
+      (buffers memory (stores (take x bytes) bodies) (openings (pairsAt (slotsOf (length t))) ks (stores (take (x - length bytes) (journal (pairsAt (slotsOf (length t))) ws)) t)))
+      ≡ leaves (done (length ws + 1) 0) (buffers memory (stores bytes bodies) (stores (journal (pairsAt (slotsOf (length t))) ws) t))
+  add-reopened x j ks pos late early stops enough =
+      change-reopened memory bodies t (r .store) bytes ws new-spares words-few words-names new-rule x j ks pos late early stops enough
+
+  -- ---- "every other call at most 70E + 32"
+
+  pub add-bound : stepsOf (length bytes) (length ws) ≤ 70 * slotsOf (length t) + 32
+  add-bound =
+      let few = changed-few memory bodies t base n k l r in
+      let w = words-many memory bodies t base n k l r in
+      let b = bytes-many memory bodies t base n k l r in
+      let new = new-bodies (newlyHeld base n before) in
+      by-le (length ws) 0
+      (λ z. let q : length ws ≡ 0 = omega arith in rw (eq-eqb (length ws) 0 q) (omega arith))
+      (λ z. rw (ne-eqb (length ws) 0 (λ q. omega arith)) (omega arith))
+    where
+      new-bodies : (x : ℕ) → newBodies (kindNumbered k) x ≤ x
+      new-bodies x = by-bool (eqb k 1) (λ p. rw p (omega arith)) (λ p. rw p (omega arith))
+
+-- ---- what the call means
+
+module _ (h base n k l : ℕ) where
+  abbrev goal : (words-say state-says budget : ℕ) → Buffers → Type 0
+  goal q s budget b =
+      seenOf (outcome (unless q (perform (changePlan (pairsAt (slotsOf (length (b .table)))) (addBytes (cellsOf (length (b .bodies))) (b .memory) (b .table) base n k) (addWords (cellsOf (length (b .bodies))) (b .table) base n k l)) 0)) budget b)
+      ≡ viewed (orRefuse s (change (64 * newBodies (kindNumbered k) (newlyHeld base n (stateOf b))) (2 * (newlyHeld base n (stateOf b) + relabelled base n (labelNumbered l) (stateOf b))) 0
+      (addTo (b .memory) base n (kindNumbered k) (labelNumbered l) (stateOf b)))) budget (stateOf b) (b .memory)
+
+  -- the questions on the words, those on the shape passed
+  rest : Buffers → ℕ
+  rest b = asked (b .memory) (slotsOf (length (b .table))) (b .table) (b .bodies) h base n k l (cellsOf (length (b .memory))) (cellsOf (length (b .bodies)))
+
+  checks-rest : (b : Buffers) → storeCheck (length (b .memory)) (length (b .bodies)) (b .table) ≡ 0 → addCheck (b .memory) (b .bodies) (b .table) h base n k l ≡ rest b
+  unfolding addCheck rest
+  checks-rest b good = orElse-go _ _ good
+
+  same-rest : (b : Buffers) → storeCheck (length (b .memory)) (length (b .bodies)) (b .table) ≡ 0 → rest b ≡ addChecks (roomOf b) (b .memory) h base n k l (stateOf b)
+  unfolding rest
+  same-rest b good =
+      questions-same (b .memory) (slotsOf (length (b .table))) (b .table) (b .bodies) h base n k l (cellsOf (length (b .memory))) (cellsOf (length (b .bodies)))
+      ∙ ap (addChecks (roomOf b) (b .memory) h base n k l) (sym (state-whole (b .memory) (b .bodies) (b .table) good))
+
+  passed : (budget : ℕ) (b : Buffers) → storeCheck (length (b .memory)) (length (b .bodies)) (b .table) ≡ 0
+      → goal (addCheck (b .memory) (b .bodies) (b .table) h base n k l) (addChecks (roomOf b) (b .memory) h base n k l (stateOf b)) budget b
+  unfolding outcome
+  passed budget b good =
+      subst (λ (s : ℕ). goal (addCheck (b .memory) (b .bodies) (b .table) h base n k l) s budget b) (checks-rest b good ∙ same-rest b good)
+      (by-check (λ q. q ≡ addCheck (b .memory) (b .bodies) (b .table) h base n k l → goal q q budget b) (addCheck (b .memory) (b .bodies) (b .table) h base n k l)
+      (λ x q w. ap (λ (s : Option State). view (refused (suc x)) s (b .memory)) (store-standing (b .memory) (b .bodies) (b .table) good))
+      (λ q w. add-seen (b .memory) (b .bodies) (b .table) base n k l (add-ready (b .memory) (b .bodies) (b .table) h base n k l q) budget)
+      refl)
+
+  stops : (b : Buffers) (x : ℕ) → storeCheck (length (b .memory)) (length (b .bodies)) (b .table) ≡ suc x → addCheck (b .memory) (b .bodies) (b .table) h base n k l ≡ suc x
+  unfolding addCheck
+  stops b x q = orElse-stop _ _ (λ z. omega (arith, z, q)) ∙ q
+
+  pub add-means : (budget : ℕ) (b : Buffers) → seenOf (outcome (addCall h base n k l b) budget b) ≡ addMeans h base n k l budget b
+  unfolding addCall callMeans
+  add-means budget b =
+      by-check (λ q. storeCheck (length (b .memory)) (length (b .bodies)) (b .table) ≡ q
+      → seenOf (outcome (addCall h base n k l b) budget b) ≡ orRefused q b (viewed (addEffect (roomOf b) (b .memory) h base n k l (stateOf b)) budget (stateOf b) (b .memory)))
+      (storeCheck (length (b .memory)) (length (b .bodies)) (b .table))
+      (λ x q w. ap seenOf (sym (refuses (suc x) (addCheck (b .memory) (b .bodies) (b .table) h base n k l) _ budget b (sym (stops b x w)) (λ z. omega arith))))
+      (λ q w. passed budget b w)
+      refl
+
+-- ---- what the code cites
+
+module _ (m b t : List ℕ) (h base n k l budget : ℕ) where
+  pub add-refused : (q : ℕ) → q ≡ addCheck m b t h base n k l → (q ≡ 0 → ⊥) → leaves (refused q) (buffers m b t) ≡ outcome (addCall h base n k l (buffers m b t)) budget (buffers m b t)
+  unfolding addCall
+  add-refused q e z = refuses q (addCheck m b t h base n k l) _ budget (buffers m b t) e z
+
+  pub add-performed : (need : ℕ) (b′ t′ : List ℕ) (r : Report) → addCheck m b t h base n k l ≡ 0
+      → need ≡ stepsOf (length (addBytes (cellsOf (length b)) m t base n k)) (length (addWords (cellsOf (length b)) t base n k l))
+      → b′ ≡ stores (take budget (addBytes (cellsOf (length b)) m t base n k)) b
+      → t′ ≡ stores (take (budget - length (addBytes (cellsOf (length b)) m t base n k)) (journal (pairsAt (slotsOf (length t))) (addWords (cellsOf (length b)) t base n k l))) t
+      → r ≡ ended need 0 budget
+      → leaves r (buffers m b′ t′) ≡ outcome (addCall h base n k l (buffers m b t)) budget (buffers m b t)
+  unfolding addCall
+  add-performed need b′ t′ r good steps p q e =
+      rw good (change-performed (pairsAt (slotsOf (length t))) need 0 budget (addBytes (cellsOf (length b)) m t base n k) (addWords (cellsOf (length b)) t base n k l) m b t b′ t′ r steps p q e)

@@ -1,0 +1,66 @@
+-- Laws of counts that add needs: the first so many of those that pass, two tests that never both pass, and a range. Assumes nothing.
+use Prim.Native.Nat.{ℕ, zero, suc, _+_, _-_, _*_, _≤_, _<_, min}
+use mathlib.Core.Bool.{Bool, true, false, cond, not, _&&_, _||_}
+use mathlib.Core.Path.{_≡_, refl, sym, ap, subst, _∙_}
+use native.Mathlib.Nat.{not-suc-le-zero}
+use native.Mathlib.Omega.{arith}
+use borrow.Author.Tests.{lt-ltb, le-ltb, le-leb, lt-leb, leb-true, ltb-true, eqb-true, eqb-false}
+use lib.Dec.{leb, ltb, eqb}
+use Rattle.words.specs.Scan.{count}
+use Rattle.words.proofs.Scan.{by-bool, by-le, and-split, and-join, is-false, true≢, count-ext}
+use Rattle.model.specs.Holdings.{inRange}
+
+-- of those that pass, the first r
+pub count-ranked : (n r : ℕ) (f : ℕ → Bool) → count n (λ i. f i && ltb (count i f) r) ≡ min r (count n f)
+unfolding count
+count-ranked zero r f = omega arith
+count-ranked (suc n) r f =
+    let h : count n (λ i. f i && ltb (count i f) r) ≡ min r (count n f) = count-ranked n r f in
+    by-bool (f n)
+    (λ p.
+    by-le r (count n f)
+    (λ l. rw (p, le-ltb (count n f) r l) (omega arith))
+    (λ l. rw (p, lt-ltb (count n f) r l) (omega arith)))
+    (λ p. rw p h)
+
+-- two tests that never both pass
+pub count-or : (n : ℕ) (f g : ℕ → Bool) → ((i : ℕ) → i < n → f i ≡ true → g i ≡ true → ⊥) → count n (λ i. f i || g i) ≡ count n f + count n g
+unfolding count
+count-or zero f g h = refl
+count-or (suc n) f g h =
+    let r : count n (λ i. f i || g i) ≡ count n f + count n g = count-or n f g (λ i l. h i (omega arith)) in
+    by-bool (f n)
+    (λ p.
+    let q : g n ≡ false = is-false (g n) (λ y. h n (omega arith) p y) in
+    rw (p, q) (omega arith))
+    (λ p. by-bool (g n) (λ q. rw (p, q) (omega arith)) (λ q. rw (p, q) (omega arith)))
+
+pub count-none : (n : ℕ) (f : ℕ → Bool) → ((i : ℕ) → i < n → f i ≡ false) → count n f ≡ 0
+unfolding count
+count-none zero f h = refl
+count-none (suc n) f h = rw (h n (omega arith), count-none n f (λ i l. h i (omega arith)))
+
+-- the numbers of a range
+module _ (base : ℕ) (f : ℕ → Bool) where
+  range-none : (m n : ℕ) → m ≤ base → count m (λ c. inRange base n c && f c) ≡ 0
+  range-none m n l = count-none m (λ c. inRange base n c && f c) (λ c b. rw (lt-leb base c (omega arith)))
+
+  range-upto : (x n : ℕ) → x ≤ n → count (base + x) (λ c. inRange base n c && f c) ≡ count x (λ j. f (base + j))
+  unfolding count
+  range-upto zero n l = let z : base + 0 ≡ base = omega arith in rw z (range-none base n (omega arith))
+  range-upto (suc x) n l =
+      let z : base + suc x ≡ suc (base + x) = omega arith in
+      let r : count (base + x) (λ c. inRange base n c && f c) ≡ count x (λ j. f (base + j)) = range-upto x n (omega arith) in
+      rw (z, le-leb base (base + x) (omega arith), lt-ltb (base + x) (base + n) (omega arith), r)
+
+  range-past : (x n : ℕ) → count (base + n + x) (λ c. inRange base n c && f c) ≡ count n (λ j. f (base + j))
+  unfolding count
+  range-past zero n = let z : base + n + 0 ≡ base + n = omega arith in rw z (range-upto n n (omega arith))
+  range-past (suc x) n =
+      let z : base + n + suc x ≡ suc (base + n + x) = omega arith in
+      rw (z, le-leb base (base + n + x) (omega arith), le-ltb (base + n + x) (base + n) (omega arith)) (range-past x n)
+
+  pub count-range : (m n : ℕ) → base + n ≤ m → count m (λ c. inRange base n c && f c) ≡ count n (λ j. f (base + j))
+  count-range m n l =
+      let z : m ≡ base + n + (m - (base + n)) = omega arith in
+      ap (λ (x : ℕ). count x (λ c. inRange base n c && f c)) z ∙ range-past (m - (base + n)) n

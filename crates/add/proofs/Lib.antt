@@ -1,0 +1,13 @@
+-- The laws of `add`.
+pub mod Choices
+pub mod Meaning
+pub mod Copies
+pub mod Counting
+pub mod Asking
+pub mod Walks
+pub mod Passing
+pub mod Chosen
+pub mod Numbers
+pub mod Questions
+pub mod Added
+pub mod Storing

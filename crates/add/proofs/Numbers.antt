@@ -1,0 +1,148 @@
+-- What the model asks and counts of a state, read off the words; and how many bytes and words add stores. Assumes nothing.
+use Prim.Native.Nat.{ℕ, zero, suc, _+_, _-_, _*_, _/_, _%_, _≤_, _<_, min}
+use mathlib.Core.Bool.{Bool, true, false, cond, not, _&&_, _||_}
+use mathlib.Core.List.{List}
+use mathlib.Core.Option.{Option, none, some}
+use mathlib.Core.Path.{_≡_, refl, sym, ap, subst, _∙_}
+use native.Mathlib.Omega.{arith}
+use borrow.Author.Tests.{eq-eqb, ne-eqb, eqb-true, eqb-false, lt-ltb, le-ltb, le-leb, lt-leb, leb-true}
+use lib.Dec.{leb, ltb, eqb}
+use lib.ListN.{length, getD}
+use Rattle.words.specs.Layout.{cellsOf, slotsOf, pairsAt}
+use Rattle.words.specs.Scan.{all, count}
+use Rattle.words.specs.Cells.{cellBytes, sameCell}
+use Rattle.words.proofs.Scan.{by-bool, by-le, and-split, true≢, all-at, all-ext, count-ext, count-le}
+use Rattle.table.specs.Entry.{live, word1, word2, depthOf, writableOf, cellOf, parent, findIn, holdsIn}
+use Rattle.table.specs.Changes.{isChanged, entryChanges}
+use Rattle.table.proofs.Entry.{find-hit, holds-found}
+use Rattle.table.proofs.Rule.{Rule}
+use Rattle.table.proofs.Entries.{changes-count}
+use Rattle.search.specs.Search.{valueIn}
+use Rattle.search.specs.Domain.{depthNamed}
+use Rattle.search.specs.Free.{slotFree, usedSlots, copies}
+use Rattle.search.proofs.Counts.{count-entries}
+use Rattle.model.specs.State.{Label, readOnly, readWrite, Kind, copy, viaParent, Holding, State}
+use Rattle.model.specs.Answer.{ask}
+use Rattle.model.specs.Holdings.{named, holdingAt, isHeld, isWritable, isVia, heldWritable, heldReadOnly, valueOr, isLive, isInnermost, rangeOk, inRange, labelNumbered, kindNumbered, newlyHeld, relabelled, parentHolds, parentSame, newBodies, addChecks}
+use Rattle.store.specs.State.{heldIn, stateIn}
+use Rattle.store.proofs.Domains.{state-named, state-holding, state-zero, domains-count, held-holds, held-writable}
+use Rattle.add.specs.Add.{isNew, parentHas, addWords, addBytes}
+use Rattle.add.specs.Walking.{rises, raiseChange, Ready}
+use Rattle.add.proofs.Asking.{lengths, table-right}
+use Rattle.add.proofs.Choices.{Choice, chosen, raise-yes, raise-no, rises-free}
+use Rattle.add.proofs.Counting.{count-or, count-none, count-range}
+use Rattle.add.proofs.Chosen.{choice, words-chosen, taken-many, bytes-length}
+
+-- ---- the state of a table's words
+
+module _ (e : ℕ) (t bodies : List ℕ) (inner : 1 ≤ live t) where
+  abbrev s : State
+  s = stateIn e t bodies
+
+  at-inner : (c : ℕ) → holdingAt (stateIn e t bodies .domains) (length (stateIn e t bodies .domains)) c ≡ heldIn e t bodies (live t) c
+  at-inner c = ap (λ (d : ℕ). holdingAt (stateIn e t bodies .domains) d c) (domains-count e t bodies) ∙ state-holding e t bodies (live t) c inner (omega arith)
+
+  pub inner-held : (c : ℕ) → isHeld (holdingAt (stateIn e t bodies .domains) (length (stateIn e t bodies .domains)) c) ≡ holdsIn e t (live t) c
+  inner-held c = ap isHeld (at-inner c) ∙ held-holds e t bodies (live t) c
+
+  pub inner-only : (c : ℕ) → heldReadOnly (holdingAt (stateIn e t bodies .domains) (length (stateIn e t bodies .domains)) c)
+      ≡ (holdsIn e t (live t) c && eqb (writableOf (word1 e t (findIn e t (live t) c))) 0)
+  inner-only c =
+      ap heldReadOnly (at-inner c)
+      ∙ rw (held-holds e t bodies (live t) c, held-writable e t bodies (live t) c)
+      (by-bool (holdsIn e t (live t) c) (λ p. rw p (bit (word1 e t (findIn e t (live t) c)))) (λ p. rw p))
+    where
+      bit : (w : ℕ) → not (eqb (writableOf w) 1) ≡ eqb (writableOf w) 0
+      bit w =
+          by-bool (eqb (writableOf w) 1)
+          (λ p. let q = eqb-true (writableOf w) 1 p in rw (p, ne-eqb (writableOf w) 0 (λ z. omega arith)))
+          (λ p. let q = eqb-false (writableOf w) 1 p in rw (p, eq-eqb (writableOf w) 0 (omega (arith, q))))
+
+  outer-at : (c : ℕ) → 2 ≤ live t → holdingAt (stateIn e t bodies .domains) (length (stateIn e t bodies .domains) - 1) c ≡ heldIn e t bodies (parent (live t)) c
+  outer-at c deep = ap (λ (d : ℕ). holdingAt (stateIn e t bodies .domains) (d - 1) c) (domains-count e t bodies) ∙ state-holding e t bodies (parent (live t)) c (omega arith) (omega arith)
+
+  pub outer-held : (c : ℕ) → isHeld (holdingAt (stateIn e t bodies .domains) (length (stateIn e t bodies .domains) - 1) c) ≡ parentHas e t c
+  outer-held c =
+      by-le 2 (live t)
+      (λ deep. ap isHeld (outer-at c deep) ∙ held-holds e t bodies (parent (live t)) c ∙ rw (le-leb 2 (live t) deep))
+      (λ flat.
+      let z : length (stateIn e t bodies .domains) - 1 ≡ 0 = omega (arith, domains-count e t bodies) in
+      ap (λ (d : ℕ). isHeld (holdingAt (stateIn e t bodies .domains) d c)) z ∙ ap isHeld (state-zero e t bodies c) ∙ rw (lt-leb 2 (live t) flat))
+
+  pub outer-value : (c : ℕ) (v : List ℕ) → parentHas e t c ≡ true
+      → valueOr v (holdingAt (stateIn e t bodies .domains) (length (stateIn e t bodies .domains) - 1) c) ≡ valueIn e t bodies (parent (live t)) c
+  unfolding heldIn
+  outer-value c v h =
+      let p = and-split (leb 2 (live t)) (holdsIn e t (parent (live t)) c) h in
+      ap (valueOr v) (outer-at c (leb-true 2 (live t) (p .0))) ∙ rw (p .1)
+
+  -- ---- numbers
+
+  module _ (base n : ℕ) where
+    pub newly-is : newlyHeld base n (stateIn e t bodies) ≡ count n (isNew e t base)
+    newly-is = count-ext n _ (isNew e t base) (λ j h. ap not (inner-held (base + j)))
+
+    pub relabelled-is : (l : ℕ) → l ≤ 1 → relabelled base n (labelNumbered l) (stateIn e t bodies)
+        ≡ count n (λ j. holdsIn e t (live t) (base + j) && (eqb l 1 && eqb (writableOf (word1 e t (findIn e t (live t) (base + j)))) 0))
+    relabelled-is l small =
+        by-bool (eqb l 1)
+        (λ p. rw p (count-ext n _ _ (λ j h. inner-only (base + j))))
+        (λ p. rw p (sym (count-none n _ (λ j h. by-bool (holdsIn e t (live t) (base + j)) (λ q. rw q) (λ q. rw q)))))
+
+-- ---- how many bytes and words
+
+module _ (memory bodies t : List ℕ) (base n k l : ℕ) (r : Ready memory bodies t base n k l) where
+  abbrev e : ℕ
+  e = slotsOf (length t)
+
+  abbrev up : ℕ → Bool
+  up i = rises (live t) base n l (word1 (slotsOf (length t)) t i)
+
+  right : Rule (cellsOf (length memory)) (slotsOf (length t)) (cellsOf (length bodies)) t
+  right = table-right memory bodies t (r .store)
+
+  changed-is : (i : ℕ) → isChanged (chosen (choice memory bodies t base n k l r) l i) ≡ (choice memory bodies t base n k l r .taken i || rises (live t) base n l (word1 (slotsOf (length t)) t i))
+  unfolding chosen raiseChange
+  changed-is i =
+      by-bool (choice memory bodies t base n k l r .taken i) (λ p. rw p)
+      (λ p. by-bool (up i) (λ q. rw (p, q)) (λ q. rw (p, q)))
+
+  raised-many : count (slotsOf (length t)) (λ i. rises (live t) base n l (word1 (slotsOf (length t)) t i)) ≡ relabelled base n (labelNumbered l) (stateIn (slotsOf (length t)) t bodies)
+  raised-many =
+      let P : ℕ → Bool = λ w. inRange base n (cellOf w) && (eqb l 1 && eqb (writableOf w) 0) in
+      let Q : ℕ → Bool = λ c. holdsIn e t (live t) c && (eqb l 1 && eqb (writableOf (word1 e t (findIn e t (live t) c))) 0) in
+      count-entries (cellsOf (length memory)) e (cellsOf (length bodies)) t right (live t) (r .inner) P
+      ∙ count-ext (cellsOf (length memory)) (λ c. holdsIn e t (live t) c && P (word1 e t (findIn e t (live t) c))) (λ c. inRange base n c && Q c)
+      (λ c h.
+      by-bool (holdsIn e t (live t) c)
+      (λ p. let hit = find-hit e t (live t) c (holds-found e t (live t) c p) in rw (p, hit .1))
+      (λ p. rw p (by-bool (inRange base n c) (λ q. rw q) (λ q. rw q))))
+      ∙ count-range base Q (cellsOf (length memory)) n (r .range)
+      ∙ sym (relabelled-is e t bodies (r .inner) base n l (r .label))
+
+  pub words-many : length (addWords (cellsOf (length bodies)) t base n k l)
+      ≡ 2 * (newlyHeld base n (stateIn (slotsOf (length t)) t bodies) + relabelled base n (labelNumbered l) (stateIn (slotsOf (length t)) t bodies))
+  words-many =
+      ap length (words-chosen memory bodies t base n k l r)
+      ∙ changes-count e (chosen (choice memory bodies t base n k l r) l)
+      ∙ ap (λ (x : ℕ). 2 * x)
+      (count-ext e (λ i. isChanged (chosen (choice memory bodies t base n k l r) l i)) (λ i. choice memory bodies t base n k l r .taken i || up i) (λ i h. changed-is i)
+      ∙ count-or e (choice memory bodies t base n k l r .taken) up
+      (λ i h p q. true≢ q (rw (choice memory bodies t base n k l r .free i h p) (rises-free (live t) base n l (r .inner))))
+      ∙ rw (taken-many memory bodies t base n k l r, raised-many, newly-is e t bodies (r .inner) base n))
+
+  pub bytes-many : length (addBytes (cellsOf (length bodies)) memory t base n k) ≡ 64 * newBodies (kindNumbered k) (newlyHeld base n (stateIn (slotsOf (length t)) t bodies))
+  bytes-many =
+      bytes-length memory bodies t base n k l r
+      ∙ rw (newly-is e t bodies (r .inner) base n)
+      (by-bool (eqb k 1)
+      (λ p. let q = eqb-true k 1 p in rw (p, ne-eqb k 0 (λ z. omega arith)) (ap (λ (x : ℕ). 64 * x) (count-none n (λ j. false) (λ i h. refl))))
+      (λ p. let q = eqb-false k 1 p in let small = r .kind in rw (p, eq-eqb k 0 (omega (arith, q)))))
+
+  -- at most as many entries change as there are
+  pub changed-few : newlyHeld base n (stateIn (slotsOf (length t)) t bodies) + relabelled base n (labelNumbered l) (stateIn (slotsOf (length t)) t bodies) ≤ slotsOf (length t)
+  changed-few =
+      let many = words-many in
+      let c = changes-count e (chosen (choice memory bodies t base n k l r) l) in
+      let w = ap length (words-chosen memory bodies t base n k l r) in
+      omega (arith, count-le e (λ i. isChanged (chosen (choice memory bodies t base n k l r) l i)))

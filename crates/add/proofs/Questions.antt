@@ -1,0 +1,122 @@
+-- Add's questions on the words are the model's on the state. Assumes nothing.
+use Prim.Native.Nat.{ℕ, zero, suc, _+_, _-_, _*_, _≤_, _<_}
+use mathlib.Core.Bool.{Bool, true, false, cond, not, _&&_, _||_}
+use mathlib.Core.List.{List}
+use mathlib.Core.Path.{_≡_, refl, sym, ap, subst, _∙_}
+use native.Mathlib.Omega.{arith}
+use borrow.Author.Tests.{eq-eqb, ne-eqb, eqb-true, eqb-false, ltb-true, leb-true, not-true}
+use lib.Dec.{leb, ltb, eqb}
+use lib.ListN.{length, getD}
+use Rattle.words.specs.Layout.{cellsOf, slotsOf}
+use Rattle.words.specs.Scan.{all, count}
+use Rattle.words.specs.Cells.{cellBytes, sameCell}
+use Rattle.words.proofs.Scan.{by-bool, and-split, true≢, all-at, all-ext}
+use Rattle.table.specs.Entry.{live, parent, holdsIn}
+use Rattle.search.specs.Search.{valueIn}
+use Rattle.search.specs.Domain.{depthNamed}
+use Rattle.search.specs.Free.{usedSlots, copies}
+use Rattle.model.specs.State.{State, Kind, copy, viaParent}
+use Rattle.model.specs.Answer.{ask}
+use Rattle.model.specs.Holdings.{Room, named, holdingAt, isHeld, isVia, valueOr, isLive, isInnermost, rangeOk, kindNumbered, newlyHeld, parentHolds, parentSame, addChecks}
+use Rattle.store.specs.State.{stateIn}
+use Rattle.store.proofs.Domains.{state-named, domains-count}
+use Rattle.add.specs.Add.{isNew, parentHas}
+use Rattle.add.proofs.Numbers.{inner-held, outer-held, outer-value, newly-is}
+
+-- a question more on both sides, where the yes of the first helps the rest
+ask-both : (a b : Bool) (q x y : ℕ) → a ≡ b → (a ≡ true → x ≡ y) → ask a q x ≡ ask b q y
+ask-both true b q x y e f = rw (← e) (f refl)
+ask-both false b q x y e f = rw (← e)
+
+twice : (b : Bool) → not (not b) ≡ b
+twice true = refl
+twice false = refl
+
+module _ (memory : List ℕ) (e : ℕ) (t bodies : List ℕ) (h base n k l m b : ℕ) where
+  abbrev s : State
+  s = stateIn e t bodies
+
+  abbrev room : Room
+  room = record { cells = m; slots = e; bodies = b; used = usedSlots e t; copies = copies e t }
+
+  -- the questions on the words, as `addCheck` has them
+  abbrev pub asked : ℕ
+  asked =
+      ask (ltb 0 (depthNamed t h)) 5
+      (ask (eqb (depthNamed t h) (live t)) 6
+      (ask (leb k 1 && leb l 1) 7
+      (ask (rangeOk m base n) 8
+      (ask (eqb k 0 || all n (λ j. not (isNew e t base j) || parentHas e t (base + j))) 11
+      (ask (eqb k 0 || all n (λ j. not (isNew e t base j) || sameCell (valueIn e t bodies (parent (live t)) (base + j)) (cellBytes memory (base + j)))) 12
+      (ask (leb (usedSlots e t + count n (isNew e t base)) e) 16
+      (ask (eqb k 1 || leb (copies e t + count n (isNew e t base)) b) 17 0)))))))
+
+  kind-zero : k ≤ 1 → eqb k 0 ≡ not (isVia (kindNumbered k))
+  kind-zero small =
+      by-bool (eqb k 1)
+      (λ p. let q = eqb-true k 1 p in rw (p, ne-eqb k 0 (λ z. omega arith)))
+      (λ p. let q = eqb-false k 1 p in rw (p, eq-eqb k 0 (omega (arith, q))))
+
+  kind-one : eqb k 1 ≡ isVia (kindNumbered k)
+  kind-one = by-bool (eqb k 1) (λ p. rw p) (λ p. rw p)
+
+  module _ (inner : 1 ≤ live t) (small : k ≤ 1) where
+    abbrev covered : ℕ → Bool
+    covered j = not (isNew e t base j) || parentHas e t (base + j)
+
+    covered-at : (j : ℕ) → covered j ≡ (isHeld (holdingAt (s .domains) (length (s .domains)) (base + j)) || isHeld (holdingAt (s .domains) (length (s .domains) - 1) (base + j)))
+    covered-at j = rw (inner-held e t bodies inner (base + j), outer-held e t bodies inner (base + j), twice (holdsIn e t (live t) (base + j)))
+
+    same-11 : (eqb k 0 || all n covered) ≡ (not (isVia (kindNumbered k)) || parentHolds base n (stateIn e t bodies))
+    same-11 = rw (kind-zero small, all-ext n covered _ (λ j q. covered-at j))
+
+    or-right : (x y : Bool) → (x || y) ≡ true → x ≡ false → y ≡ true
+    or-right true y p q = absurd (true≢ refl q)
+    or-right false y p q = p
+
+    -- of cells that are new the parent's value is asked only where the parent holds them
+    agrees-at : (j : ℕ) → covered j ≡ true
+        → (not (isNew e t base j) || sameCell (valueIn e t bodies (parent (live t)) (base + j)) (cellBytes memory (base + j)))
+        ≡ (isHeld (holdingAt (s .domains) (length (s .domains)) (base + j))
+        || sameCell (valueOr (cellBytes memory (base + j)) (holdingAt (s .domains) (length (s .domains) - 1) (base + j))) (cellBytes memory (base + j)))
+    agrees-at j c =
+        rw (inner-held e t bodies inner (base + j))
+        (by-bool (holdsIn e t (live t) (base + j))
+        (λ p. rw p)
+        (λ p.
+        let has : parentHas e t (base + j) ≡ true = or-right (not (isNew e t base j)) (parentHas e t (base + j)) c (twice (holdsIn e t (live t) (base + j)) ∙ p) in
+        rw (p, outer-value e t bodies inner (base + j) (cellBytes memory (base + j)) has)))
+
+    same-12 : (eqb k 0 || all n covered) ≡ true
+        → (eqb k 0 || all n (λ j. not (isNew e t base j) || sameCell (valueIn e t bodies (parent (live t)) (base + j)) (cellBytes memory (base + j))))
+        ≡ (not (isVia (kindNumbered k)) || parentSame memory base n (stateIn e t bodies))
+    same-12 yes11 =
+        by-bool (eqb k 0)
+        (λ p. rw (← kind-zero small, p))
+        (λ p.
+        let all11 = or-right (eqb k 0) (all n covered) yes11 p in
+        rw (← kind-zero small, p) (all-ext n _ _ (λ j q. agrees-at j (all-at n covered all11 j q))))
+
+  pub questions-same : asked ≡ addChecks room memory h base n k l (stateIn e t bodies)
+  questions-same =
+      ask-both (ltb 0 (depthNamed t h)) (isLive h s) 5 _ _ (ap (ltb 0) (sym (state-named e t bodies h)))
+      (λ q5.
+      ask-both (eqb (depthNamed t h) (live t)) (isInnermost h s) 6 _ _ (λ i. eqb (sym (state-named e t bodies h) i) (sym (domains-count e t bodies) i))
+      (λ q6.
+      let some5 = ltb-true 0 (depthNamed t h) q5 in
+      let same6 = eqb-true (depthNamed t h) (live t) q6 in
+      let inner : 1 ≤ live t = omega arith in
+      ask-both (leb k 1 && leb l 1) (leb k 1 && leb l 1) 7 _ _ refl
+      (λ q7.
+      let small : k ≤ 1 = leb-true k 1 (and-split (leb k 1) (leb l 1) q7 .0) in
+      ask-both (rangeOk m base n) (rangeOk m base n) 8 _ _ refl
+      (λ q8.
+      ask-both (eqb k 0 || all n (covered inner small)) (not (isVia (kindNumbered k)) || parentHolds base n s) 11 _ _ (same-11 inner small)
+      (λ q11.
+      ask-both _ (not (isVia (kindNumbered k)) || parentSame memory base n s) 12 _ _ (same-12 inner small q11)
+      (λ q12.
+      ask-both (leb (usedSlots e t + count n (isNew e t base)) e) (leb (usedSlots e t + newlyHeld base n s) e) 16 _ _ (ap (λ (x : ℕ). leb (usedSlots e t + x) e) (sym (newly-is e t bodies inner base n)))
+      (λ q16.
+      ask-both (eqb k 1 || leb (copies e t + count n (isNew e t base)) b) (isVia (kindNumbered k) || leb (copies e t + newlyHeld base n s) b) 17 0 0
+      (λ i. kind-one i || leb (copies e t + sym (newly-is e t bodies inner base n) i) b)
+      (λ q17. refl))))))))

@@ -1,0 +1,281 @@
+-- Add's two walks, turn by turn: over the range for the bytes, and over the entries for the words. Assumes nothing.
+use Prim.Native.Nat.{ℕ, zero, suc, _+_, _-_, _*_, _≤_, _<_, min}
+use mathlib.Core.Bool.{Bool, true, false, cond, not, _&&_, _||_}
+use mathlib.Core.List.{List, [], _∷_, _++_}
+use mathlib.Core.Path.{_≡_, refl, sym, ap, subst, _∙_}
+use native.Mathlib.Nat.{not-suc-le-zero}
+use native.Mathlib.Numerals.{add-one}
+use native.Mathlib.Omega.{arith}
+use borrow.Author.Tests.{eq-eqb, ne-eqb, eqb-true, eqb-false, lt-ltb, le-ltb, ltb-true}
+use lib.Dec.{leb, ltb, eqb}
+use lib.ListN.{length, getD, take, length-append}
+use Rattle.words.specs.Layout.{cellAt, cellsOf, slotsOf, pairsAt}
+use Rattle.words.specs.Scan.{count, nth}
+use Rattle.words.specs.Cells.{cellPlan}
+use Rattle.words.specs.Stores.{Store, _≔_, store, stores, gather}
+use Rattle.words.specs.Journal.{pairPlans}
+use Rattle.words.proofs.Scan.{by-bool, by-le, true≢, count-more, count-ext}
+use Rattle.words.proofs.Nth.{nth-from, nth-below, nth-holds, nth-rank, nth-ext, count-mono, count-below}
+use Rattle.words.proofs.Plans.{stores-none, length-cellPlan}
+use Rattle.words.proofs.Gather.{gather-turn, gather-length}
+use Rattle.table.specs.Entry.{live, word1, word2}
+use Rattle.table.specs.Changes.{Change, keep, put, entryStores, entryChanges}
+use Rattle.search.specs.Free.{slotFree, bodyFree, unmarkedFrom}
+use Rattle.search.proofs.From.{firstFrom, from-hit, from-passed, from-left, from-le, from-ge}
+use Rattle.add.specs.Add.{isNew, addBytes, addWords, addChange}
+use Rattle.add.specs.Walking.{unheld, spare, nextUnheld, copyBytes, wordOf, rises, bodyFrom, takeChange, raiseChange, walkChange, takenAt, takenFrom, listChange}
+
+-- ---- a cursor over the numbers that pass a test, r of which it has passed
+
+module _ (f : ℕ → Bool) (n at r : ℕ) (low : at ≤ n) (passed : count at f ≡ r) where
+  at-nth : firstFrom n at f ≡ nth n f r
+  at-nth = sym (nth-from n f r at passed low)
+
+  module _ (left : r < count n f) where
+    next-below : firstFrom n at f < n
+    next-below = rw at-nth (nth-below n f r left)
+
+    next-passed : count (firstFrom n at f + 1) f ≡ r + 1
+    next-passed = rw at-nth (count-more (nth n f r) f ∙ rw (nth-holds n f r left, nth-rank n f r left))
+
+  -- there is one left exactly where one is found
+  next-left : firstFrom n at f < n → r < count n f
+  next-left h = omega (arith, from-passed n at f h, count-mono f (suc (firstFrom n at f)) n h)
+
+  next-none : n ≤ firstFrom n at f → count n f ≤ r
+  next-none h = by-le (count n f) r (λ l. l) (λ l. absurd (above (from-left n at f low (omega arith)) h))
+    where
+      above : {a b : ℕ} → a < b → b ≤ a → ⊥
+      above p q = omega arith
+
+-- the bodies without a mark
+module _ (used : List ℕ) (b from r : ℕ) (low : from ≤ b) (passed : count from (spare used) ≡ r) where
+  pub body-at : unmarkedFrom b used from ≡ nth b (spare used) r
+  unfolding unmarkedFrom
+  body-at = at-nth (spare used) b from r low passed
+
+  module _ (left : r < count b (spare used)) where
+    pub body-below : unmarkedFrom b used from < b
+    unfolding unmarkedFrom
+    body-below = next-below (spare used) b from r low passed left
+
+    pub body-passed : count (unmarkedFrom b used from + 1) (spare used) ≡ r + 1
+    unfolding unmarkedFrom
+    body-passed = next-passed (spare used) b from r low passed left
+
+-- the body of a new entry, or the number of bodies where none is left; 0 for via parent
+pub body-small : (used : List ℕ) (b k from : ℕ) → (k ≡ 0 → from ≤ b) → bodyFrom used b k from ≤ b
+unfolding unmarkedFrom
+body-small used b k from low =
+    by-bool (eqb k 0)
+    (λ z. rw z (from-le b from (spare used) (low (eqb-true k 0 z))))
+    (λ z. rw z (omega arith))
+
+-- the cells of the range without a mark
+module _ (held : List ℕ) (base n at r : ℕ) (low : at ≤ n) (passed : count at (unheld held base) ≡ r) where
+  cell-at : nextUnheld held base n at ≡ nth n (unheld held base) r
+  unfolding nextUnheld
+  cell-at = at-nth (unheld held base) n at r low passed
+
+  cell-left : nextUnheld held base n at < n → r < count n (unheld held base)
+  unfolding nextUnheld
+  cell-left h = next-left (unheld held base) n at r low passed h
+
+  cell-none : n ≤ nextUnheld held base n at → count n (unheld held base) ≤ r
+  unfolding nextUnheld
+  cell-none h = next-none (unheld held base) n at r low passed h
+
+  cell-passed : r < count n (unheld held base) → count (nextUnheld held base n at + 1) (unheld held base) ≡ r + 1
+  unfolding nextUnheld
+  cell-passed h = next-passed (unheld held base) n at r low passed h
+
+-- ---- the bytes
+
+module _ (b : ℕ) (memory held used : List ℕ) (base n : ℕ) where
+  -- the stores of the j-th cell
+  abbrev pub copyPlanOf : ℕ → List Store
+  copyPlanOf j = cond (unheld held base j) (cellPlan memory (base + j) (nth b (spare used) (count j (unheld held base)))) []
+
+  pub copy-bytes : (k : ℕ) → k ≡ 0 → copyBytes b memory held used base n k ≡ gather n copyPlanOf
+  unfolding copyBytes
+  copy-bytes k z = rw (eq-eqb k 0 z)
+
+  gather-none : (x : ℕ) → gather {A = Store} x (λ j. []) ≡ []
+  gather-none zero = refl
+  gather-none (suc x) = rw (gather-none x)
+
+  pub copy-none : (k : ℕ) → (k ≡ 0 → ⊥) → copyBytes b memory held used base n k ≡ []
+  unfolding copyBytes
+  copy-none k z = rw (ne-eqb k 0 z) (gather-none n)
+
+  module _ (room : count n (unheld held base) ≤ count b (spare used)) (j from : ℕ) (l : j < n) (low : from ≤ b)
+      (passed : count from (spare used) ≡ count j (unheld held base)) where
+    left : unheld held base j ≡ true → count j (unheld held base) < count b (spare used)
+    left h = omega (arith, count-below (unheld held base) j n l h)
+
+    -- there is a body for a new cell
+    pub copy-room : unheld held base j ≡ true → unmarkedFrom b used from < b
+    copy-room h = body-below used b from (count j (unheld held base)) low passed (left h)
+
+    pub copy-plan : cond (unheld held base j) (cellPlan memory (base + j) (unmarkedFrom b used from)) [] ≡ copyPlanOf j
+    copy-plan = rw (body-at used b from (count j (unheld held base)) low passed)
+
+    pub copy-length : 64 * cond (unheld held base j) 1 0 ≡ length (copyPlanOf j)
+    copy-length =
+        by-bool (unheld held base j)
+        (λ h. rw h (sym (length-cellPlan memory (base + j) (nth b (spare used) (count j (unheld held base))))))
+        (λ h. rw h)
+
+    pub copy-next : (r : ℕ) → r ≡ cond (unheld held base j) (unmarkedFrom b used from + 1) from
+        → (r ≤ b) × (count r (spare used) ≡ count (j + 1) (unheld held base))
+    copy-next r q =
+        by-bool (unheld held base j)
+        (λ h.
+        let e : r ≡ unmarkedFrom b used from + 1 = q ∙ rw h in (
+          rw e (omega (arith, copy-room h)),
+          rw (e, body-passed used b from (count j (unheld held base)) low passed (left h), count-more j (unheld held base), h),
+        ))
+        (λ h.
+        let e : r ≡ from = q ∙ rw h in
+        (rw e low, rw (e, count-more j (unheld held base), h) passed))
+
+-- ---- the words
+
+-- i entries are passed: as many cells and bodies are used as free slots are passed, while there are new cells
+pub record Stands (held used : List ℕ) (e b : ℕ) (t : List ℕ) (base n k i at from : ℕ) : Type 0 where
+  pub cell : at ≤ n
+  pub cells : count at (unheld held base) ≡ min (count i (slotFree e t)) (count n (unheld held base))
+  pub body : k ≡ 0 → from ≤ b
+  pub bodies : k ≡ 0 → count from (spare used) ≡ min (count i (slotFree e t)) (count n (unheld held base))
+
+module _ (held used : List ℕ) (e b : ℕ) (t : List ℕ) (base n k l : ℕ) where
+  pub stands-start : Stands held used e b t base n k 0 0 0
+  unfolding count
+  stands-start = record { cell = omega arith; cells = omega arith; body = λ z. omega arith; bodies = λ z. omega arith }
+
+  module _ (room : k ≡ 0 → count n (unheld held base) ≤ count b (spare used)) (i at from : ℕ) (s : Stands held used e b t base n k i at from) where
+    abbrev rank : ℕ
+    rank = count i (slotFree e t)
+
+    abbrev many : ℕ
+    many = count n (unheld held base)
+
+    module _ (free : slotFree e t i ≡ true) where
+      rank-next : count (i + 1) (slotFree e t) ≡ count i (slotFree e t) + 1
+      rank-next = count-more i (slotFree e t) ∙ rw free
+
+      -- a new cell is left
+      module _ (more : nextUnheld held base n at < n) where
+        ranked : count i (slotFree e t) < count n (unheld held base)
+        ranked = omega (arith, cell-left held base n at _ (s .cell) (s .cells) more)
+
+        here : min (count i (slotFree e t)) (count n (unheld held base)) ≡ count i (slotFree e t)
+        here = omega (arith, ranked)
+
+        cells-here : count at (unheld held base) ≡ count i (slotFree e t)
+        cells-here = s .cells ∙ here
+
+        body-is : bodyFrom used b k from ≡ cond (eqb k 0) (nth b (spare used) (count i (slotFree e t))) 0
+        body-is =
+            by-bool (eqb k 0)
+            (λ z. let q = eqb-true k 0 z in rw (z, body-at used b from (count i (slotFree e t)) (s .body q) (s .bodies q ∙ here)))
+            (λ z. rw z)
+
+        take-more : walkChange held used b (live t) base n k l at from (word1 e t i) (word2 e t i) ≡ listChange held used e b t base n k l i
+        unfolding walkChange takeChange listChange
+        take-more =
+            rw (
+              free,
+              lt-ltb (nextUnheld held base n at) n more,
+              lt-ltb (count i (slotFree e t)) (count n (unheld held base)) ranked,
+              cell-at held base n at (count i (slotFree e t)) (s .cell) cells-here,
+              body-is,
+            )
+
+        stands-more : Stands held used e b t base n k (i + 1) (nextUnheld held base n at + 1) (bodyFrom used b k from + 1)
+        stands-more =
+            let step : min (count (i + 1) (slotFree e t)) (count n (unheld held base)) ≡ count i (slotFree e t) + 1 = omega (arith, rank-next, ranked) in
+            record {
+              cell = omega (arith, more);
+              cells = cell-passed held base n at (count i (slotFree e t)) (s .cell) cells-here ranked ∙ sym step;
+              body = λ z. rw (eq-eqb k 0 z) (omega (arith, body-below used b from (count i (slotFree e t)) (s .body z) (s .bodies z ∙ here) (omega (arith, room z, ranked))));
+              bodies = λ z. rw (eq-eqb k 0 z) (body-passed used b from (count i (slotFree e t)) (s .body z) (s .bodies z ∙ here) (omega (arith, room z, ranked)) ∙ sym step);
+            }
+
+      -- none is left
+      module _ (over : n ≤ nextUnheld held base n at) where
+        all-taken : count n (unheld held base) ≤ count i (slotFree e t)
+        all-taken = omega (arith, cell-none held base n at _ (s .cell) (s .cells) over)
+
+        take-none : walkChange held used b (live t) base n k l at from (word1 e t i) (word2 e t i) ≡ listChange held used e b t base n k l i
+        unfolding walkChange takeChange listChange
+        take-none =
+            rw (free, le-ltb (nextUnheld held base n at) n over, le-ltb (count i (slotFree e t)) (count n (unheld held base)) all-taken)
+
+        stands-none : Stands held used e b t base n k (i + 1) n from
+        stands-none =
+            record {
+              cell = omega arith;
+              cells = omega (arith, rank-next, all-taken);
+              body = s .body;
+              bodies = λ z. omega (arith, s .bodies z, rank-next, all-taken);
+            }
+
+      pub taken-change : walkChange held used b (live t) base n k l at from (word1 e t i) (word2 e t i) ≡ listChange held used e b t base n k l i
+      taken-change = by-le n (nextUnheld held base n at) take-none take-more
+
+      pub taken-stands : Stands held used e b t base n k (i + 1) (takenAt held base n at) (takenFrom held used b base n k at from)
+      taken-stands =
+          by-le n (nextUnheld held base n at)
+          (λ h. rw (le-ltb (nextUnheld held base n at) n h) (stands-none h))
+          (λ h. rw (lt-ltb (nextUnheld held base n at) n h) (stands-more h))
+
+    module _ (used-slot : slotFree e t i ≡ false) where
+      pub kept-change : walkChange held used b (live t) base n k l at from (word1 e t i) (word2 e t i) ≡ listChange held used e b t base n k l i
+      unfolding walkChange listChange
+      kept-change = rw used-slot
+
+      pub kept-stands : Stands held used e b t base n k (i + 1) at from
+      kept-stands =
+          let same : count (i + 1) (slotFree e t) ≡ count i (slotFree e t) = count-more i (slotFree e t) ∙ rw used-slot in
+          record { cell = s .cell; cells = rw same (s .cells); body = s .body; bodies = λ z. rw same (s .bodies z) }
+
+    -- one entry
+    pub walk-change : walkChange held used b (live t) base n k l at from (word1 e t i) (word2 e t i) ≡ listChange held used e b t base n k l i
+    walk-change = by-bool (slotFree e t i) taken-change kept-change
+
+    pub walk-stands : Stands held used e b t base n k (i + 1) (cond (eqb (word1 e t i) 0) (takenAt held base n at) at)
+        (cond (eqb (word1 e t i) 0) (takenFrom held used b base n k at from) from)
+    walk-stands = by-bool (slotFree e t i) (λ h. rw h (taken-stands h)) (λ h. rw h (kept-stands h))
+
+  pub changes-small : (c : Change) (i : ℕ) → length (entryStores e i c) ≤ 2
+  changes-small keep i = omega arith
+  changes-small (put w v) i = omega arith
+
+-- ---- right marks: the walks' plans are the call's
+
+pub gather-ext : {A : Type 0} (n : ℕ) (f g : ℕ → List A) → ((i : ℕ) → i < n → f i ≡ g i) → gather n f ≡ gather n g
+gather-ext zero f g h = refl
+gather-ext (suc n) f g h = rw (gather-ext n f g (λ i l. h i (omega arith)), h n (omega arith))
+
+module _ (held used : List ℕ) (b : ℕ) (t : List ℕ) (base n k l : ℕ)
+    (new : (j : ℕ) → j < n → unheld held base j ≡ isNew (slotsOf (length t)) t base j)
+    (free : (x : ℕ) → x < b → spare used x ≡ bodyFree (slotsOf (length t)) t x) where
+  same-count : (j : ℕ) → j ≤ n → count j (unheld held base) ≡ count j (isNew (slotsOf (length t)) t base)
+  same-count j h = count-ext j (unheld held base) (isNew (slotsOf (length t)) t base) (λ i l. new i (omega arith))
+
+  pub bytes-are : (memory : List ℕ) → copyBytes b memory held used base n k ≡ addBytes b memory t base n k
+  unfolding copyBytes addBytes
+  bytes-are memory =
+      gather-ext n _ _ (λ j l.
+      rw (new j l, same-count j (omega arith), nth-ext b (spare used) (bodyFree (slotsOf (length t)) t) (count j (isNew (slotsOf (length t)) t base)) free))
+
+  pub words-are : entryChanges (slotsOf (length t)) (listChange held used (slotsOf (length t)) b t base n k l) ≡ addWords b t base n k l
+  unfolding listChange raiseChange addWords addChange
+  words-are =
+      gather-ext (slotsOf (length t)) _ _ (λ i l.
+      rw (
+        same-count n (omega arith),
+        nth-ext n (unheld held base) (isNew (slotsOf (length t)) t base) (count i (slotFree (slotsOf (length t)) t)) new,
+        nth-ext b (spare used) (bodyFree (slotsOf (length t)) t) (count i (slotFree (slotsOf (length t)) t)) free,
+      ))

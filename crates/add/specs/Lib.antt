@@ -1,0 +1,3 @@
+-- The definitions that the contracts of `add` cite.
+pub mod Add
+pub mod Walking
