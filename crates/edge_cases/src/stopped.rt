@@ -33,7 +33,7 @@ struct Run {
     found: Found,
 }
 
-fn is_done(answer: Answer) -> bool {
+pub fn is_done(answer: Answer) -> bool {
     match answer {
         Answer::Refused(_) => false,
         Answer::Done {
@@ -45,7 +45,7 @@ fn is_done(answer: Answer) -> bool {
 }
 
 // The number of the question that refused, or 0.
-fn refusal_of(answer: Answer) -> u32 {
+pub fn refusal_of(answer: Answer) -> u32 {
     match answer {
         Answer::Refused(question) => question,
         Answer::Done {
@@ -56,7 +56,7 @@ fn refusal_of(answer: Answer) -> u32 {
     }
 }
 
-fn steps_of(answer: Answer) -> usize {
+pub fn steps_of(answer: Answer) -> usize {
     match answer {
         Answer::Refused(_) => 0,
         Answer::Done { steps, handle: _ } => steps,

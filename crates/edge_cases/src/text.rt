@@ -10,6 +10,10 @@ pub fn say_number(n: usize) {
     io::print_decimal(1, n as u64);
 }
 
+pub fn say_byte(byte: u8) {
+    say_number(byte as usize);
+}
+
 // A number of things, as "1 step" and "19 steps".
 pub fn say_count(n: usize, thing: &[u8]) {
     say_number(n);

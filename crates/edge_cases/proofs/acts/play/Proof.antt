@@ -1,0 +1,64 @@
+-- `edge_cases::acts::play` meets its contract: the loop counts to 10, and the buffers keep their lengths.
+use borrow.Author.Needs.{needs}
+use mathlib.Core.Path.{_≡_}
+use Prim.Native.Nat.{_≤_, _-_}
+use lib.ListN.{length}
+use Rattle.edge_cases.proofs.acts.play.Statement.{statement}
+use Rattle.edge_cases.proofs.acts.play.Tie as tie
+
+abbrev Inv-loop : tie.InvT-loop
+Inv-loop memory₀ bodies₀ table₀ acts i₀ memory bodies table i = (i ≤ 10) × (length memory ≡ length memory₀) × (length bodies ≡ length bodies₀) × (length table ≡ length table₀)
+
+abbrev μ-loop : tie.MeasureT-loop
+μ-loop memory₀ bodies₀ table₀ acts i₀ memory bodies table i = 10 - i
+
+loop-holds : tie.Need-loop-holds Inv-loop μ-loop
+loop-holds c = search needs
+
+mul-show-act : tie.Need-mul-show-act Inv-loop μ-loop
+mul-show-act c = search needs
+
+array-copy-out-show-act : tie.Need-array-copy-out-show-act Inv-loop μ-loop
+array-copy-out-show-act c = search needs
+
+show-act-requires : tie.Need-show-act-requires Inv-loop μ-loop
+show-act-requires c κs = search needs
+
+add-i : tie.Need-add-i Inv-loop μ-loop
+add-i c = search needs
+
+loop-less : tie.Need-loop-less Inv-loop μ-loop
+loop-less c = search needs
+
+loop-again : tie.Need-loop-again Inv-loop μ-loop
+loop-again c = search needs
+
+same-length : tie.Need-same-length Inv-loop μ-loop
+same-length c = search needs
+
+same-length-2 : tie.Need-same-length-2 Inv-loop μ-loop
+same-length-2 c = search needs
+
+same-length-3 : tie.Need-same-length-3 Inv-loop μ-loop
+same-length-3 c = search needs
+
+returns : tie.Need-returns Inv-loop μ-loop
+returns c = search needs
+
+pub play-spec : {M : Type 1} → statement M
+play-spec =
+    tie.close
+    (tie.spec
+    Inv-loop
+    μ-loop
+    loop-holds
+    mul-show-act
+    array-copy-out-show-act
+    show-act-requires
+    add-i
+    loop-less
+    loop-again
+    same-length
+    same-length-2
+    same-length-3
+    returns)
