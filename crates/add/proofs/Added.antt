@@ -1,45 +1,47 @@
--- Add, from its stores to what it means and to what opening finds after every cut of it. Assumes nothing.
-use Prim.Native.Nat.{ℕ, zero, suc, _+_, _-_, _*_, _≤_, _<_}
-use mathlib.Core.Bool.{Bool, true, false, cond}
-use mathlib.Core.List.{List, []}
-use mathlib.Core.Option.{Option, none, some}
+-- Add, from its stores to what it means and to what opening finds after every cut of it. The laws on stores hold for any choice of different
+-- free slots and bodies; the call takes the lowest ones. Assumes nothing.
+use Prim.Native.Nat.{ℕ, suc, _+_, _-_, _*_, _≤_, _<_}
+use mathlib.Core.Bool.{true}
+use mathlib.Core.List.{List}
+use mathlib.Core.Option.{Option}
 use mathlib.Core.Path.{_≡_, refl, sym, ap, subst, _∙_}
 use native.Mathlib.Omega.{arith}
 use borrow.Author.Tests.{eq-eqb, ne-eqb}
 use lib.Dec.{eqb}
-use lib.ListN.{length, getD, take, length-take}
+use lib.ListN.{length, getD, take}
 use lib.Seq.{getD-take}
-use Rattle.words.specs.Layout.{liveAt, nextAt, handleAt, firstAt, secondAt, pairsAt, slotsOf, cellsOf, maxPairs, maxLive}
+use Rattle.words.specs.Layout.{liveAt, nextAt, handleAt, firstAt, secondAt, pairsAt, slotsOf, cellsOf, maxPairs}
 use Rattle.words.specs.Stores.{Store, stores}
-use Rattle.words.specs.Journal.{namesOk, journal, openings}
+use Rattle.words.specs.Journal.{pending, namesOk, journal, openings}
 use Rattle.words.proofs.Scan.{by-le, by-bool}
 use Rattle.words.proofs.Plans.{Each, take-stores}
-use Rattle.table.specs.Entry.{live, nextHandle, handle, word1, word2}
+use Rattle.table.specs.Entry.{live}
 use Rattle.table.specs.Changes.{entryChanges}
 use Rattle.table.proofs.Rule.{Rule, ok-facts, ok-make}
 use Rattle.table.proofs.Agree.{ok-agree}
-use Rattle.search.proofs.Value.{Copy}
 use Rattle.model.specs.State.{State}
-use Rattle.model.specs.Answer.{Report, refused, done, ended, stepsOf, View, view}
+use Rattle.model.specs.Answer.{Report, refused, done, ended, stepsOf, view}
 use Rattle.model.specs.Calls.{viewed, change, orRefuse}
 use Rattle.model.specs.Holdings.{kindNumbered, labelNumbered, newBodies, newlyHeld, relabelled, addChecks, addTo, addEffect}
 use Rattle.store.specs.Outcome.{Buffers, buffers, changePlan, outcome, leaves, perform, unless}
 use Rattle.store.specs.Checks.{storeCheck}
-use Rattle.store.specs.State.{stateIn, stateOf, standing}
+use Rattle.store.specs.State.{stateIn, stateOf}
 use Rattle.store.specs.Calls.{openCall}
 use Rattle.store.specs.Means.{orRefused, callMeans, roomOf}
 use Rattle.store.proofs.Checks.{orElse-go, orElse-stop}
 use Rattle.store.proofs.Outcome.{refuses}
 use Rattle.store.proofs.State.{state-kept}
-use Rattle.store.proofs.Means.{seenOf, by-check, store-state, store-standing, store-rule}
+use Rattle.store.proofs.Means.{seenOf, by-check, store-state, store-standing}
 use Rattle.store.proofs.Changes.{Spares, spared, change-performed, change-seen, change-unmade, change-reopened}
+use Rattle.store.proofs.Pending.{pendingAfter, afterPending, performed-pending, call-pending}
 use Rattle.add.specs.Add.{addCheck, addBytes, addWords, addCall, addMeans}
 use Rattle.add.specs.Walking.{Ready}
 use Rattle.add.proofs.Asking.{lengths, table-right, add-ready}
-use Rattle.add.proofs.Choices.{chosen, rule-after}
+use Rattle.add.proofs.Choices.{Choice, chosen, rule-after}
 use Rattle.add.proofs.Meaning.{state-after}
 use Rattle.add.proofs.Passing.{changes-ok, changes-below}
-use Rattle.add.proofs.Chosen.{choice, words-chosen, choice-rests, bytes-filled, bytes-spare}
+use Rattle.add.proofs.Filling.{bytesWith, rests-with, bytes-filled, bytes-spare}
+use Rattle.add.proofs.Chosen.{lowest, words-chosen, bytes-chosen}
 use Rattle.add.proofs.Numbers.{words-many, bytes-many, changed-few}
 use Rattle.add.proofs.Questions.{asked, questions-same}
 
@@ -59,17 +61,18 @@ module _ (memory bodies t : List ℕ) (yes : storeCheck (length memory) (length 
       (λ i h. head-word (firstAt (slotsOf (length t)) i) (omega arith)) (λ i c. let h = c .slot in head-word (secondAt (slotsOf (length t)) i) (omega arith)) (λ i c. refl)
       (head-word liveAt (omega arith)) (head-word nextAt (omega arith)) (λ x h. let top = table-right memory bodies t yes .live in head-word (handleAt x) (omega arith))
 
--- ---- the call, once no question refuses it
+-- ---- the call, once no question refuses it, for any choice of places
 
-module _ (memory bodies t : List ℕ) (base n k l : ℕ) (r : Ready memory bodies t base n k l) where
+module _ (memory bodies t : List ℕ) (base n k l : ℕ) (r : Ready memory bodies t base n k l)
+    (choice : Choice (slotsOf (length t)) (cellsOf (length bodies)) t base n k) where
   abbrev e : ℕ
   e = slotsOf (length t)
 
-  abbrev ws : List Store
-  ws = addWords (cellsOf (length bodies)) t base n k l
+  abbrev pub wordsWith : List Store
+  wordsWith = entryChanges (slotsOf (length t)) (chosen choice l)
 
   abbrev bytes : List Store
-  bytes = addBytes (cellsOf (length bodies)) memory t base n k
+  bytes = bytesWith choice memory
 
   abbrev before : State
   before = stateIn (slotsOf (length t)) t bodies
@@ -80,99 +83,164 @@ module _ (memory bodies t : List ℕ) (base n k l : ℕ) (r : Ready memory bodie
   small : cellsOf (length memory) ≤ 65536
   small = lengths memory bodies t (r .store) .cells-high
 
-  pub words-names : namesOk (pairsAt (slotsOf (length t))) 0 (addWords (cellsOf (length bodies)) t base n k l) ≡ true
-  words-names = rw (words-chosen memory bodies t base n k l r) (changes-ok e (chosen (choice memory bodies t base n k l r) l))
+  pub with-names : namesOk (pairsAt (slotsOf (length t))) 0 wordsWith ≡ true
+  with-names = changes-ok e (chosen choice l)
 
-  words-below : Each (λ s. s .at < pairsAt (slotsOf (length t))) (addWords (cellsOf (length bodies)) t base n k l)
-  words-below = rw (words-chosen memory bodies t base n k l r) (changes-below e (chosen (choice memory bodies t base n k l r) l))
+  below : Each (λ s. s .at < pairsAt (slotsOf (length t))) wordsWith
+  below = changes-below e (chosen choice l)
 
-  words-few : length (addWords (cellsOf (length bodies)) t base n k l) ≤ maxPairs (slotsOf (length t))
-  words-few = rw (words-many memory bodies t base n k l r) (omega (arith, changed-few memory bodies t base n k l r))
+  with-few : length wordsWith ≤ maxPairs (slotsOf (length t))
+  with-few = rw (words-many memory bodies t base n k l r choice) (omega (arith, changed-few memory bodies t base n k l r choice))
 
-  rule-whole : Rule (cellsOf (length memory)) (slotsOf (length t)) (cellsOf (length bodies)) (stores (addWords (cellsOf (length bodies)) t base n k l) t)
+  rule-whole : Rule (cellsOf (length memory)) (slotsOf (length t)) (cellsOf (length bodies)) (stores wordsWith t)
   rule-whole =
-      rw (words-chosen memory bodies t base n k l r)
-      (rule-after (cellsOf (length memory)) e (cellsOf (length bodies)) t (table-right memory bodies t (r .store)) long base n k l (r .inner) (r .kind) (r .label) (r .range) small
-      (choice memory bodies t base n k l r) (choice-rests memory bodies t base n k l r))
+      rule-after (cellsOf (length memory)) e (cellsOf (length bodies)) t (table-right memory bodies t (r .store)) long base n k l (r .inner) (r .kind) (r .label) (r .range) small
+      choice (rests-with memory bodies t base n k l r choice)
 
   -- the table that opening finds: its words in front of the pairs
-  cut-is : stores (addWords (cellsOf (length bodies)) t base n k l) (take (pairsAt (slotsOf (length t))) t) ≡ take (pairsAt (slotsOf (length t))) (stores (addWords (cellsOf (length bodies)) t base n k l) t)
-  cut-is = sym (take-stores ws t (pairsAt e) words-below)
+  head-after : (x : ℕ) → x < pairsAt (slotsOf (length t)) → getD (stores wordsWith (take (pairsAt (slotsOf (length t))) t)) x 0 ≡ getD (stores wordsWith t) x 0
+  head-after x h = ap (λ (u : List ℕ). getD u x 0) (sym (take-stores wordsWith t (pairsAt e) below)) ∙ getD-take (pairsAt e) (stores wordsWith t) x 0 h
 
-  head-after : (x : ℕ) → x < pairsAt (slotsOf (length t)) → getD (stores (addWords (cellsOf (length bodies)) t base n k l) (take (pairsAt (slotsOf (length t))) t)) x 0 ≡ getD (stores (addWords (cellsOf (length bodies)) t base n k l) t) x 0
-  head-after x h = ap (λ (u : List ℕ). getD u x 0) cut-is ∙ getD-take (pairsAt e) (stores ws t) x 0 h
-
-  pub new-rule : Rule (cellsOf (length memory)) (slotsOf (length t)) (cellsOf (length bodies)) (stores (addWords (cellsOf (length bodies)) t base n k l) (take (pairsAt (slotsOf (length t))) t))
-  new-rule =
+  -- the new table is right
+  pub with-rule : Rule (cellsOf (length memory)) (slotsOf (length t)) (cellsOf (length bodies)) (stores wordsWith (take (pairsAt (slotsOf (length t))) t))
+  with-rule =
       ok-facts _ _ _ _
-      (ok-agree (cellsOf (length memory)) e (cellsOf (length bodies)) (stores ws (take (pairsAt e) t)) (stores ws t) head-after
+      (ok-agree (cellsOf (length memory)) e (cellsOf (length bodies)) (stores wordsWith (take (pairsAt e) t)) (stores wordsWith t) head-after
       ∙ ok-make _ _ _ _ rule-whole)
 
   -- the bytes spare the bodies in use
-  pub new-spares : Each (Spares (slotsOf (length t)) (take (pairsAt (slotsOf (length t))) t)) (addBytes (cellsOf (length bodies)) memory t base n k)
-  new-spares =
-      bytes-spare memory bodies t base n k l r (take (pairsAt e) t) (λ i h. getD-take (pairsAt e) t (firstAt e i) 0 (omega arith)) (λ i h. getD-take (pairsAt e) t (secondAt e i) 0 (omega arith))
+  pub with-spares : Each (Spares (slotsOf (length t)) (take (pairsAt (slotsOf (length t))) t)) (bytesWith choice memory)
+  with-spares =
+      bytes-spare memory bodies t base n k l r choice (take (pairsAt e) t) (λ i h. getD-take (pairsAt e) t (firstAt e i) 0 (omega arith)) (λ i h. getD-take (pairsAt e) t (secondAt e i) 0 (omega arith))
 
-  state-new : stateIn (slotsOf (length t)) (stores (addWords (cellsOf (length bodies)) t base n k l) t) (stores (addBytes (cellsOf (length bodies)) memory t base n k) bodies)
+  state-new : stateIn (slotsOf (length t)) (stores wordsWith t) (stores (bytesWith choice memory) bodies)
       ≡ addTo memory base n (kindNumbered k) (labelNumbered l) (stateIn (slotsOf (length t)) t bodies)
   state-new =
-      rw (words-chosen memory bodies t base n k l r)
-      (state-after (cellsOf (length memory)) e (cellsOf (length bodies)) t (table-right memory bodies t (r .store)) long base n k l (r .inner) (r .kind) (r .label) (r .range) small
-      (choice memory bodies t base n k l r) (choice-rests memory bodies t base n k l r) memory bodies (stores bytes bodies)
-      (spared e t bytes bodies (bytes-spare memory bodies t base n k l r t (λ i h. refl) (λ i h. refl)))
-      (bytes-filled memory bodies t base n k l r))
+      state-after (cellsOf (length memory)) e (cellsOf (length bodies)) t (table-right memory bodies t (r .store)) long base n k l (r .inner) (r .kind) (r .label) (r .range) small
+      choice (rests-with memory bodies t base n k l r choice) memory bodies (stores bytes bodies)
+      (spared e t bytes bodies (bytes-spare memory bodies t base n k l r choice t (λ i h. refl) (λ i h. refl)))
+      (bytes-filled memory bodies t base n k l r choice)
 
   -- and stands for the model's state after add
-  pub new-state : stateIn (slotsOf (length t)) (stores (addWords (cellsOf (length bodies)) t base n k l) (take (pairsAt (slotsOf (length t))) t)) (stores (addBytes (cellsOf (length bodies)) memory t base n k) bodies)
+  pub with-state : stateIn (slotsOf (length t)) (stores wordsWith (take (pairsAt (slotsOf (length t))) t)) (stores (bytesWith choice memory) bodies)
       ≡ addTo memory base n (kindNumbered k) (labelNumbered l) (stateOf (buffers memory bodies t))
-  new-state =
-      state-kept (cellsOf (length memory)) e (cellsOf (length bodies)) (stores ws t) (stores ws (take (pairsAt e) t)) (stores bytes bodies) (stores bytes bodies) rule-whole
+  with-state =
+      state-kept (cellsOf (length memory)) e (cellsOf (length bodies)) (stores wordsWith t) (stores wordsWith (take (pairsAt e) t)) (stores bytes bodies) (stores bytes bodies) rule-whole
       (λ i h. head-after (firstAt e i) (omega arith)) (λ i c. let h = c .slot in head-after (secondAt e i) (omega arith)) (λ i c. refl)
       (head-after liveAt (omega arith)) (head-after nextAt (omega arith)) (λ x h. let top = rule-whole .live in head-after (handleAt x) (omega arith))
       ∙ state-new
       ∙ ap (addTo memory base n (kindNumbered k) (labelNumbered l)) (sym (state-whole memory bodies t (r .store)))
 
-  pub add-seen : (budget : ℕ) → seenOf (outcome (perform (changePlan (pairsAt (slotsOf (length t))) (addBytes (cellsOf (length bodies)) memory t base n k) (addWords (cellsOf (length bodies)) t base n k l)) 0) budget (buffers memory bodies t))
+  -- as many bytes and words as the model says
+  pub with-bytes : length (bytesWith choice memory) ≡ 64 * newBodies (kindNumbered k) (newlyHeld base n (stateOf (buffers memory bodies t)))
+  with-bytes = bytes-many memory bodies t base n k l r choice ∙ ap (λ (s : State). 64 * newBodies (kindNumbered k) (newlyHeld base n s)) (sym (state-whole memory bodies t (r .store)))
+
+  pub with-words : length wordsWith
+      ≡ 2 * (newlyHeld base n (stateOf (buffers memory bodies t)) + relabelled base n (labelNumbered l) (stateOf (buffers memory bodies t)))
+  with-words = words-many memory bodies t base n k l r choice ∙ ap (λ (s : State). 2 * (newlyHeld base n s + relabelled base n (labelNumbered l) s)) (sym (state-whole memory bodies t (r .store)))
+
+  pub with-seen : (budget : ℕ) → seenOf (outcome (perform (changePlan (pairsAt (slotsOf (length t))) (bytesWith choice memory) wordsWith) 0) budget (buffers memory bodies t))
       ≡ viewed (change (64 * newBodies (kindNumbered k) (newlyHeld base n (stateOf (buffers memory bodies t)))) (2 * (newlyHeld base n (stateOf (buffers memory bodies t)) + relabelled base n (labelNumbered l) (stateOf (buffers memory bodies t)))) 0
       (addTo memory base n (kindNumbered k) (labelNumbered l) (stateOf (buffers memory bodies t)))) budget (stateOf (buffers memory bodies t)) memory
-  add-seen budget =
-      change-seen memory bodies t (r .store) bytes ws new-spares words-few words-names new-rule 0 (addTo memory base n (kindNumbered k) (labelNumbered l) (stateOf (buffers memory bodies t))) new-state budget
-      ∙ ap (λ (x : ℕ). viewed (change x (length ws) 0 (addTo memory base n (kindNumbered k) (labelNumbered l) (stateOf (buffers memory bodies t)))) budget (stateOf (buffers memory bodies t)) memory)
-      (bytes-many memory bodies t base n k l r ∙ ap (λ (s : State). 64 * newBodies (kindNumbered k) (newlyHeld base n s)) (sym (state-whole memory bodies t (r .store))))
-      ∙ ap (λ (x : ℕ). viewed (change (64 * newBodies (kindNumbered k) (newlyHeld base n (stateOf (buffers memory bodies t)))) x 0 (addTo memory base n (kindNumbered k) (labelNumbered l) (stateOf (buffers memory bodies t)))) budget (stateOf (buffers memory bodies t)) memory)
-      (words-many memory bodies t base n k l r ∙ ap (λ (s : State). 2 * (newlyHeld base n s + relabelled base n (labelNumbered l) s)) (sym (state-whole memory bodies t (r .store))))
+  with-seen budget =
+      change-seen memory bodies t (r .store) bytes wordsWith with-spares with-few with-names with-rule 0 (addTo memory base n (kindNumbered k) (labelNumbered l) (stateOf (buffers memory bodies t))) with-state budget
+      ∙ (λ i. viewed (change (with-bytes i) (with-words i) 0 (addTo memory base n (kindNumbered k) (labelNumbered l) (stateOf (buffers memory bodies t)))) budget (stateOf (buffers memory bodies t)) memory)
+
+  -- as many pairs are left pending as its effect says
+  pub with-pending : (budget : ℕ) → pending ((outcome (perform (changePlan (pairsAt (slotsOf (length t))) (bytesWith choice memory) wordsWith) 0) budget (buffers memory bodies t)) .buffers .table)
+      ≡ pendingAfter (64 * newBodies (kindNumbered k) (newlyHeld base n (stateOf (buffers memory bodies t)))) (2 * (newlyHeld base n (stateOf (buffers memory bodies t)) + relabelled base n (labelNumbered l) (stateOf (buffers memory bodies t)))) budget
+  with-pending budget =
+      performed-pending memory bodies t (r .store) bytes wordsWith with-few with-names 0 budget
+      ∙ (λ i. pendingAfter (with-bytes i) (with-words i) budget)
 
   -- ---- cuts
 
   -- in the bytes or in the pairs: opening takes no step, and the call is not made
-  pub add-unmade : (x j : ℕ) → x ≤ length bytes + 2 * length ws
-      → outcome (openCall (buffers memory (stores (take x bytes) bodies) (stores (take (x - length bytes) (journal (pairsAt (slotsOf (length t))) ws)) t))) j
-      (buffers memory (stores (take x bytes) bodies) (stores (take (x - length bytes) (journal (pairsAt (slotsOf (length t))) ws)) t))
-      ≡ leaves (done 0 0) (buffers memory (stores (take x bytes) bodies) (stores (take (x - length bytes) (journal (pairsAt (slotsOf (length t))) ws)) t))
-  add-unmade x j h = change-unmade memory bodies t (r .store) bytes ws new-spares words-few words-names new-rule x j h
+  pub with-unmade : (x j : ℕ) → x ≤ length bytes + 2 * length wordsWith
+      → outcome (openCall (buffers memory (stores (take x bytes) bodies) (stores (take (x - length bytes) (journal (pairsAt (slotsOf (length t))) wordsWith)) t))) j
+      (buffers memory (stores (take x bytes) bodies) (stores (take (x - length bytes) (journal (pairsAt (slotsOf (length t))) wordsWith)) t))
+      ≡ leaves (done 0 0) (buffers memory (stores (take x bytes) bodies) (stores (take (x - length bytes) (journal (pairsAt (slotsOf (length t))) wordsWith)) t))
+  with-unmade = change-unmade memory bodies t (r .store) bytes wordsWith with-spares with-few with-names with-rule
 
   -- from word 6 on: opening leaves the buffers of the uncut call
-  pub add-reopened : (x j : ℕ) (ks : List ℕ) → 0 < length ws → length bytes + 2 * length ws < x → x ≤ length bytes + (3 * length ws + 1) → Each (λ y. y ≤ length ws) ks → length ws < j
-      → outcome (openCall (buffers memory (stores (take x bytes) bodies) (openings (pairsAt (slotsOf (length t))) ks (stores (take (x - length bytes) (journal (pairsAt (slotsOf (length t))) ws)) t)))) j
-      (buffers memory (stores (take x bytes) bodies) (openings (pairsAt (slotsOf (length t))) ks (stores (take (x - length bytes) (journal (pairsAt (slotsOf (length t))) ws)) t)))
-      ≡ leaves (done (length ws + 1) 0) (buffers memory (stores bytes bodies) (stores (journal (pairsAt (slotsOf (length t))) ws) t))
-  add-reopened x j ks pos late early stops enough =
-      change-reopened memory bodies t (r .store) bytes ws new-spares words-few words-names new-rule x j ks pos late early stops enough
+  pub with-reopened : (x j : ℕ) (ks : List ℕ) → 0 < length wordsWith → length bytes + 2 * length wordsWith < x → x ≤ length bytes + (3 * length wordsWith + 1) → Each (λ y. y ≤ length wordsWith) ks → length wordsWith < j
+      → outcome (openCall (buffers memory (stores (take x bytes) bodies) (openings (pairsAt (slotsOf (length t))) ks (stores (take (x - length bytes) (journal (pairsAt (slotsOf (length t))) wordsWith)) t)))) j
+      (buffers memory (stores (take x bytes) bodies) (openings (pairsAt (slotsOf (length t))) ks (stores (take (x - length bytes) (journal (pairsAt (slotsOf (length t))) wordsWith)) t)))
+      ≡ leaves (done (length wordsWith + 1) 0) (buffers memory (stores bytes bodies) (stores (journal (pairsAt (slotsOf (length t))) wordsWith) t))
+  with-reopened = change-reopened memory bodies t (r .store) bytes wordsWith with-spares with-few with-names with-rule
 
-  -- ---- "every other call at most 70E + 32"
-
-  pub add-bound : stepsOf (length bytes) (length ws) ≤ 70 * slotsOf (length t) + 32
-  add-bound =
-      let few = changed-few memory bodies t base n k l r in
-      let w = words-many memory bodies t base n k l r in
-      let b = bytes-many memory bodies t base n k l r in
+  -- "every other call at most 70E + 32"
+  pub with-bound : stepsOf (length bytes) (length wordsWith) ≤ 70 * slotsOf (length t) + 32
+  with-bound =
+      let few = changed-few memory bodies t base n k l r choice in
+      let w = words-many memory bodies t base n k l r choice in
+      let b = bytes-many memory bodies t base n k l r choice in
       let new = new-bodies (newlyHeld base n before) in
-      by-le (length ws) 0
-      (λ z. let q : length ws ≡ 0 = omega arith in rw (eq-eqb (length ws) 0 q) (omega arith))
-      (λ z. rw (ne-eqb (length ws) 0 (λ q. omega arith)) (omega arith))
+      by-le (length wordsWith) 0
+      (λ z. let q : length wordsWith ≡ 0 = omega arith in rw (eq-eqb (length wordsWith) 0 q) (omega arith))
+      (λ z. rw (ne-eqb (length wordsWith) 0 (λ q. omega arith)) (omega arith))
     where
       new-bodies : (x : ℕ) → newBodies (kindNumbered k) x ≤ x
       new-bodies x = by-bool (eqb k 1) (λ p. rw p (omega arith)) (λ p. rw p (omega arith))
+
+-- ---- the call, which takes the lowest free slots and bodies
+
+module _ (memory bodies t : List ℕ) (base n k l : ℕ) (r : Ready memory bodies t base n k l) where
+  abbrev ws : List Store
+  ws = addWords (cellsOf (length bodies)) t base n k l
+
+  abbrev bs : List Store
+  bs = addBytes (cellsOf (length bodies)) memory t base n k
+
+  -- a law of the stores of every choice is one of the call's
+  of-call : (P : List Store → List Store → Type 0) → P (bytesWith (lowest memory bodies t base n k l r) memory) (wordsWith memory bodies t base n k l r (lowest memory bodies t base n k l r)) → P bs ws
+  of-call P h =
+      subst (λ (x : List Store). P x ws) (sym (bytes-chosen memory bodies t base n k l r))
+      (subst (λ (x : List Store). P (bytesWith (lowest memory bodies t base n k l r) memory) x) (sym (words-chosen memory bodies t base n k l r)) h)
+
+  pub add-seen : (budget : ℕ) → seenOf (outcome (perform (changePlan (pairsAt (slotsOf (length t))) (addBytes (cellsOf (length bodies)) memory t base n k) (addWords (cellsOf (length bodies)) t base n k l)) 0) budget (buffers memory bodies t))
+      ≡ viewed (change (64 * newBodies (kindNumbered k) (newlyHeld base n (stateOf (buffers memory bodies t)))) (2 * (newlyHeld base n (stateOf (buffers memory bodies t)) + relabelled base n (labelNumbered l) (stateOf (buffers memory bodies t)))) 0
+      (addTo memory base n (kindNumbered k) (labelNumbered l) (stateOf (buffers memory bodies t)))) budget (stateOf (buffers memory bodies t)) memory
+  add-seen budget =
+      of-call (λ x y. seenOf (outcome (perform (changePlan (pairsAt (slotsOf (length t))) x y) 0) budget (buffers memory bodies t))
+      ≡ viewed (change (64 * newBodies (kindNumbered k) (newlyHeld base n (stateOf (buffers memory bodies t)))) (2 * (newlyHeld base n (stateOf (buffers memory bodies t)) + relabelled base n (labelNumbered l) (stateOf (buffers memory bodies t)))) 0
+      (addTo memory base n (kindNumbered k) (labelNumbered l) (stateOf (buffers memory bodies t)))) budget (stateOf (buffers memory bodies t)) memory)
+      (with-seen memory bodies t base n k l r (lowest memory bodies t base n k l r) budget)
+
+  left : (budget : ℕ) → pending ((outcome (perform (changePlan (pairsAt (slotsOf (length t))) (addBytes (cellsOf (length bodies)) memory t base n k) (addWords (cellsOf (length bodies)) t base n k l)) 0) budget (buffers memory bodies t)) .buffers .table)
+      ≡ pendingAfter (64 * newBodies (kindNumbered k) (newlyHeld base n (stateOf (buffers memory bodies t)))) (2 * (newlyHeld base n (stateOf (buffers memory bodies t)) + relabelled base n (labelNumbered l) (stateOf (buffers memory bodies t)))) budget
+  left budget =
+      of-call (λ x y. pending ((outcome (perform (changePlan (pairsAt (slotsOf (length t))) x y) 0) budget (buffers memory bodies t)) .buffers .table)
+      ≡ pendingAfter (64 * newBodies (kindNumbered k) (newlyHeld base n (stateOf (buffers memory bodies t)))) (2 * (newlyHeld base n (stateOf (buffers memory bodies t)) + relabelled base n (labelNumbered l) (stateOf (buffers memory bodies t)))) budget)
+      (with-pending memory bodies t base n k l r (lowest memory bodies t base n k l r) budget)
+
+  -- ---- cuts
+
+  abbrev pub Unmade : List Store → List Store → Type 0
+  Unmade bytes words = (x j : ℕ) → x ≤ length bytes + 2 * length words
+      → outcome (openCall (buffers memory (stores (take x bytes) bodies) (stores (take (x - length bytes) (journal (pairsAt (slotsOf (length t))) words)) t))) j
+      (buffers memory (stores (take x bytes) bodies) (stores (take (x - length bytes) (journal (pairsAt (slotsOf (length t))) words)) t))
+      ≡ leaves (done 0 0) (buffers memory (stores (take x bytes) bodies) (stores (take (x - length bytes) (journal (pairsAt (slotsOf (length t))) words)) t))
+
+  -- in the bytes or in the pairs: opening takes no step, and the call is not made
+  pub add-unmade : Unmade (addBytes (cellsOf (length bodies)) memory t base n k) (addWords (cellsOf (length bodies)) t base n k l)
+  add-unmade = of-call Unmade (with-unmade memory bodies t base n k l r (lowest memory bodies t base n k l r))
+
+  abbrev pub Reopened : List Store → List Store → Type 0
+  Reopened bytes words = (x j : ℕ) (ks : List ℕ) → 0 < length words → length bytes + 2 * length words < x → x ≤ length bytes + (3 * length words + 1) → Each (λ y. y ≤ length words) ks → length words < j
+      → outcome (openCall (buffers memory (stores (take x bytes) bodies) (openings (pairsAt (slotsOf (length t))) ks (stores (take (x - length bytes) (journal (pairsAt (slotsOf (length t))) words)) t)))) j
+      (buffers memory (stores (take x bytes) bodies) (openings (pairsAt (slotsOf (length t))) ks (stores (take (x - length bytes) (journal (pairsAt (slotsOf (length t))) words)) t)))
+      ≡ leaves (done (length words + 1) 0) (buffers memory (stores bytes bodies) (stores (journal (pairsAt (slotsOf (length t))) words) t))
+
+  -- from word 6 on: opening leaves the buffers of the uncut call
+  pub add-reopened : Reopened (addBytes (cellsOf (length bodies)) memory t base n k) (addWords (cellsOf (length bodies)) t base n k l)
+  add-reopened = of-call Reopened (with-reopened memory bodies t base n k l r (lowest memory bodies t base n k l r))
+
+  -- "every other call at most 70E + 32"
+  pub add-bound : stepsOf (length (addBytes (cellsOf (length bodies)) memory t base n k)) (length (addWords (cellsOf (length bodies)) t base n k l)) ≤ 70 * slotsOf (length t) + 32
+  add-bound =
+      of-call (λ x y. stepsOf (length x) (length y) ≤ 70 * slotsOf (length t) + 32)
+      (with-bound memory bodies t base n k l r (lowest memory bodies t base n k l r))
 
 -- ---- what the call means
 
@@ -220,6 +288,15 @@ module _ (h base n k l : ℕ) where
       (λ x q w. ap seenOf (sym (refuses (suc x) (addCheck (b .memory) (b .bodies) (b .table) h base n k l) _ budget b (sym (stops b x w)) (λ z. omega arith))))
       (λ q w. passed budget b w)
       refl
+
+-- ---- the pairs that it leaves pending, at every budget
+
+pub add-pending : (h base n k l budget : ℕ) (b : Buffers) → storeCheck (length (b .memory)) (length (b .bodies)) (b .table) ≡ 0
+    → pending ((outcome (addCall h base n k l b) budget b) .buffers .table) ≡ afterPending (addEffect (roomOf b) (b .memory) h base n k l (stateOf b)) budget
+unfolding addCall
+add-pending h base n k l budget b good =
+    call-pending budget b good _ _ _ _ (checks-rest h base n k l b good ∙ same-rest h base n k l b good)
+    (λ q. left (b .memory) (b .bodies) (b .table) base n k l (add-ready (b .memory) (b .bodies) (b .table) h base n k l q) budget)
 
 -- ---- what the code cites
 

@@ -1,27 +1,12 @@
--- Laws of counts that add needs: the first so many of those that pass, two tests that never both pass, and a range. Assumes nothing.
-use Prim.Native.Nat.{ℕ, zero, suc, _+_, _-_, _*_, _≤_, _<_, min}
-use mathlib.Core.Bool.{Bool, true, false, cond, not, _&&_, _||_}
-use mathlib.Core.Path.{_≡_, refl, sym, ap, subst, _∙_}
-use native.Mathlib.Nat.{not-suc-le-zero}
+-- Laws of counts that add needs: two tests that never both pass, and a range. Assumes nothing.
+use Prim.Native.Nat.{ℕ, zero, suc, _+_, _-_, _≤_, _<_}
+use mathlib.Core.Bool.{Bool, true, false, _&&_, _||_}
+use mathlib.Core.Path.{_≡_, refl, ap, _∙_}
 use native.Mathlib.Omega.{arith}
-use borrow.Author.Tests.{lt-ltb, le-ltb, le-leb, lt-leb, leb-true, ltb-true, eqb-true, eqb-false}
-use lib.Dec.{leb, ltb, eqb}
+use borrow.Author.Tests.{lt-ltb, le-ltb, le-leb, lt-leb}
 use Rattle.words.specs.Scan.{count}
-use Rattle.words.proofs.Scan.{by-bool, by-le, and-split, and-join, is-false, true≢, count-ext}
+use Rattle.words.proofs.Scan.{by-bool, is-false}
 use Rattle.model.specs.Holdings.{inRange}
-
--- of those that pass, the first r
-pub count-ranked : (n r : ℕ) (f : ℕ → Bool) → count n (λ i. f i && ltb (count i f) r) ≡ min r (count n f)
-unfolding count
-count-ranked zero r f = omega arith
-count-ranked (suc n) r f =
-    let h : count n (λ i. f i && ltb (count i f) r) ≡ min r (count n f) = count-ranked n r f in
-    by-bool (f n)
-    (λ p.
-    by-le r (count n f)
-    (λ l. rw (p, le-ltb (count n f) r l) (omega arith))
-    (λ l. rw (p, lt-ltb (count n f) r l) (omega arith)))
-    (λ p. rw p h)
 
 -- two tests that never both pass
 pub count-or : (n : ℕ) (f g : ℕ → Bool) → ((i : ℕ) → i < n → f i ≡ true → g i ≡ true → ⊥) → count n (λ i. f i || g i) ≡ count n f + count n g

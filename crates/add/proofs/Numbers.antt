@@ -1,37 +1,33 @@
--- What the model asks and counts of a state, read off the words; and how many bytes and words add stores. Assumes nothing.
-use Prim.Native.Nat.{ℕ, zero, suc, _+_, _-_, _*_, _/_, _%_, _≤_, _<_, min}
-use mathlib.Core.Bool.{Bool, true, false, cond, not, _&&_, _||_}
+-- What the model asks and counts of a state, read off the words; and how many bytes and words add stores, whichever places it takes.
+-- Assumes nothing.
+use Prim.Native.Nat.{ℕ, _+_, _-_, _*_, _≤_}
+use mathlib.Core.Bool.{Bool, true, false, not, _&&_, _||_}
 use mathlib.Core.List.{List}
-use mathlib.Core.Option.{Option, none, some}
-use mathlib.Core.Path.{_≡_, refl, sym, ap, subst, _∙_}
+use mathlib.Core.Path.{_≡_, refl, sym, ap, _∙_}
 use native.Mathlib.Omega.{arith}
-use borrow.Author.Tests.{eq-eqb, ne-eqb, eqb-true, eqb-false, lt-ltb, le-ltb, le-leb, lt-leb, leb-true}
-use lib.Dec.{leb, ltb, eqb}
-use lib.ListN.{length, getD}
-use Rattle.words.specs.Layout.{cellsOf, slotsOf, pairsAt}
-use Rattle.words.specs.Scan.{all, count}
-use Rattle.words.specs.Cells.{cellBytes, sameCell}
-use Rattle.words.proofs.Scan.{by-bool, by-le, and-split, true≢, all-at, all-ext, count-ext, count-le}
-use Rattle.table.specs.Entry.{live, word1, word2, depthOf, writableOf, cellOf, parent, findIn, holdsIn}
+use borrow.Author.Tests.{eq-eqb, ne-eqb, eqb-true, eqb-false, le-leb, lt-leb, leb-true}
+use lib.Dec.{leb, eqb}
+use lib.ListN.{length}
+use Rattle.words.specs.Layout.{cellsOf, slotsOf}
+use Rattle.words.specs.Scan.{count}
+use Rattle.words.proofs.Scan.{by-bool, by-le, and-split, true≢, count-ext, count-le}
+use Rattle.table.specs.Entry.{live, word1, writableOf, cellOf, parent, findIn, holdsIn}
 use Rattle.table.specs.Changes.{isChanged, entryChanges}
 use Rattle.table.proofs.Entry.{find-hit, holds-found}
 use Rattle.table.proofs.Rule.{Rule}
 use Rattle.table.proofs.Entries.{changes-count}
 use Rattle.search.specs.Search.{valueIn}
-use Rattle.search.specs.Domain.{depthNamed}
-use Rattle.search.specs.Free.{slotFree, usedSlots, copies}
 use Rattle.search.proofs.Counts.{count-entries}
-use Rattle.model.specs.State.{Label, readOnly, readWrite, Kind, copy, viaParent, Holding, State}
-use Rattle.model.specs.Answer.{ask}
-use Rattle.model.specs.Holdings.{named, holdingAt, isHeld, isWritable, isVia, heldWritable, heldReadOnly, valueOr, isLive, isInnermost, rangeOk, inRange, labelNumbered, kindNumbered, newlyHeld, relabelled, parentHolds, parentSame, newBodies, addChecks}
+use Rattle.model.specs.State.{State}
+use Rattle.model.specs.Holdings.{holdingAt, isHeld, heldReadOnly, valueOr, inRange, labelNumbered, kindNumbered, newlyHeld, relabelled, newBodies}
 use Rattle.store.specs.State.{heldIn, stateIn}
-use Rattle.store.proofs.Domains.{state-named, state-holding, state-zero, domains-count, held-holds, held-writable}
-use Rattle.add.specs.Add.{isNew, parentHas, addWords, addBytes}
+use Rattle.store.proofs.Domains.{state-holding, state-zero, domains-count, held-holds, held-writable}
+use Rattle.add.specs.Add.{isNew, parentHas}
 use Rattle.add.specs.Walking.{rises, raiseChange, Ready}
-use Rattle.add.proofs.Asking.{lengths, table-right}
-use Rattle.add.proofs.Choices.{Choice, chosen, raise-yes, raise-no, rises-free}
+use Rattle.add.proofs.Asking.{table-right}
+use Rattle.add.proofs.Choices.{Choice, chosen, rises-free}
 use Rattle.add.proofs.Counting.{count-or, count-none, count-range}
-use Rattle.add.proofs.Chosen.{choice, words-chosen, taken-many, bytes-length}
+use Rattle.add.proofs.Filling.{bytesWith, taken-many, bytes-length}
 
 -- ---- the state of a table's words
 
@@ -91,7 +87,8 @@ module _ (e : ℕ) (t bodies : List ℕ) (inner : 1 ≤ live t) where
 
 -- ---- how many bytes and words
 
-module _ (memory bodies t : List ℕ) (base n k l : ℕ) (r : Ready memory bodies t base n k l) where
+module _ (memory bodies t : List ℕ) (base n k l : ℕ) (r : Ready memory bodies t base n k l)
+    (choice : Choice (slotsOf (length t)) (cellsOf (length bodies)) t base n k) where
   abbrev e : ℕ
   e = slotsOf (length t)
 
@@ -101,10 +98,10 @@ module _ (memory bodies t : List ℕ) (base n k l : ℕ) (r : Ready memory bodie
   right : Rule (cellsOf (length memory)) (slotsOf (length t)) (cellsOf (length bodies)) t
   right = table-right memory bodies t (r .store)
 
-  changed-is : (i : ℕ) → isChanged (chosen (choice memory bodies t base n k l r) l i) ≡ (choice memory bodies t base n k l r .taken i || rises (live t) base n l (word1 (slotsOf (length t)) t i))
+  changed-is : (i : ℕ) → isChanged (chosen choice l i) ≡ (choice .taken i || rises (live t) base n l (word1 (slotsOf (length t)) t i))
   unfolding chosen raiseChange
   changed-is i =
-      by-bool (choice memory bodies t base n k l r .taken i) (λ p. rw p)
+      by-bool (choice .taken i) (λ p. rw p)
       (λ p. by-bool (up i) (λ q. rw (p, q)) (λ q. rw (p, q)))
 
   raised-many : count (slotsOf (length t)) (λ i. rises (live t) base n l (word1 (slotsOf (length t)) t i)) ≡ relabelled base n (labelNumbered l) (stateIn (slotsOf (length t)) t bodies)
@@ -120,20 +117,19 @@ module _ (memory bodies t : List ℕ) (base n k l : ℕ) (r : Ready memory bodie
       ∙ count-range base Q (cellsOf (length memory)) n (r .range)
       ∙ sym (relabelled-is e t bodies (r .inner) base n l (r .label))
 
-  pub words-many : length (addWords (cellsOf (length bodies)) t base n k l)
+  pub words-many : length (entryChanges (slotsOf (length t)) (chosen choice l))
       ≡ 2 * (newlyHeld base n (stateIn (slotsOf (length t)) t bodies) + relabelled base n (labelNumbered l) (stateIn (slotsOf (length t)) t bodies))
   words-many =
-      ap length (words-chosen memory bodies t base n k l r)
-      ∙ changes-count e (chosen (choice memory bodies t base n k l r) l)
+      changes-count e (chosen choice l)
       ∙ ap (λ (x : ℕ). 2 * x)
-      (count-ext e (λ i. isChanged (chosen (choice memory bodies t base n k l r) l i)) (λ i. choice memory bodies t base n k l r .taken i || up i) (λ i h. changed-is i)
-      ∙ count-or e (choice memory bodies t base n k l r .taken) up
-      (λ i h p q. true≢ q (rw (choice memory bodies t base n k l r .free i h p) (rises-free (live t) base n l (r .inner))))
-      ∙ rw (taken-many memory bodies t base n k l r, raised-many, newly-is e t bodies (r .inner) base n))
+      (count-ext e (λ i. isChanged (chosen choice l i)) (λ i. choice .taken i || up i) (λ i h. changed-is i)
+      ∙ count-or e (choice .taken) up
+      (λ i h p q. true≢ q (rw (choice .free i h p) (rises-free (live t) base n l (r .inner))))
+      ∙ rw (taken-many memory bodies t base n k l r choice, raised-many, newly-is e t bodies (r .inner) base n))
 
-  pub bytes-many : length (addBytes (cellsOf (length bodies)) memory t base n k) ≡ 64 * newBodies (kindNumbered k) (newlyHeld base n (stateIn (slotsOf (length t)) t bodies))
+  pub bytes-many : length (bytesWith choice memory) ≡ 64 * newBodies (kindNumbered k) (newlyHeld base n (stateIn (slotsOf (length t)) t bodies))
   bytes-many =
-      bytes-length memory bodies t base n k l r
+      bytes-length memory bodies t base n k l r choice
       ∙ rw (newly-is e t bodies (r .inner) base n)
       (by-bool (eqb k 1)
       (λ p. let q = eqb-true k 1 p in rw (p, ne-eqb k 0 (λ z. omega arith)) (ap (λ (x : ℕ). 64 * x) (count-none n (λ j. false) (λ i h. refl))))
@@ -143,6 +139,5 @@ module _ (memory bodies t : List ℕ) (base n k l : ℕ) (r : Ready memory bodie
   pub changed-few : newlyHeld base n (stateIn (slotsOf (length t)) t bodies) + relabelled base n (labelNumbered l) (stateIn (slotsOf (length t)) t bodies) ≤ slotsOf (length t)
   changed-few =
       let many = words-many in
-      let c = changes-count e (chosen (choice memory bodies t base n k l r) l) in
-      let w = ap length (words-chosen memory bodies t base n k l r) in
-      omega (arith, count-le e (λ i. isChanged (chosen (choice memory bodies t base n k l r) l i)))
+      let c = changes-count e (chosen choice l) in
+      omega (arith, count-le e (λ i. isChanged (chosen choice l i)))

@@ -12,7 +12,7 @@ use lib.ListN.{length, take}
 use Rattle.words.specs.Layout.{cellsOf, slotsOf, pairsAt}
 use Rattle.words.specs.Scan.{all, count}
 use Rattle.words.specs.Stores.{Store, stores, gather}
-use Rattle.words.specs.Journal.{namesOk, journal, journalSteps, openings}
+use Rattle.words.specs.Journal.{pending, namesOk, journal, journalSteps, openings}
 use Rattle.words.proofs.Scan.{by-bool, by-le, all-ext, count-ext, count-le}
 use Rattle.words.proofs.Plans.{Each}
 use Rattle.words.proofs.Names.{names-make, names-below}
@@ -34,14 +34,15 @@ use Rattle.store.specs.Checks.{storeCheck}
 use Rattle.store.specs.State.{stateIn, stateOf}
 use Rattle.store.specs.Calls.{openCall}
 use Rattle.store.specs.Means.{orRefused, callMeans, roomOf}
-use Rattle.store.proofs.Checks.{ask-yes, ask-stop, ask-rest, orElse-both, shape-facts, store-shape}
+use Rattle.store.proofs.Checks.{ask-yes, ask-stop, ask-rest, orElse-both, orElse-go, shape-facts, store-shape}
 use Rattle.store.proofs.Outcome.{refuses}
 use Rattle.store.proofs.Domains.{state-named, state-holding, domains-count, held-holds, held-writable}
 use Rattle.store.proofs.Means.{seenOf, by-check, t-long, store-standing}
 use Rattle.store.proofs.Changes.{Spares, change-performed, change-seen, change-unmade, change-reopened}
+use Rattle.store.proofs.Pending.{pendingAfter, afterPending, performed-pending, call-pending}
 use Rattle.advance.specs.Advance.{advances, advanceCheck, bodyFor, advanceChange, advanceWords, advanceBytes, advanceCall, advanceMeans}
 use Rattle.advance.specs.Notes.{cellsCheck}
-use Rattle.advance.proofs.Raw.{raw-rule, raw-state, raw-next, raw-after, front-copy, front-second}
+use Rattle.store.proofs.Raw.{raw-rule, raw-state, raw-next, raw-after, front-copy, front-second}
 use Rattle.advance.proofs.Copying.{Outside, plan, cell-kept, copies-length, copies-outside, copies-stored}
 use Rattle.advance.proofs.Turning.{changeWith, Choice, advances-cell, words-count, turned-rule, turned-state}
 use Rattle.advance.proofs.Choosing.{chosen}
@@ -129,6 +130,13 @@ module _ (memory bodies t : List ℕ) (yes : storeCheck (length memory) (length 
   with-seen k =
       change-seen memory bodies t yes bytesWith wordsWith with-spares (omega (arith, with-few)) with-names with-rule 0 (advance memory (stateOf (buffers memory bodies t))) with-state k
       ∙ (λ i. viewed (change (with-bytes i) (with-words i) 0 (advance memory (stateOf (buffers memory bodies t)))) k (stateOf (buffers memory bodies t)) memory)
+
+  -- as many pairs are left pending as its effect says
+  pub with-pending : (k : ℕ) → pending ((outcome (perform (changePlan (pairsAt (slotsOf (length t))) bytesWith wordsWith) 0) k (buffers memory bodies t)) .buffers .table)
+      ≡ pendingAfter (64 * count (cellsOf (length memory)) (advances (slotsOf (length t)) t)) (2 * count (cellsOf (length memory)) (advances (slotsOf (length t)) t)) k
+  with-pending k =
+      performed-pending memory bodies t yes bytesWith wordsWith (omega (arith, with-few)) with-names 0 k
+      ∙ (λ i. pendingAfter (with-bytes i) (with-words i) k)
 
   -- ---- cuts
 
@@ -262,6 +270,13 @@ module _ (memory bodies t : List ℕ) (h : ℕ) (pass : advanceCheck (length mem
   advance-seen k =
       with-seen memory bodies t yes (advance-low (length memory) (length bodies) t h pass) (bodyFor (slotsOf (length t)) (cellsOf (length bodies)) t) lowest k
 
+  left : (k : ℕ) → pending ((outcome (perform (changePlan (pairsAt (slotsOf (length t)))
+      (advanceBytes (cellsOf (length memory)) (cellsOf (length bodies)) memory t) (advanceWords (cellsOf (length bodies)) t)) 0) k (buffers memory bodies t)) .buffers .table)
+      ≡ pendingAfter (64 * count (cellsOf (length memory)) (advances (slotsOf (length t)) t)) (2 * count (cellsOf (length memory)) (advances (slotsOf (length t)) t)) k
+  unfolding advanceBytes advanceWords advanceChange
+  left k =
+      with-pending memory bodies t yes (advance-low (length memory) (length bodies) t h pass) (bodyFor (slotsOf (length t)) (cellsOf (length bodies)) t) lowest k
+
   pub advance-unmade : (k j : ℕ) → k ≤ length (advanceBytes (cellsOf (length memory)) (cellsOf (length bodies)) memory t) + 2 * length (advanceWords (cellsOf (length bodies)) t)
       → outcome (openCall (buffers memory (stores (take k (advanceBytes (cellsOf (length memory)) (cellsOf (length bodies)) memory t)) bodies)
       (stores (take (k - length (advanceBytes (cellsOf (length memory)) (cellsOf (length bodies)) memory t)) (journal (pairsAt (slotsOf (length t))) (advanceWords (cellsOf (length bodies)) t))) t))) j
@@ -294,6 +309,15 @@ module _ (memory bodies t : List ℕ) (h : ℕ) (pass : advanceCheck (length mem
 
 -- ---- what it means
 
+-- the questions and the number of cells, of words and of a state
+module _ (memory bodies t : List ℕ) (yes : storeCheck (length memory) (length bodies) t ≡ 0) (h : ℕ) where
+  same-checks : asked (length memory) (length bodies) t h ≡ advanceChecks (roomOf (buffers memory bodies t)) h (stateOf (buffers memory bodies t))
+  same-checks = sym (ap (advanceChecks (roomOf (buffers memory bodies t)) h) (raw-state memory bodies t yes) ∙ checks-raw memory bodies t h)
+
+  same-cells : 1 ≤ live t → count (cellsOf (length memory)) (advances (slotsOf (length t)) t) ≡ writableCells (cellsOf (length memory)) (stateOf (buffers memory bodies t))
+  same-cells low =
+      sym (ap (writableCells (cellsOf (length memory))) (raw-state memory bodies t yes) ∙ cells-same (slotsOf (length t)) t bodies low (cellsOf (length memory)))
+
 abbrev goal : (h words-say state-says k : ℕ) → Buffers → Type 0
 goal h q r k b =
     seenOf (outcome (unless q (perform (changePlan (pairsAt (slotsOf (length (b .table))))
@@ -311,19 +335,28 @@ advance-means h k b =
     (λ n e. refl)
     (λ yes.
     let stands = store-standing (b .memory) (b .bodies) (b .table) yes in
-    let raw = raw-state (b .memory) (b .bodies) (b .table) yes in
-    let same : asked (length (b .memory)) (length (b .bodies)) (b .table) h ≡ advanceChecks (roomOf b) h (stateOf b) =
-    sym (ap (advanceChecks (roomOf b) h) raw ∙ checks-raw (b .memory) (b .bodies) (b .table) h) in
-    subst (λ (r : ℕ). goal h (asked (length (b .memory)) (length (b .bodies)) (b .table) h) r k b) same
+    subst (λ (r : ℕ). goal h (asked (length (b .memory)) (length (b .bodies)) (b .table) h) r k b) (same-checks (b .memory) (b .bodies) (b .table) yes h)
     (by-check (λ q. goal h q q k b) (asked (length (b .memory)) (length (b .bodies)) (b .table) h)
     (λ n e. ap (λ (s : Option State). view (refused (suc n)) s (b .memory)) stands)
     (λ e.
     let pass : advanceCheck (length (b .memory)) (length (b .bodies)) (b .table) h ≡ 0 = rw yes e in
     let low = advance-low (length (b .memory)) (length (b .bodies)) (b .table) h pass in
-    let n : count (cellsOf (length (b .memory))) (advances (slotsOf (length (b .table))) (b .table)) ≡ writableCells (cellsOf (length (b .memory))) (stateOf b) =
-    sym (ap (writableCells (cellsOf (length (b .memory)))) raw ∙ cells-same (slotsOf (length (b .table))) (b .table) (b .bodies) low (cellsOf (length (b .memory)))) in
     advance-seen (b .memory) (b .bodies) (b .table) h pass k
-    ∙ ap (λ (x : ℕ). viewed (change (64 * x) (2 * x) 0 (advance (b .memory) (stateOf b))) k (stateOf b) (b .memory)) n)))
+    ∙ ap (λ (x : ℕ). viewed (change (64 * x) (2 * x) 0 (advance (b .memory) (stateOf b))) k (stateOf b) (b .memory))
+    (same-cells (b .memory) (b .bodies) (b .table) yes h low))))
+
+-- ---- the pairs that it leaves pending, at every budget
+
+pub advance-pending : (h k : ℕ) (b : Buffers) → storeCheck (length (b .memory)) (length (b .bodies)) (b .table) ≡ 0
+    → pending ((outcome (advanceCall h b) k b) .buffers .table) ≡ afterPending (advanceEffect (roomOf b) (b .memory) h (stateOf b)) k
+unfolding advanceCall
+advance-pending h k b good =
+    call-pending k b good _ _ _ _
+    (check-is (length (b .memory)) (length (b .bodies)) (b .table) h ∙ orElse-go _ _ good ∙ same-checks (b .memory) (b .bodies) (b .table) good h)
+    (λ q.
+    left (b .memory) (b .bodies) (b .table) h q k
+    ∙ ap (λ (x : ℕ). pendingAfter (64 * x) (2 * x) k)
+    (same-cells (b .memory) (b .bodies) (b .table) good h (advance-low (length (b .memory)) (length (b .bodies)) (b .table) h q)))
 
 -- ---- what the code cites
 

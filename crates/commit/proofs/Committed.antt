@@ -13,7 +13,7 @@ use lib.Seq.{take-nil}
 use Rattle.words.specs.Layout.{liveAt, handleAt, pairsAt, maxPairs, slotsOf, cellsOf, maxLive}
 use Rattle.words.specs.Scan.{count}
 use Rattle.words.specs.Stores.{Store, stores}
-use Rattle.words.specs.Journal.{namesOk, nameOk, journal, journalSteps, openings}
+use Rattle.words.specs.Journal.{pending, namesOk, nameOk, journal, journalSteps, openings}
 use Rattle.words.proofs.Scan.{by-bool, count-le}
 use Rattle.words.proofs.Plans.{Each, stores-none}
 use Rattle.words.proofs.Journal.{effective-idle}
@@ -33,11 +33,12 @@ use Rattle.store.specs.Checks.{storeCheck}
 use Rattle.store.specs.State.{stateIn, stateOf}
 use Rattle.store.specs.Calls.{openCall}
 use Rattle.store.specs.Means.{orRefused, callMeans}
-use Rattle.store.proofs.Checks.{ask-yes, orElse-both, store-idle, store-table, table-rule}
+use Rattle.store.proofs.Checks.{ask-yes, orElse-both, orElse-go, store-idle, store-table, table-rule}
 use Rattle.store.proofs.Outcome.{refuses}
 use Rattle.store.proofs.Domains.{state-named}
 use Rattle.store.proofs.Means.{seenOf, by-check, t-long, store-rule, store-state, store-standing, live-count}
 use Rattle.store.proofs.Changes.{change-performed, change-seen, change-unmade, change-reopened}
+use Rattle.store.proofs.Pending.{pendingAfter, afterPending, performed-pending, call-pending}
 use Rattle.commit.specs.Commit.{commitCheck, commitChange, commitWords, commitCall, commitMeans}
 use Rattle.commit.proofs.Taken.{live-taken, named-taken, changes-taken}
 use Rattle.commit.proofs.Merging.{headWords, commit-rule, commit-state-is}
@@ -143,6 +144,10 @@ module _ (memory bodies t : List ℕ) (yes : storeCheck (length memory) (length 
         change-seen memory bodies t yes [] (commitWords t) tt room names new-rule 0 (commit (stateOf (buffers memory bodies t))) new-state k
         ∙ ap (λ (p : ℕ). viewed (change 0 p 0 (commit (stateOf (buffers memory bodies t)))) k (stateOf (buffers memory bodies t)) memory) new-count
 
+    left : (k : ℕ) → pending ((outcome (perform (changePlan (pairsAt (slotsOf (length t))) [] (commitWords t)) 0) k (buffers memory bodies t)) .buffers .table)
+        ≡ pendingAfter 0 (2 + 2 * (innerCells (cellsOf (length memory)) (stateOf (buffers memory bodies t)) + raisedCells (cellsOf (length memory)) (stateOf (buffers memory bodies t)))) k
+    left k = performed-pending memory bodies t yes [] (commitWords t) room names 0 k ∙ ap (λ (p : ℕ). pendingAfter 0 p k) new-count
+
     -- ---- cuts: with p words, 0 to 2p not made, 2p + 1 to 3p + 1 made by opening in p + 1 steps
 
     pub commit-unmade : (k j : ℕ) → k ≤ 2 * length (commitWords t)
@@ -194,6 +199,15 @@ commit-means h k b =
     (by-check (λ q. goal q q k b) (asked (b .table) h)
     (λ n e. ap (λ (s : Option State). view (refused (suc n)) s (b .memory)) stands)
     (λ e. commit-seen (b .memory) (b .bodies) (b .table) yes (asked-live (b .table) h e) k)))
+
+-- ---- the pairs that it leaves pending, at every budget
+
+pub commit-pending : (h k : ℕ) (b : Buffers) → storeCheck (length (b .memory)) (length (b .bodies)) (b .table) ≡ 0
+    → pending ((outcome (commitCall h b) k b) .buffers .table) ≡ afterPending (commitEffect (cellsOf (length (b .memory))) h (stateOf b)) k
+unfolding commitCall commitCheck
+commit-pending h k b good =
+    call-pending k b good _ _ _ _ (orElse-go _ _ good ∙ same-checks (b .memory) (b .bodies) (b .table) good h)
+    (λ q. left (b .memory) (b .bodies) (b .table) good (asked-live (b .table) h (sym (orElse-go _ _ good) ∙ q)) k)
 
 -- ---- what the code cites
 

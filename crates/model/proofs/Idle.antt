@@ -20,9 +20,9 @@ use Rattle.model.specs.Holdings.{Room, named, holdingAt, isHeld, isWrita
 use Rattle.model.specs.Holdings.{advance as advanceState}
 use Rattle.model.specs.Restore.{restored, endedDomains, freedEntries, restoreWords, restoreChecks, lookChecks}
 use Rattle.model.specs.History.{Request, create, list, add, delete, advance, commit, restore, look}
-use Rattle.model.specs.Session.{call, Due, nothingDue, world, effectOf, viewOf, Move, Within}
+use Rattle.model.specs.Session.{call, nothingDue, world, effectOf, viewOf, Move, Within}
 use Rattle.model.proofs.Effects.{ask-yes, passed}
-use Rattle.model.proofs.Views.{view-moves}
+use Rattle.model.proofs.Views.{dueAfter, view-moves}
 
 -- ---- counts of none
 
@@ -145,8 +145,9 @@ no-words room (look a c) s m w b h new e =
     let y = passed (lookChecks (room .cells) a c s) _ _ _ b 0 h _ new e in
     sym (y .leaves)
 
--- what any call on a store leaves to be seen, at any budget and in any room, is a move of a session, with some opening due
+-- what any call on a store leaves to be seen, at any budget and in any room, is a move of a session, and leaves the opening due that its effect
+-- says
 pub every-view-moves : (k : ℕ) (room : Room) (c : Request) (s : State) (m : List ℕ) → length m ≡ 64 * room .cells → Within (room .cells) s
-    → (d : Due) × Move (room .cells) (world (some s) m nothingDue) (call c k) ((viewOf room c k s m) .report)
-    (world ((viewOf room c k s m) .state) ((viewOf room c k s m) .memory) d)
+    → Move (room .cells) (world (some s) m nothingDue) (call c k) ((viewOf room c k s m) .report)
+    (world ((viewOf room c k s m) .state) ((viewOf room c k s m) .memory) (dueAfter (effectOf room m c s) k))
 every-view-moves k room c s m size w = view-moves (room .cells) k room c s m refl size (no-words room c s m w)

@@ -89,7 +89,7 @@ pub viewed-plain : (e : Effect) (k : ℕ) (s : State) (m : List ℕ) → viewedW
 viewed-plain (refuse n) k s m = refl
 viewed-plain (change b w h new) k s m = refl
 
-memory-whole : (room : Room) (c : Request) (s new : State) (m : List ℕ) (k b w h : ℕ) → length m ≡ 64 * room .cells
+pub memory-whole : (room : Room) (c : Request) (s new : State) (m : List ℕ) (k b w h : ℕ) → length m ≡ 64 * room .cells
     → effectOf room m c s ≡ change b w h new → b ≤ k → memoryAt k c s m ≡ memoryAfter c s m
 memory-whole room create s new m k b w h size e l = refl
 memory-whole room list s new m k b w h size e l = refl
@@ -105,7 +105,7 @@ memory-whole room (look a n) s new m k b w h size e l = refl
 unmoved : (m : List ℕ) → Mixed m m m
 unmoved m = record { same-length = refl; each-byte = λ x. inl refl }
 
-memory-mixed : (c : Request) (s : State) (m : List ℕ) (k : ℕ) → Mixed m (memoryAfter c s m) (memoryAt k c s m)
+pub memory-mixed : (c : Request) (s : State) (m : List ℕ) (k : ℕ) → Mixed m (memoryAfter c s m) (memoryAt k c s m)
 memory-mixed create s m k = unmoved m
 memory-mixed list s m k = unmoved m
 memory-mixed (add a first n i j) s m k = unmoved m
@@ -121,41 +121,48 @@ bytes-first b w = omega arith
 steps-past : (b w : ℕ) → (w ≡ 0 → ⊥) → b + 2 * w < stepsOf b w
 steps-past b w f = by-bool (eqb w 0) (λ e. absurd (f (eqb-true w 0 e))) (λ e. rw e (omega arith))
 
--- What a call at budget k leaves to be seen is a move of a session, with some opening due. A call that replaces no word leaves the state as it is:
--- that is asked of it.
+-- Which opening a call of this effect leaves due at budget k: none where it is refused or done; one that makes the call where the stop falls
+-- behind the store of word 6, and one that takes no step where it falls before.
+abbrev pub dueAfter : Effect → (k : ℕ) → Due
+dueAfter (refuse n) k = nothingDue
+dueAfter (change b w h new) k = cond (leb (stepsOf b w) k) nothingDue (cond (ltb (b + 2 * w) k) finishDue dropDue)
+
+-- What a call at budget k leaves to be seen is a move of a session, and leaves that opening due. A call that replaces no word leaves the state
+-- as it is: that is asked of it.
 pub view-moves : (cells k : ℕ) (room : Room) (c : Request) (s : State) (m : List ℕ) → room .cells ≡ cells → length m ≡ 64 * cells
     → ((b h : ℕ) (new : State) → effectOf room m c s ≡ change b 0 h new → new ≡ s)
-    → (d : Due) × Move cells (world (some s) m nothingDue) (call c k) ((viewOf room c k s m) .report) (world ((viewOf room c k s m) .state) ((viewOf room c k s m) .memory) d)
+    → Move cells (world (some s) m nothingDue) (call c k) ((viewOf room c k s m) .report)
+    (world ((viewOf room c k s m) .state) ((viewOf room c k s m) .memory) (dueAfter (effectOf room m c s) k))
 unfolding ended
 view-moves cells k room c s m f size idle = go (effectOf room m c s) refl
   where
-    Goal : View → Type 0
-    Goal v = (d : Due) × Move cells (world (some s) m nothingDue) (call c k) (v .report) (world (v .state) (v .memory) d)
+    Goal : View → Due → Type 0
+    Goal v d = Move cells (world (some s) m nothingDue) (call c k) (v .report) (world (v .state) (v .memory) d)
 
     size′ : length m ≡ 64 * room .cells
     size′ = size ∙ ap (λ (n : ℕ). 64 * n) (sym f)
 
     finished : (b w h : ℕ) (new : State) → effectOf room m c s ≡ change b w h new → stepsOf b w ≤ k
-        → Goal (view (done (stepsOf b w) h) (some (cond (ltb (b + 2 * w) k) new s)) (memoryAt k c s m))
+        → Goal (view (done (stepsOf b w) h) (some (cond (ltb (b + 2 * w) k) new s)) (memoryAt k c s m)) nothingDue
     finished b w h new e l =
         let whole = memory-whole room c s new m k b w h size′ e (let z = bytes-first b w in omega arith) in
         let state : cond (ltb (b + 2 * w) k) new s ≡ new =
         by-bool (ltb (b + 2 * w) k) (λ t. rw t)
         (λ t. rw t (by-bool (eqb w 0) (λ z. sym (idle b h new (e ∙ ap (λ (n : ℕ). change b n h new) (eqb-true w 0 z))))
         (λ z. absurd (let past = steps-past b w (eqb-false w 0 z) in let not-yet = ltb-false (b + 2 * w) k t in omega arith)))) in
-        subst (λ (t : State). Goal (view (done (stepsOf b w) h) (some t) (memoryAt k c s m))) (sym state)
-        (subst (λ (n : List ℕ). Goal (view (done (stepsOf b w) h) (some new) n)) (sym whole) (nothingDue, call-done room f e))
+        subst (λ (t : State). Goal (view (done (stepsOf b w) h) (some t) (memoryAt k c s m)) nothingDue) (sym state)
+        (subst (λ (n : List ℕ). Goal (view (done (stepsOf b w) h) (some new) n) nothingDue) (sym whole) (call-done room f e))
 
     cut : (b w h : ℕ) (new : State) (t : Bool) → effectOf room m c s ≡ change b w h new → ltb (b + 2 * w) k ≡ t
-        → Goal (view (stopped k) (some (cond t new s)) (memoryAt k c s m))
+        → Goal (view (stopped k) (some (cond t new s)) (memoryAt k c s m)) (cond t finishDue dropDue)
     cut b w h new true e t =
         let past = ltb-true (b + 2 * w) k t in
-        subst (λ (n : List ℕ). Goal (view (stopped k) (some new) n)) (sym (memory-whole room c s new m k b w h size′ e (omega arith)))
-        (finishDue, call-late room f e)
-    cut b w h new false e t = (dropDue, call-early room f e (memory-mixed c s m k))
+        subst (λ (n : List ℕ). Goal (view (stopped k) (some new) n) finishDue) (sym (memory-whole room c s new m k b w h size′ e (omega arith)))
+        (call-late room f e)
+    cut b w h new false e t = call-early room f e (memory-mixed c s m k)
 
-    go : (e : Effect) → effectOf room m c s ≡ e → Goal (viewedWith e k s m (memoryAt k c s m))
-    go (refuse q) e = (nothingDue, call-refused)
+    go : (e : Effect) → effectOf room m c s ≡ e → Goal (viewedWith e k s m (memoryAt k c s m)) (dueAfter e k)
+    go (refuse q) e = call-refused
     go (change b w h new) e =
         by-bool (leb (stepsOf b w) k)
         (λ t. rw t (finished b w h new e (leb-true (stepsOf b w) k t)))
@@ -163,17 +170,17 @@ view-moves cells k room c s m f size idle = go (effectOf room m c s) refl
 
 -- ---- make and open at any budget
 
+-- a make that is stopped leaves an opening due that takes no step: nothing of it is made later
 pub make-moves : (cells slots k : ℕ) (o : Option State) (m : List ℕ)
-    → (d : Due) × Move cells (world o m nothingDue) (make k) ((makeView slots k o m) .report) (world ((makeView slots k o m) .state) m d)
+    → Move cells (world o m nothingDue) (make k) ((makeView slots k o m) .report)
+    (world ((makeView slots k o m) .state) m (cond (leb (makeSteps slots) k) nothingDue dropDue))
 unfolding ended
-make-moves cells slots k o m =
-    by-bool (leb (makeSteps slots) k)
-    (λ t.
-    let e : ended (makeSteps slots) 0 k ≡ done (makeSteps slots) 0 = ap (λ (b : Bool). cond b (done (makeSteps slots) 0) (stopped k)) t in
-    subst (λ (r : Report). (d : Due) × Move cells (world o m nothingDue) (make k) r (world (makeState slots k o) m d)) (sym e) (nothingDue, make-done slots t))
-    (λ t.
-    let e : ended (makeSteps slots) 0 k ≡ stopped k = ap (λ (b : Bool). cond b (done (makeSteps slots) 0) (stopped k)) t in
-    subst (λ (r : Report). (d : Due) × Move cells (world o m nothingDue) (make k) r (world (makeState slots k o) m d)) (sym e) (dropDue, make-stopped slots t))
+make-moves cells slots k o m = go (leb (makeSteps slots) k) refl
+  where
+    go : (t : Bool) → leb (makeSteps slots) k ≡ t
+        → Move cells (world o m nothingDue) (make k) (cond t (done (makeSteps slots) 0) (stopped k)) (world (makeState slots k o) m (cond t nothingDue dropDue))
+    go true e = make-done slots e
+    go false e = make-stopped slots e
 
 -- with nothing pending it takes no step, whichever opening was due
 open-at-once : (k : ℕ) (s : State) (m : List ℕ) → (openView 0 k s m) .report ≡ done 0 0
@@ -194,18 +201,17 @@ open-drop-moves cells k s m =
 open-takes : (p : ℕ) → openSteps (suc p) ≡ suc (suc p)
 open-takes p = rw (eqb·suc-zero p) (omega arith)
 
+-- an opening that is stopped leaves the same one due
 pub open-finish-moves : (cells p k : ℕ) (s : State) (m : List ℕ)
-    → (d : Due) × Move cells (world (some s) m finishDue) (opening k) ((openView (suc p) k s m) .report) (world (some s) m d)
+    → Move cells (world (some s) m finishDue) (opening k) ((openView (suc p) k s m) .report)
+    (world (some s) m (cond (leb (openSteps (suc p)) k) nothingDue finishDue))
 unfolding ended
-open-finish-moves cells p k s m =
-    by-bool (leb (openSteps (suc p)) k)
-    (λ t.
-    let e : ended (openSteps (suc p)) 0 k ≡ done (suc (suc p)) 0 =
-    ap (λ (b : Bool). cond b (done (openSteps (suc p)) 0) (stopped k)) t ∙ ap (λ (n : ℕ). done n 0) (open-takes p) in
-    subst (λ (r : Report). (d : Due) × Move cells (world (some s) m finishDue) (opening k) r (world (some s) m d)) (sym e) (nothingDue, open-finishes))
-    (λ t.
-    let e : ended (openSteps (suc p)) 0 k ≡ stopped k = ap (λ (b : Bool). cond b (done (openSteps (suc p)) 0) (stopped k)) t in
-    subst (λ (r : Report). (d : Due) × Move cells (world (some s) m finishDue) (opening k) r (world (some s) m d)) (sym e) (finishDue, open-stopped))
+open-finish-moves cells p k s m = go (leb (openSteps (suc p)) k)
+  where
+    go : (t : Bool) → Move cells (world (some s) m finishDue) (opening k) (cond t (done (openSteps (suc p)) 0) (stopped k)) (world (some s) m (cond t nothingDue finishDue))
+    go true =
+        subst (λ (n : ℕ). Move cells (world (some s) m finishDue) (opening k) (done n 0) (world (some s) m nothingDue)) (sym (open-takes p)) open-finishes
+    go false = open-stopped
 
 -- ---- "the search runs from the named domain inwards and ends at the first holder"
 

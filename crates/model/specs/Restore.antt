@@ -9,7 +9,7 @@ use Rattle.words.specs.Scan.{count}
 use Rattle.words.specs.Stores.{tab}
 use Rattle.words.specs.Cells.{cellBytes}
 use Rattle.model.specs.State.{Holding, Domain, State}
-use Rattle.model.specs.Answer.{ask, ended, refused, View, view, stepsOf}
+use Rattle.model.specs.Answer.{Report, done, ask, ended, refused, View, view, stepsOf}
 use Rattle.model.specs.Calls.{Effect, refuse, change, orRefuse}
 use Rattle.model.specs.Holdings.{named, isHeld, isLive, rangeOk, valueOr}
 
@@ -108,6 +108,19 @@ lookChecks m h c s = ask (isLive h s) 5 (ask (rangeOk m c 1) 8 0)
 abbrev pub lookEffect : (m h c : ℕ) → State → Effect
 lookEffect m h c s = orRefuse (lookChecks m h c s) (change 0 0 0 s)
 
+-- what it answers, and the part that it shows
+pub record Looked : Type 0 where
+  pub report : Report
+  pub part : List ℕ
+
 -- "when it is refused, the part has length 0"
-abbrev pub lookPart : (m h c : ℕ) → State → List ℕ → List ℕ
-lookPart m h c s memory = cond (eqb (lookChecks m h c s) 0) (restoredCell (named h s) s memory c) []
+abbrev pub lookRefused : ℕ → Looked
+lookRefused n = record { report = refused n; part = [] }
+
+-- by the number of its questions: 0 shows the part
+abbrev pub lookedBy : ℕ → List ℕ → Looked
+lookedBy ℕ.zero part = record { report = done 0 0; part = part }
+lookedBy (ℕ.suc n) part = lookRefused (ℕ.suc n)
+
+abbrev pub looked : (m h c : ℕ) → State → List ℕ → Looked
+looked m h c s memory = lookedBy (lookChecks m h c s) (restoredCell (named h s) s memory c)

@@ -13,10 +13,13 @@ use Rattle.search.specs.declared.Holder.the-variants.{At, Nobody}
 unfoldable pub stepsIn : ℕ → List ℕ → ℕ → ℕ → ℕ
 stepsIn e t d c = first (suc (live t) - d) (λ k. holdsIn e t (d + k) c)
 
+-- does the domain at depth d, or one inside it, hold cell c?
+abbrev pub heldFrom : ℕ → List ℕ → ℕ → ℕ → Bool
+heldFrom e t d c = ltb (stepsIn e t d c) (suc (live t) - d)
+
 -- the depth and the entry of the first holder, or nobody
 unfoldable pub holderIn : ℕ → List ℕ → ℕ → ℕ → Holder
-holderIn e t d c =
-    cond (ltb (stepsIn e t d c) (suc (live t) - d)) (At (d + stepsIn e t d c) (findIn e t (d + stepsIn e t d c) c)) Nobody
+holderIn e t d c = cond (heldFrom e t d c) (At (d + stepsIn e t d c) (findIn e t (d + stepsIn e t d c) c)) Nobody
 
 -- "The value of a held cell is its body, or for via parent the value held by the next domain out": the entry of that copy, or e
 unfoldable pub sourceIn : ℕ → List ℕ → ℕ → ℕ → ℕ
@@ -29,3 +32,7 @@ sourceIn e t (suc d) c =
 -- the value of the cell that the domain at depth d holds
 unfoldable pub valueIn : ℕ → List ℕ → List ℕ → ℕ → ℕ → List ℕ
 valueIn e t bodies d c = cellBytes bodies (word2 e t (sourceIn e t d c))
+
+-- the body behind what the first holder from depth d inwards holds of cell c
+abbrev pub bodyFrom : ℕ → List ℕ → ℕ → ℕ → ℕ
+bodyFrom e t d c = word2 e t (sourceIn e t (d + stepsIn e t d c) c)

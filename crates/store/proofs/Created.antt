@@ -23,11 +23,12 @@ use Rattle.store.specs.Checks.{openCheck, storeCheck, createCheck}
 use Rattle.store.specs.State.{stateIn, stateOf, standing}
 use Rattle.store.specs.Calls.{openCall, createWords, createCall}
 use Rattle.store.specs.Means.{orRefused, callMeans, createMeans}
-use Rattle.store.proofs.Checks.{ask-yes, create-store, create-live}
+use Rattle.store.proofs.Checks.{ask-yes, orElse-go, create-store, create-live}
 use Rattle.store.proofs.Outcome.{refuses}
 use Rattle.store.proofs.Means.{seenOf, by-check, t-long, store-rule, store-state, store-standing, live-count, next-is}
 use Rattle.store.proofs.Creating.{create-rule, create-state, create-names}
 use Rattle.store.proofs.Changes.{Spares, change-performed, change-seen, change-unmade, change-reopened}
+use Rattle.store.proofs.Pending.{pendingAfter, afterPending, performed-pending, call-pending}
 
 pub create-words : (t : List ℕ) → length (createWords t) ≡ 3
 unfolding createWords
@@ -67,6 +68,10 @@ module _ (memory bodies t : List ℕ) (yes : storeCheck (length memory) (length 
       ≡ viewed (change 0 3 (nextHandle t) (created (stateOf (buffers memory bodies t)))) k (stateOf (buffers memory bodies t)) memory
   unfolding createWords
   create-seen k = change-seen memory bodies t yes [] (createWords t) tt (omega arith) new-names new-rule (nextHandle t) (created (stateOf (buffers memory bodies t))) new-state k
+
+  left : (k : ℕ) → pending ((outcome (perform (changePlan first [] (createWords t)) (nextHandle t)) k (buffers memory bodies t)) .buffers .table) ≡ pendingAfter 0 3 k
+  unfolding createWords
+  left k = performed-pending memory bodies t yes [] (createWords t) (omega arith) new-names (nextHandle t) k
 
   -- ---- cuts: 0 to 6 not made, 7 to 10 made by opening in 4 steps
 
@@ -119,6 +124,20 @@ create-means k b =
     let few = ask-yes (ltb (live (b .table)) maxLive) 9 (ask (ltb (nextHandle (b .table)) 4_294_967_295) 10 0) (omega arith) e in
     create-seen (b .memory) (b .bodies) (b .table) yes (ltb-true _ _ few) k
     ∙ ap (λ (h : ℕ). viewed (change 0 3 h (created (stateOf b))) k (stateOf b) (b .memory)) (sym next))))
+
+-- ---- the pairs that it leaves pending, at every budget
+
+pub create-pending : (k : ℕ) (b : Buffers) → storeCheck (length (b .memory)) (length (b .bodies)) (b .table) ≡ 0
+    → pending ((outcome (createCall b) k b) .buffers .table) ≡ afterPending (createEffect (stateOf b)) k
+unfolding createCall createCheck
+create-pending k b good =
+    let count = live-count (b .memory) (b .bodies) (b .table) good in
+    let next = next-is (b .memory) (b .bodies) (b .table) good in
+    let same : asked (live (b .table)) (nextHandle (b .table)) ≡ asked (length (stateOf b .domains)) (stateOf b .next) = λ i. asked (sym count i) (sym next i) in
+    call-pending k b good _ _ _ _ (orElse-go _ _ good ∙ same)
+    (λ q.
+    let few = ask-yes (ltb (live (b .table)) maxLive) 9 (ask (ltb (nextHandle (b .table)) 4_294_967_295) 10 0) (omega arith) (sym (orElse-go _ _ good) ∙ q) in
+    left (b .memory) (b .bodies) (b .table) good (ltb-true _ _ few) k)
 
 -- ---- what the code cites
 

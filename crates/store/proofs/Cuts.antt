@@ -157,6 +157,13 @@ module _ (memory bodies : ℕ) (t : List ℕ) (long : length t ≡ tableWords (s
   pub opening-again : (k : ℕ) → stores (openPlan (pairsAt (slotsOf (length t))) (opening k)) (opening k) ≡ stores (openPlan (pairsAt (slotsOf (length t))) t) t
   opening-again k = law.opening-again start t before fits named k
 
+  -- as many pairs are pending until it is whole, and then none
+  pub opening-stopped : (k : ℕ) → k ≤ pending t → pending (opening k) ≡ pending t
+  opening-stopped k l = law.opening-stopped start t before fits named k l
+
+  pub opening-done : pending (stores (openPlan (pairsAt (slotsOf (length t))) t) t) ≡ 0
+  opening-done = law.opening-done start t before fits named
+
 -- ---- any number of openings one after the other, each stopped at its own budget
 
 pub openings-open : (memory bodies : ℕ) (ks : List ℕ) (t : List ℕ) → length t ≡ tableWords (slotsOf (length t)) → openCheck memory bodies t ≡ 0
@@ -178,5 +185,4 @@ openings-pending memory bodies p (k ∷ ks) t long opens same all =
     let l : k ≤ pending t = omega (arith, all .0) in
     subst (λ (x : ℕ). pending (openings (pairsAt (slotsOf x)) ks u) ≡ p) n
     (openings-pending memory bodies p ks u (n ∙ long ∙ ap (λ (x : ℕ). tableWords (slotsOf x)) (sym n)) (opening-opens memory bodies t long opens k)
-    (law.opening-stopped (pairsAt (slotsOf (length t))) t (pendingAt-below (slotsOf (length t)))
-    (fits memory bodies t long opens) (named memory bodies t long opens) k l ∙ same) (all .1))
+    (opening-stopped memory bodies t long opens k l ∙ same) (all .1))

@@ -205,6 +205,13 @@ module _ (memory bodies t : List ℕ) (lengths : lengthsOk (length memory) (leng
       let yes1 : lengthsOk (length memory) (length bodies) (length (stores (take k plan) t)) ≡ true = rw (length-stores (take k plan) t) lengths in
       rw (yes1, header-none (length memory) (length bodies) (stores (take k plan) t) gone)
 
+  -- done, it leaves nothing pending
+  pub make-idle : (k : ℕ) → 2 * slotsOf (length t) + 17 ≤ k → pending (stores (take k plan) t) ≡ 0
+  make-idle k l =
+      let m = cellsOf (length memory) in
+      let b = cellsOf (length bodies) in
+      ap (λ (u : List ℕ). pending u) (make-whole m e b t long k l) ∙ idle m e b t long
+
   pub make-fresh : (k : ℕ) → 2 * slotsOf (length t) + 17 ≤ k
       → standing (buffers memory bodies (stores (take k plan) t)) ≡ some fresh
   make-fresh k l =

@@ -1,7 +1,7 @@
 // Where everything stands in the three lent buffers. The numbers of document 01's table stand here and in specs/Layout.antt alone.
 ghost use mathlib.Core.Path.{_≡_};
 ghost use Prim.Native.Nat.{_≤_, _<_};
-ghost use Rattle.words.specs.Layout.{slotsOf, handleAt, firstAt, secondAt, pairsAt, maxLive, maxSlots};
+ghost use Rattle.words.specs.Layout.{cellAt, cellsOf, slotsOf, handleAt, firstAt, secondAt, pairsAt, maxLive, maxSlots};
 
 pub const MAX_CELLS: usize = 65536;
 
@@ -30,6 +30,21 @@ pub const NEXT_AT: usize = 5;
 pub const PENDING_AT: usize = 6;
 
 pub const ZERO_AT: usize = 7;
+
+// The first byte of cell c of memory, or of body c of the bodies.
+pub fn cell_at(c: usize) -> usize
+    requires { ⌜ cellAt c < 18446744073709551616 ⌝ }
+    ensures { λ r. ⌜ r ≡ cellAt c ⌝ }
+{
+    64 * c
+}
+
+// How many cells a buffer of so many bytes has.
+pub fn cells_of(bytes: usize) -> usize
+    ensures { λ r. ⌜ r ≡ cellsOf bytes ⌝ }
+{
+    bytes / 64
+}
 
 // How many entry slots a table of so many words has. A table too short for any has 0.
 pub fn slots_of(words: usize) -> usize

@@ -13,7 +13,7 @@ use Rattle.table.proofs.Marks.{zeros-length, zeros-clear}
 use Rattle.store.proofs.Checks.{shape-facts, store-shape}
 use Rattle.store.proofs.Means.{seenOf}
 use Rattle.advance.specs.Advance.{bodyFor, advanceWords}
-use Rattle.advance.proofs.Raw.{raw-rule}
+use Rattle.store.proofs.Raw.{raw-rule}
 use Rattle.advance.proofs.Turning.{Choice}
 use Rattle.advance.proofs.Noting.{noted-bytes, noted-words, noted-some, noted-fits}
 use Rattle.advance.proofs.Advanced.{advance-store, advance-room, advance-means, advance-refused, advance-performed, lowest}

@@ -9,7 +9,7 @@ use Rattle.table.specs.Entry.{live}
 use Rattle.search.specs.Domain.{depthNamed}
 use Rattle.store.proofs.Checks.{ask-go, ask-stop, orElse-go, orElse-stop, shape-facts, store-shape}
 use Rattle.advance.specs.Notes.{cellsCheck}
-use Rattle.advance.proofs.Raw.{check-rule}
+use Rattle.store.proofs.Raw.{check-rule}
 use Rattle.advance.proofs.Advanced.{check-is}
 use Rattle.advance.proofs.advance_check.Statement.{statement}
 use Rattle.advance.proofs.advance_check.Tie as tie

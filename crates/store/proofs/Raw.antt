@@ -12,13 +12,16 @@ use Rattle.words.proofs.Journal.{effective-idle}
 use Rattle.table.specs.Entry.{live, word1, word2}
 use Rattle.table.proofs.Rule.{Rule, ok-facts, ok-make}
 use Rattle.table.proofs.Agree.{ok-agree}
+use Rattle.search.specs.Domain.{depthNamed}
 use Rattle.search.proofs.Value.{Copy}
+use Rattle.model.specs.Holdings.{named}
 use Rattle.store.specs.Outcome.{buffers}
 use Rattle.store.specs.Checks.{storeCheck}
 use Rattle.store.specs.State.{stateIn, stateOf}
 use Rattle.store.proofs.Checks.{store-idle, store-table, table-rule}
+use Rattle.store.proofs.Domains.{state-named}
 use Rattle.store.proofs.Means.{store-state}
 use Rattle.store.proofs.State.{state-kept}
 
 -- ---- the words in front of the pairs are all that the rule and the state read
 
@@ -63,6 +66,10 @@ module _ (memory bodies t : List ℕ) (yes : storeCheck (length memory) (length 
 
   pub raw-state : stateOf (buffers memory bodies t) ≡ stateIn (slotsOf (length t)) t bodies
   raw-state = store-state memory bodies t yes ∙ front-state (cellsOf (length memory)) (slotsOf (length t)) (cellsOf (length bodies)) t bodies raw-rule
+
+  -- a handle names the same depth
+  pub raw-named : (h : ℕ) → named h (stateOf (buffers memory bodies t)) ≡ depthNamed t h
+  raw-named h = ap (named h) raw-state ∙ state-named (slotsOf (length t)) t bodies h
 
   -- changes of words in front of the pairs
   module _ (ws : List Store) (below : Each (λ s. s .at < pairsAt (slotsOf (length t))) ws)
