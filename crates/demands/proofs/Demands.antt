@@ -1,0 +1,46 @@
+-- The three demands: one term of each, and the proved contract of each call by its name. Assumes nothing.
+use Rattle.store.proofs.make.Met as make-proof
+use Rattle.store.proofs.open.Met as open-proof
+use Rattle.store.proofs.create.Met as create-proof
+use Rattle.store.proofs.list.Met as list-proof
+use Rattle.add.proofs.add.Met as add-proof
+use Rattle.delete.proofs.delete.Met as delete-proof
+use Rattle.commit.proofs.commit.Met as commit-proof
+use Rattle.advance.proofs.advance.Met as advance-proof
+use Rattle.restore.proofs.restore.Met as restore-proof
+use Rattle.look.proofs.look.Met as look-proof
+use Rattle.look.proofs.look_place.Met as look-place-proof
+use Rattle.look.proofs.look_answer.Met as look-answer-proof
+use Rattle.demands.specs.Demands.{Proved, Demand1, Demand2, Demand3, Counted}
+use Rattle.demands.proofs.Refused as refused
+use Rattle.demands.proofs.Meant as meant
+use Rattle.demands.proofs.Theorem as theorem
+
+pub proved : (M : Type 1) → Proved M
+proved M = record {
+  of-make = make-proof.met;
+  of-open = open-proof.met;
+  of-create = create-proof.met;
+  of-add = add-proof.met;
+  of-delete = delete-proof.met;
+  of-commit = commit-proof.met;
+  of-advance = advance-proof.met;
+  of-restore = restore-proof.met;
+  of-list = list-proof.met;
+  of-look = look-proof.met;
+  of-look-place = look-place-proof.met;
+  of-look-answer = look-answer-proof.met;
+}
+
+pub demand-1 : Demand1
+demand-1 = refused.demand-1
+
+pub demand-2 : Demand2
+demand-2 = meant.demand-2
+
+pub demand-3 : Demand3
+demand-3 = theorem.demand-3
+
+-- and what keeps demand 3 from holding of nothing
+pub counted : Counted
+counted = theorem.counted

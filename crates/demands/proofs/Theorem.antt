@@ -1,0 +1,296 @@
+-- Demand 3 over lent buffers: every session over buffers is a session over what they stand for, so every mismatch count in it is 0; and the laws
+-- against an empty count. Assumes nothing.
+use Prim.Native.Nat.{ℕ, zero, suc, _+_, _*_, _≤_, _<_}
+use mathlib.Core.Bool.{Bool, true, false, cond, not, _&&_, _||_, true≢false, false≢true}
+use mathlib.Core.List.{List, [], _∷_, _++_}
+use mathlib.Core.Option.{Option, none, some}
+use mathlib.Core.Path.{_≡_, refl, sym, ap, subst, _∙_}
+use native.Mathlib.Omega.{arith}
+use borrow.Author.Tests.{leb-true, eq-eqb}
+use lib.Dec.{leb, ltb, eqb, leb·zero, eqb·suc-zero}
+use lib.ListN.{length}
+use Rattle.words.specs.Layout.{cellsOf}
+use Rattle.words.specs.Journal.{pending}
+use Rattle.words.proofs.Scan.{by-bool, and-split}
+use Rattle.table.specs.Checks.{lengthsOk}
+use Rattle.table.proofs.Checks.{Lengths, lengths-facts}
+use Rattle.model.specs.State.{State}
+use Rattle.model.specs.Answer.{Status, isDone, isStopped, isRefused, Report, done, stopped, refused, ended, ask, View, view, stepsOf}
+use Rattle.model.specs.Calls.{Effect, refuse, change, fresh, makeSteps, makeState, makeView}
+use Rattle.model.specs.Holdings.{named}
+use Rattle.model.specs.Restore.{viewedWith}
+use Rattle.model.specs.History.{Request, restore, called, opened, Observation, observed, Tracked, History, begun, withWaiting, finished, observe, trackedAt, mismatches, countEvent, counts, historyAfter}
+use Rattle.model.specs.Session.{Input, make, call, opening, write, shown, effectOf, memoryAt, Due, nothingDue, dropDue, finishDue, World, world, memoryOf, Move, Session, end, next, afterMake, AllZero, Agrees, atOpening}
+use Rattle.model.proofs.Demand as abstract
+use Rattle.store.specs.Outcome.{Buffers, Outcome, outcome}
+use Rattle.store.specs.Checks.{makeCheck}
+use Rattle.store.specs.State.{stateOf, standing, slots}
+use Rattle.store.specs.Calls.{makeCall, openCall}
+use Rattle.store.specs.Means.{orRefused, makeMeans, roomOf}
+use Rattle.store.proofs.Means.{seenOf, by-check, make-means, store-standing}
+use Rattle.store.proofs.Standing.{is-standing}
+use Rattle.store.proofs.Pending.{make-pending}
+use Rattle.demands.specs.Session.{callOn, inputOn, session, buffersAfter, wasStopped, isOpening, openingRule}
+use Rattle.demands.specs.Demands.{lengthsRight, asked, opens, madeFrom, MakeDone, Demand3, historyOf, historyNow, openings, allStopped, CountsOne, Counted}
+use Rattle.demands.proofs.Shape.{None, Alike, input-alike}
+use Rattle.demands.proofs.Steps.{Fits, Pends, Moves, worldOf, exact, open-seen, open-refusal, not-due, input-moves}
+use Rattle.demands.proofs.Seen.{call-means, call-refusal}
+
+-- ---- from make
+
+abbrev Told : Status → Type 0
+Told isDone = Unit {0}
+Told isStopped = ⊥
+Told isRefused = ⊥
+
+-- only a make that passed question 1 and had the budget for all its steps is done
+pub make-passed : (k : ℕ) (b : Buffers) → MakeDone b k → lengthsRight b ≡ true
+unfolding makeMeans makeCheck
+make-passed k b e =
+    by-bool (lengthsRight b) (λ t. t)
+    (λ t.
+    let r : (makeMeans k b) .report .status ≡ isRefused = rw t in
+    absurd (subst Told (sym e ∙ ap (λ (v : View). v .report .status) (make-means k b) ∙ r) tt))
+
+make-view : (k : ℕ) (b : Buffers) → MakeDone b k → seenOf (outcome (makeCall b) k b) ≡ makeView (slots b) k (standing b) (b .memory)
+unfolding makeMeans makeCheck
+make-view k b e = make-means k b ∙ rw (make-passed k b e)
+
+ended-enough : (need h k : ℕ) → (ended need h k) .status ≡ isDone → leb need k ≡ true
+unfolding ended
+ended-enough need h k e = by-bool (leb need k) (λ t. t) (λ t. let r = rw t at e in absurd (subst Told (sym r) tt))
+
+make-enough : (k : ℕ) (b : Buffers) → MakeDone b k → leb (makeSteps (slots b)) k ≡ true
+make-enough k b e = ended-enough (makeSteps (slots b)) 0 k (ap (λ (v : View). v .report .status) (sym (make-view k b e)) ∙ e)
+
+pub make-stands : (k : ℕ) (b : Buffers) → MakeDone b k → standing (madeFrom b k) ≡ some fresh
+make-stands k b e = ap (λ (v : View). v .state) (make-view k b e) ∙ rw (make-enough k b e)
+
+make-memory : (k : ℕ) (b : Buffers) → MakeDone b k → (madeFrom b k) .memory ≡ b .memory
+make-memory k b e = ap (λ (v : View). v .memory) (make-view k b e)
+
+abbrev cellsIn : Buffers → ℕ
+cellsIn b = cellsOf (length (b .memory))
+
+make-fits : (k : ℕ) (b : Buffers) → MakeDone b k → Fits (cellsIn b) (madeFrom b k) nothingDue
+make-fits k b e =
+    let a = input-alike (make k) b in
+    record {
+      lengths = rw (a .memory, a .bodies, a .table) (make-passed k b e);
+      size = ap cellsOf (a .memory);
+      pends = λ s q. make-pending k b (make-passed k b e) (leb-true (makeSteps (slots b)) k (make-enough k b e));
+    }
+
+make-exact : (k : ℕ) (b : Buffers) → MakeDone b k → length ((madeFrom b k) .memory) ≡ 64 * cellsIn b
+make-exact k b e = let f = make-fits k b e in exact f ∙ ap (λ (n : ℕ). 64 * n) (f .size)
+
+-- ---- reports
+
+viewed-done : (e : Effect) (k : ℕ) (s : State) (m n : List ℕ) → (viewedWith e k s m n) .report .status ≡ isDone
+    → (x : ℕ) × ((h : ℕ) × ((viewedWith e k s m n) .report ≡ done x h))
+unfolding ended
+viewed-done (refuse q) k s m n e = absurd (subst Told (sym e) tt)
+viewed-done (change b w h new) k s m n e =
+    by-bool (leb (stepsOf b w) k) (λ t. rw t (stepsOf b w, (h, refl))) (λ t. let r = rw t at e in absurd (subst Told (sym r) tt))
+
+abbrev pub Halted : Status → Type 0
+Halted isDone = ⊥
+Halted isStopped = Unit {0}
+Halted isRefused = ⊥
+
+-- with nothing pending an opening is never stopped, and takes no step
+idle-opening : (k : ℕ) (b : Buffers) → ((s : State) → standing b ≡ some s → pending (b .table) ≡ 0)
+    → (((outcome (openCall b) k b) .report .status ≡ isStopped → ⊥) × ((outcome (openCall b) k b) .report .steps ≡ 0))
+unfolding ended
+idle-opening k b f = by-check (λ q. opens b ≡ q → Goal) (opens b) (λ n e _. no-store n e) (λ e _. store e) refl
+  where
+    Goal : Type 0
+    Goal = ((outcome (openCall b) k b) .report .status ≡ isStopped → ⊥) × ((outcome (openCall b) k b) .report .steps ≡ 0)
+
+    by-report : (r : Report) → (outcome (openCall b) k b) .report ≡ r → (r .status ≡ isStopped → ⊥) → r .steps ≡ 0 → Goal
+    by-report r e g z = (λ h. g (ap (λ (x : Report). x .status) (sym e) ∙ h), ap (λ (x : Report). x .steps) e ∙ z)
+
+    no-store : (n : ℕ) → opens b ≡ suc n → Goal
+    no-store n e = by-report (refused (suc n)) (open-refusal k n b e) (λ h. subst Halted (sym h) tt) refl
+
+    store : opens b ≡ 0 → Goal
+    store e =
+        let idle : pending (b .table) ≡ 0 = f (stateOf b) (is-standing b e) in
+        let r : (outcome (openCall b) k b) .report ≡ done 0 0 = ap (λ (v : View). v .report) (open-seen k b e) ∙ rw (idle, leb·zero k) in
+        by-report (done 0 0) r (λ h. subst Halted (sym h) tt) refl
+
+-- ---- the history over the end of a session
+
+history-then : (l rest : List Input) (b : Buffers) (n : History) → historyAfter n (session (l ++ rest) b) ≡ historyAfter (historyAfter n (session l b)) (session rest (buffersAfter l b))
+history-then [] rest b n = refl
+history-then (i ∷ is) rest b n =
+    history-then is rest ((inputOn i b) .buffers) (observe (observed (shown i ((inputOn i b) .report)) ((inputOn i b) .buffers .memory)) n)
+
+-- stopped openings leave it as it is
+stopped-openings : (ks : List ℕ) (b : Buffers) (n : History) → allStopped ks b → historyAfter n (session (openings ks) b) ≡ n
+stopped-openings [] b n a = refl
+stopped-openings (k ∷ ks) b n a =
+    let o : Outcome = outcome (openCall b) k b in
+    ap (λ (t : Status). historyAfter (observe (observed (opened k t (o .report .steps)) (o .buffers .memory)) n) (session (openings ks) (o .buffers))) (a .0)
+    ∙ stopped-openings ks (o .buffers) n (a .1)
+
+-- ---- a session over buffers, before some more inputs, is one over what they stand for
+
+pub record Simulates (cells : ℕ) (l rest : List Input) (b : Buffers) (d : Due) : Type 0 where
+  pub due : Due
+  pub stopped : Bool
+  pub abstract : Session cells (worldOf b d) (session l b) (worldOf (buffersAfter l b) due)
+  pub fits : Fits cells (buffersAfter l b) due
+  pub free : stopped ≡ false → due ≡ nothingDue
+  pub after : openingRule stopped rest (buffersAfter l b) ≡ true
+
+pub simulates : (cells : ℕ) (l rest : List Input) (b : Buffers) (d : Due) (due : Bool) → Fits cells b d → (due ≡ false → d ≡ nothingDue)
+    → openingRule due (l ++ rest) b ≡ true → Simulates cells l rest b d
+simulates cells [] rest b d due f z r = record { due = d; stopped = due; abstract = end; fits = f; free = z; after = r }
+simulates cells (i ∷ is) rest b d due f z r =
+    let s = and-split (not due || isOpening i) (openingRule (wasStopped ((inputOn i b) .report .status)) (is ++ rest) ((inputOn i b) .buffers)) r in
+    let m : Moves cells i b d = input-moves cells i b d due f z (s .0) in
+    let t = simulates cells is rest ((inputOn i b) .buffers) (m .due) (wasStopped ((inputOn i b) .report .status)) (m .fits) (m .free) (s .1) in
+    record { due = t .due; stopped = t .stopped; abstract = next (m .move) (t .abstract); fits = t .fits; free = t .free; after = t .after }
+
+module _ (b : Buffers) (k : ℕ) (l rest : List Input) (e : MakeDone b k) (rule : openingRule false (l ++ rest) (madeFrom b k) ≡ true) where
+  pub run : Simulates (cellsIn b) l rest (madeFrom b k) nothingDue
+  run = simulates (cellsIn b) l rest (madeFrom b k) nothingDue false (make-fits k b e) (λ _. refl) rule
+
+  pub from-make : Session (cellsIn b) (afterMake ((madeFrom b k) .memory)) (session l (madeFrom b k)) (worldOf (buffersAfter l (madeFrom b k)) (run .due))
+  from-make =
+      subst (λ (o : Option State). Session (cellsIn b) (world o ((madeFrom b k) .memory) nothingDue) (session l (madeFrom b k)) (worldOf (buffersAfter l (madeFrom b k)) (run .due)))
+      (make-stands k b e) (run .abstract)
+
+whole : (l : List Input) (due : Bool) (b : Buffers) → openingRule due l b ≡ true → openingRule due (l ++ []) b ≡ true
+whole [] due b r = refl
+whole (i ∷ is) due b r =
+    let s = and-split (not due || isOpening i) (openingRule (wasStopped ((inputOn i b) .report .status)) is ((inputOn i b) .buffers)) r in
+    rw (s .0) (whole is (wasStopped ((inputOn i b) .report .status)) ((inputOn i b) .buffers) (s .1))
+
+-- ---- the theorem
+
+pub demand-3 : Demand3
+demand-3 b k l e rule =
+    abstract.demand-3 (cellsIn b) ((madeFrom b k) .memory) (session l (madeFrom b k)) _ (make-exact k b e) (from-make b k l [] e (whole l false (madeFrom b k) rule))
+
+-- ---- the history agrees with the state that the buffers stand for
+
+pub history-agrees : (b : Buffers) (k : ℕ) (l : List Input) (s : State) → MakeDone b k → openingRule false l (madeFrom b k) ≡ true
+    → standing (buffersAfter l (madeFrom b k)) ≡ some s → Agrees s (historyNow (buffersAfter l (madeFrom b k)) (historyOf (madeFrom b k) l))
+history-agrees b k l s e rule there =
+    let r = whole l false (madeFrom b k) rule in
+    go (run b k l [] e r .due) (run b k l [] e r .fits .pends)
+    (abstract.history-agrees (cellsIn b) ((madeFrom b k) .memory) (session l (madeFrom b k)) s (last .memory) (run b k l [] e r .due) (make-exact k b e)
+    (subst (λ (o : Option State). Session (cellsIn b) (afterMake ((madeFrom b k) .memory)) (session l (madeFrom b k)) (world o (last .memory) (run b k l [] e r .due))) there (from-make b k l [] e r)))
+  where
+    last : Buffers
+    last = buffersAfter l (madeFrom b k)
+
+    n : History
+    n = historyOf (madeFrom b k) l
+
+    go : (d : Due) → Pends d last → Agrees s (atOpening d (last .memory) n) → Agrees s (historyNow last n)
+    go nothingDue p a = rw (p s there) a
+    go dropDue p a = rw (p s there) (record { same-next = a .same-next; same-domains = a .same-domains })
+    go finishDue p a = rw (p .1 .1, eqb·suc-zero (p .1 .0)) a
+
+-- ---- every completed restore of a domain not excluded adds exactly one count
+
+module _ (b : Buffers) (k : ℕ) (l : List Input) (h j : ℕ) (e : MakeDone b k) (rule : openingRule false (l ++ call (restore h) j ∷ []) (madeFrom b k) ≡ true) where
+  abbrev last : Buffers
+  last = buffersAfter l (madeFrom b k)
+
+  abbrev before : Simulates (cellsIn b) l (call (restore h) j ∷ []) (madeFrom b k) nothingDue
+  before = run b k l (call (restore h) j ∷ []) e rule
+
+  none-due : before .due ≡ nothingDue
+  none-due = before .free (not-due (before .stopped) (and-split (not (before .stopped) || false) true (before .after) .0))
+
+  here : Session (cellsIn b) (afterMake ((madeFrom b k) .memory)) (session l (madeFrom b k)) (worldOf (buffersAfter l (madeFrom b k)) nothingDue)
+  here =
+      subst (λ (d : Due). Session (cellsIn b) (afterMake ((madeFrom b k) .memory)) (session l (madeFrom b k)) (worldOf (buffersAfter l (madeFrom b k)) d)) none-due
+      (from-make b k l (call (restore h) j ∷ []) e rule)
+
+  moves : Moves (cellsIn b) (call (restore h) j) (buffersAfter l (madeFrom b k)) nothingDue
+  moves =
+      input-moves (cellsIn b) (call (restore h) j) (buffersAfter l (madeFrom b k)) nothingDue false
+      (subst (λ (d : Due). Fits (cellsIn b) (buffersAfter l (madeFrom b k)) d) none-due (before .fits)) (λ _. refl) refl
+
+  -- a restore that is not refused passed questions 1 to 4
+  passed : ((callOn (restore h) j (buffersAfter l (madeFrom b k))) .report .status ≡ isRefused → ⊥) → asked (buffersAfter l (madeFrom b k)) ≡ 0
+  passed f =
+      by-check (λ q. asked (buffersAfter l (madeFrom b k)) ≡ q → asked (buffersAfter l (madeFrom b k)) ≡ 0) (asked (buffersAfter l (madeFrom b k)))
+      (λ n z _. absurd (f (ap (λ (r : Report). r .status) (call-refusal (restore h) j n (buffersAfter l (madeFrom b k)) z))))
+      (λ z _. z) refl
+
+  stands : asked (buffersAfter l (madeFrom b k)) ≡ 0 → standing (buffersAfter l (madeFrom b k)) ≡ some (stateOf (buffersAfter l (madeFrom b k)))
+  stands z = store-standing (buffersAfter l (madeFrom b k) .memory) (buffersAfter l (madeFrom b k) .bodies) (buffersAfter l (madeFrom b k) .table) z
+
+  pub done-counts : (callOn (restore h) j (buffersAfter l (madeFrom b k))) .report .status ≡ isDone
+      → CountsOne h (buffersAfter l (madeFrom b k)) (historyOf (madeFrom b k) l) (called (restore h) j isDone)
+      ((callOn (restore h) j (buffersAfter l (madeFrom b k))) .buffers .memory) (historyOf (madeFrom b k) l)
+  done-counts d =
+      let z = passed (λ r. subst Told (sym d ∙ r) tt) in
+      let seen-is = call-means (restore h) j last z in
+      let v = viewed-done (effectOf (roomOf last) (last .memory) (restore h) (stateOf last)) j (stateOf last) (last .memory) (memoryAt j (restore h) (stateOf last) (last .memory))
+      (ap (λ (v : View). v .report .status) (sym seen-is) ∙ d) in
+      let r : (callOn (restore h) j last) .report ≡ done (v .0) (v .1 .0) = ap (λ (v : View). v .report) seen-is ∙ v .1 .1 in
+      abstract.restore-counted (cellsIn b) ((madeFrom b k) .memory) (session l (madeFrom b k)) (stateOf last) (last .memory) h j (v .0) (v .1 .0)
+      (worldOf ((callOn (restore h) j last) .buffers) (moves .due)) (make-exact k b e)
+      (subst (λ (o : Option State). Session (cellsIn b) (afterMake ((madeFrom b k) .memory)) (session l (madeFrom b k)) (world o (last .memory) nothingDue)) (stands z) here)
+      (subst (λ (o : Option State). Move (cellsIn b) (world o (last .memory) nothingDue) (call (restore h) j) (done (v .0) (v .1 .0)) (worldOf ((callOn (restore h) j last) .buffers) (moves .due))) (stands z)
+      (subst (λ (x : Report). Move (cellsIn b) (worldOf last nothingDue) (call (restore h) j) x (worldOf ((callOn (restore h) j last) .buffers) (moves .due))) r (moves .move)))
+
+  -- stopped: what it leaves has nothing pending, and then no opening takes a step; or an opening is to finish it
+  pub late-counts : (ks : List ℕ) (i x : ℕ) → (callOn (restore h) j (buffersAfter l (madeFrom b k))) .report .status ≡ isStopped
+      → allStopped ks ((callOn (restore h) j (buffersAfter l (madeFrom b k))) .buffers)
+      → (outcome (openCall (buffersAfter (openings ks) ((callOn (restore h) j (buffersAfter l (madeFrom b k))) .buffers))) i (buffersAfter (openings ks) ((callOn (restore h) j (buffersAfter l (madeFrom b k))) .buffers))) .report ≡ done (suc x) 0
+      → CountsOne h (buffersAfter l (madeFrom b k)) (historyOf (madeFrom b k) l) (opened i isDone (suc x))
+      ((callOn (restore h) j (buffersAfter l (madeFrom b k))) .buffers .memory) (historyOf (madeFrom b k) (l ++ call (restore h) j ∷ openings ks))
+  late-counts ks i x d stops took = by-due (moves .due) (moves .fits .pends) (moves .move)
+    where
+      left : Buffers
+      left = (callOn (restore h) j (buffersAfter l (madeFrom b k))) .buffers
+
+      n : History
+      n = historyOf (madeFrom b k) l
+
+      Goal : Type 0
+      Goal =
+          CountsOne h (buffersAfter l (madeFrom b k)) (historyOf (madeFrom b k) l) (opened i isDone (suc x))
+          ((callOn (restore h) j (buffersAfter l (madeFrom b k))) .buffers .memory) (historyOf (madeFrom b k) (l ++ call (restore h) j ∷ openings ks))
+
+      z : asked (buffersAfter l (madeFrom b k)) ≡ 0
+      z = passed (λ r. subst Halted (sym d ∙ r) tt)
+
+      -- nothing pending: the first opening is done with no step
+      idle : (ks : List ℕ) → ((s : State) → standing left ≡ some s → pending (left .table) ≡ 0) → allStopped ks left
+          → (outcome (openCall (buffersAfter (openings ks) left)) i (buffersAfter (openings ks) left)) .report ≡ done (suc x) 0 → ⊥
+      idle [] f a t = let s : suc x ≡ 0 = ap (λ (r : Report). r .steps) (sym t) ∙ idle-opening i left f .1 in omega arith
+      idle (y ∷ ys) f a t = idle-opening y left f .0 (a .0)
+
+      -- the history at the last opening
+      history-is : historyOf (madeFrom b k) (l ++ call (restore h) j ∷ openings ks) ≡ observe (observed (called (restore h) j isStopped) (left .memory)) n
+      history-is =
+          history-then l (call (restore h) j ∷ openings ks) (madeFrom b k) begun
+          ∙ stopped-openings ks left (observe (observed (called (restore h) j ((callOn (restore h) j (buffersAfter l (madeFrom b k))) .report .status)) (left .memory)) n) stops
+          ∙ ap (λ (t : Status). observe (observed (called (restore h) j t) (left .memory)) n) d
+
+      by-due : (due : Due) → Pends due left → Move (cellsIn b) (worldOf (buffersAfter l (madeFrom b k)) nothingDue) (call (restore h) j) ((callOn (restore h) j (buffersAfter l (madeFrom b k))) .report) (worldOf left due) → Goal
+      by-due nothingDue p m = absurd (idle ks p stops took)
+      by-due dropDue p m = absurd (idle ks p stops took)
+      by-due finishDue p m =
+          let c =
+          abstract.restore-counted-late (cellsIn b) ((madeFrom b k) .memory) (session l (madeFrom b k)) (stateOf last) (last .memory) (left .memory) h j i x
+          ((callOn (restore h) j (buffersAfter l (madeFrom b k))) .report) (standing left) (make-exact k b e)
+          (subst (λ (o : Option State). Session (cellsIn b) (afterMake ((madeFrom b k) .memory)) (session l (madeFrom b k)) (world o (last .memory) nothingDue)) (stands z) here)
+          (subst (λ (o : Option State). Move (cellsIn b) (world o (last .memory) nothingDue) (call (restore h) j) ((callOn (restore h) j (buffersAfter l (madeFrom b k))) .report) (worldOf left finishDue)) (stands z) m) in
+          (c .0, c .1, λ g. ap (λ (t : History). countEvent (opened i isDone (suc x)) (left .memory) t) history-is ∙ c .2 g)
+
+pub counted : Counted
+counted = record {
+  agrees = history-agrees;
+  done-counts = λ b k l h j e rule d. done-counts b k l h j e rule d;
+  late-counts = λ b k l h j ks i x e rule d stops took. late-counts b k l h j e rule ks i x d stops took;
+}

@@ -1,0 +1,220 @@
+-- The user's three demands (document 00), as definitions; proofs/Demands.antt has one term of each.
+--
+-- "Every call on every input ends and stays inside its buffers" is what a proof of a Rattle function says by itself: it ends, and no index leaves
+-- its slice; and no exported call has a `requires`, so that this holds on every input. `Proved` names the proved contract of each call.
+use Prim.Native.Nat.{ℕ, suc, _<_}
+use mathlib.Core.Bool.{Bool, true, false, cond, _&&_}
+use mathlib.Core.List.{List, [], _∷_, _++_}
+use mathlib.Core.Logic.{_⊎_}
+use mathlib.Core.Option.{Option, none, some}
+use mathlib.Core.Path.{_≡_}
+use lib.Dec.{leb, eqb}
+use lib.ListN.{length}
+use Rattle.words.specs.Layout.{cellsOf, slotsOf}
+use Rattle.words.specs.Journal.{pending}
+use Rattle.table.specs.Checks.{lengthsOk, headerOk}
+use Rattle.table.specs.Rule.{tableOk}
+use Rattle.model.specs.State.{State}
+use Rattle.model.specs.Answer.{isDone, isStopped, isRefused, Report, done, refused, View}
+use Rattle.model.specs.Calls.{change}
+use Rattle.model.specs.Holdings.{named, isLive, isInnermost, rangeOk}
+use Rattle.model.specs.History.{Request, create, list, add, delete, advance, commit, restore, look, Event, called, opened, History, Tracked, begun, finished, trackedAt, mismatches, countEvent, counts, historyAfter}
+use Rattle.model.specs.Session.{Input, make, call, opening, write, effectOf, memoryAfter, viewOf, Mixed, AllZero, Agrees}
+use Rattle.store.specs.Outcome.{Buffers, Outcome, outcome, leaves}
+use Rattle.store.specs.Checks.{openCheck, storeCheck}
+use Rattle.store.specs.State.{StandsFor, slots, effectiveTable, stateOf, standing}
+use Rattle.store.specs.Calls.{makeCall, openCall}
+use Rattle.store.specs.Means.{seen, orRefused, makeMeans, openMeans, roomOf}
+use Rattle.look.specs.Look.{lookPlace, shownAt, lookMeans}
+use Rattle.store.proofs.make.Statement as make-contract
+use Rattle.store.proofs.open.Statement as open-contract
+use Rattle.store.proofs.create.Statement as create-contract
+use Rattle.store.proofs.list.Statement as list-contract
+use Rattle.add.proofs.add.Statement as add-contract
+use Rattle.delete.proofs.delete.Statement as delete-contract
+use Rattle.commit.proofs.commit.Statement as commit-contract
+use Rattle.advance.proofs.advance.Statement as advance-contract
+use Rattle.restore.proofs.restore.Statement as restore-contract
+use Rattle.look.proofs.look.Statement as look-contract
+use Rattle.look.proofs.look_place.Statement as look-place-contract
+use Rattle.look.proofs.look_answer.Statement as look-answer-contract
+use Rattle.demands.specs.Session.{callOn, inputOn, session, buffersAfter, openingRule}
+
+-- ---- the proved contract of each exported call
+
+pub record Proved (M : Type 1) : Type 2 where
+  pub of-make : make-contract.statement M
+  pub of-open : open-contract.statement M
+  pub of-create : create-contract.statement M
+  pub of-add : add-contract.statement M
+  pub of-delete : delete-contract.statement M
+  pub of-commit : commit-contract.statement M
+  pub of-advance : advance-contract.statement M
+  pub of-restore : restore-contract.statement M
+  pub of-list : list-contract.statement M
+  pub of-look : look-contract.statement M
+  pub of-look-place : look-place-contract.statement M
+  pub of-look-answer : look-answer-contract.statement M
+
+-- ---- demand 1: "it is refused by the number in document 01, and every lent word and byte keeps its value"
+
+-- the answers to questions 1, 2 and 4
+abbrev pub lengthsRight : Buffers → Bool
+lengthsRight b = lengthsOk (length (b .memory)) (length (b .bodies)) (length (b .table))
+
+abbrev pub headerRight : Buffers → Bool
+headerRight b = headerOk (length (b .memory)) (length (b .bodies)) (b .table)
+
+abbrev pub tableRight : Buffers → Bool
+tableRight b = tableOk (cellsOf (length (b .memory))) (slots b) (cellsOf (length (b .bodies))) (b .table)
+
+-- the number of the first no among questions 1 to 4, and among those put to open
+abbrev pub asked : Buffers → ℕ
+asked b = storeCheck (length (b .memory)) (length (b .bodies)) (b .table)
+
+abbrev pub opens : Buffers → ℕ
+opens b = openCheck (length (b .memory)) (length (b .bodies)) (b .table)
+
+-- every call, and "a call other than make"
+abbrev pub isCall : Input → Bool
+isCall (make k) = true
+isCall (call c k) = true
+isCall (opening k) = true
+isCall (write ws) = false
+
+abbrev pub isLater : Input → Bool
+isLater (make k) = false
+isLater (call c k) = true
+isLater (opening k) = true
+isLater (write ws) = false
+
+-- the handle that a call names
+abbrev pub handleOf : Request → Option ℕ
+handleOf create = none
+handleOf list = none
+handleOf (add h first n kind label) = some h
+handleOf (delete h first n) = some h
+handleOf (advance h) = some h
+handleOf (commit h) = some h
+handleOf (restore h) = some h
+handleOf (look h c) = some h
+
+pub record Demand1 : Type 0 where
+  -- a refusal has its number, no step and no handle, and leaves every buffer as lent
+  pub kept : (i : Input) (b : Buffers) → (inputOn i b) .report .status ≡ isRefused → inputOn i b ≡ leaves (refused ((inputOn i b) .report .refusal)) b
+  -- "any call a wrong length"
+  pub wrong-length : (i : Input) (b : Buffers) → isCall i ≡ true → lengthsRight b ≡ false → inputOn i b ≡ leaves (refused 1) b
+  -- "a call other than make meets a damaged table": words 0 to 3 and 7, pairs that wait for opening, and the table's rule
+  pub wrong-header : (i : Input) (b : Buffers) → isLater i ≡ true → lengthsRight b ≡ true → headerRight b ≡ false → inputOn i b ≡ leaves (refused 2) b
+  pub unopened : (c : Request) (k : ℕ) (b : Buffers) → lengthsRight b ≡ true → headerRight b ≡ true → (pending (b .table) ≡ 0 → ⊥)
+      → callOn c k b ≡ leaves (refused 3) b
+  pub wrong-table : (c : Request) (k : ℕ) (b : Buffers) → lengthsRight b ≡ true → headerRight b ≡ true → pending (b .table) ≡ 0 → tableRight b ≡ false
+      → callOn c k b ≡ leaves (refused 4) b
+  pub wrong-pairs : (k : ℕ) (b : Buffers) → lengthsRight b ≡ true → headerRight b ≡ true → tableRight b ≡ false
+      → outcome (openCall b) k b ≡ leaves (refused 4) b
+  -- "a dead handle"
+  pub stale-handle : (c : Request) (h k : ℕ) (b : Buffers) → asked b ≡ 0 → handleOf c ≡ some h → isLive h (stateOf b) ≡ false
+      → callOn c k b ≡ leaves (refused 5) b
+  -- "or a range past the memory"
+  pub past-add : (h first n kind label k : ℕ) (b : Buffers) → asked b ≡ 0 → isLive h (stateOf b) ≡ true → isInnermost h (stateOf b) ≡ true
+      → (leb kind 1 && leb label 1) ≡ true → rangeOk (cellsOf (length (b .memory))) first n ≡ false
+      → callOn (add h first n kind label) k b ≡ leaves (refused 8) b
+  pub past-delete : (h first n k : ℕ) (b : Buffers) → asked b ≡ 0 → isLive h (stateOf b) ≡ true → rangeOk (cellsOf (length (b .memory))) first n ≡ false
+      → callOn (delete h first n) k b ≡ leaves (refused 8) b
+  pub past-look : (h c k : ℕ) (b : Buffers) → asked b ≡ 0 → isLive h (stateOf b) ≡ true → rangeOk (cellsOf (length (b .memory))) c 1 ≡ false
+      → callOn (look h c) k b ≡ leaves (refused 8) b
+
+-- ---- demand 2: "Each call answers and leaves the holdings as the containment domain API of 2012 says, with the choices of document 01"
+
+-- what is to be seen of a call: its report, the state that opening finds, and memory
+abbrev pub shows : Outcome → View
+shows o = seen (o .report) (o .buffers)
+
+-- and what should be: questions 1 to 4 are put to the buffers, the others to the state
+abbrev pub callView : Request → (budget : ℕ) → Buffers → View
+callView c k b = orRefused (asked b) b (viewOf (roomOf b) c k (stateOf b) (b .memory))
+
+-- "After a cut, opening finds the call wholly made or not made": not made, with nothing for opening to do, and memory mixed only where the call
+-- puts bytes back; or made, with pairs for opening to put in place, and memory whole
+pub data Found (c : Request) (b left : Buffers) : Type 0 where
+  not-made : standing left ≡ some (stateOf b) → pending (left .table) ≡ 0 → Mixed (b .memory) (memoryAfter c (stateOf b) (b .memory)) (left .memory) → Found c b left
+  wholly-made : {bytes words h : ℕ} {new : State} → effectOf (roomOf b) (b .memory) c (stateOf b) ≡ change bytes words h new → standing left ≡ some new
+      → 0 < pending (left .table) → left .memory ≡ memoryAfter c (stateOf b) (b .memory) → Found c b left
+
+abbrev pub noMake : List Input → Bool
+noMake [] = true
+noMake (make k ∷ is) = false
+noMake (call c k ∷ is) = noMake is
+noMake (opening k ∷ is) = noMake is
+noMake (write ws ∷ is) = noMake is
+
+-- the buffers after a make with budget k, and whether it was done
+abbrev pub madeFrom : Buffers → (k : ℕ) → Buffers
+madeFrom b k = (outcome (makeCall b) k b) .buffers
+
+abbrev pub MakeDone : Buffers → (k : ℕ) → Type 0
+MakeDone b k = (outcome (makeCall b) k b) .report .status ≡ isDone
+
+pub record Demand2 : Type 0 where
+  pub make-shows : (k : ℕ) (b : Buffers) → shows (outcome (makeCall b) k b) ≡ makeMeans k b
+  pub open-shows : (k : ℕ) (b : Buffers) → shows (outcome (openCall b) k b) ≡ openMeans k b
+  pub call-shows : (c : Request) (k : ℕ) (b : Buffers) → shows (callOn c k b) ≡ callView c k b
+  pub look-shows : (h c : ℕ) (b : Buffers) → shownAt (lookPlace h c b) b ≡ lookMeans h c b
+  -- "A table that opening accepts stands for one state of domains and holdings"
+  pub stands : (b : Buffers) → opens b ≡ 0 → StandsFor (slots b) (effectiveTable b) (b .bodies) (stateOf b)
+  pub one-state : (b : Buffers) (s : State) → opens b ≡ 0 → StandsFor (slots b) (effectiveTable b) (b .bodies) s → s ≡ stateOf b
+  -- "every state reached can be opened": after every list of calls and writes from a make that was done, up to another make, which may be cut
+  pub reached : (b : Buffers) (k : ℕ) (l : List Input) → MakeDone b k → noMake l ≡ true → opens (buffersAfter l (madeFrom b k)) ≡ 0
+  -- a cut call, and the openings after it: each keeps state and memory, whether it is done or stopped
+  pub cut : (c : Request) (k : ℕ) (b : Buffers) → asked b ≡ 0 → (callOn c k b) .report .status ≡ isStopped → Found c b ((callOn c k b) .buffers)
+  pub opening-keeps : (k : ℕ) (b : Buffers) → opens b ≡ 0
+      → (standing ((outcome (openCall b) k b) .buffers) ≡ standing b) × ((outcome (openCall b) k b) .buffers .memory ≡ b .memory)
+
+-- ---- demand 3: "after every completed restore in it, the count of bytes that differ from what stood at its domain's point is zero"
+
+-- from buffers with any contents on which make was done (which only buffers of allowed lengths answer), in every session that keeps the rule that
+-- an opening follows a stopped call, every count is 0
+abbrev pub Demand3 : Type 0
+Demand3 = (b : Buffers) (k : ℕ) (l : List Input) → MakeDone b k → openingRule false l (madeFrom b k) ≡ true → AllZero (counts begun (session l (madeFrom b k)))
+
+-- ---- against an empty count
+
+-- the history after a session, and what it will be once the opening that the buffers wait for is done: the line of the call that waits is carried
+-- out where its pairs are pending
+abbrev pub historyOf : Buffers → List Input → History
+historyOf b l = historyAfter begun (session l b)
+
+abbrev pub historyNow : Buffers → History → History
+historyNow b n = cond (eqb (pending (b .table)) 0) n (finished (n .waiting) (b .memory) n)
+
+-- openings with these budgets, all of them stopped
+abbrev pub openings : List ℕ → List Input
+openings [] = []
+openings (k ∷ ks) = opening k ∷ openings ks
+
+abbrev pub allStopped : List ℕ → Buffers → Type 0
+allStopped [] b = Unit {0}
+allStopped (k ∷ ks) b = ((outcome (openCall b) k b) .report .status ≡ isStopped) × allStopped ks ((outcome (openCall b) k b) .buffers)
+
+-- the history has the domain that handle h names, and an event adds exactly the count of its mismatches, unless it is excluded
+abbrev pub CountsOne : (h : ℕ) → (before : Buffers) → History → Event → (memory : List ℕ) → History → Type 0
+CountsOne h b n e memory now =
+    (q : Tracked) × (trackedAt (named h (stateOf b)) (n .domains) ≡ some q) × (q .excluded ≡ false → countEvent e memory now ≡ mismatches memory q ∷ [])
+
+pub record Counted : Type 0 where
+  -- wherever there is a store, the history's next handle, handles in order, cells, labels and values are those of the state that it stands for
+  pub agrees : (b : Buffers) (k : ℕ) (l : List Input) (s : State) → MakeDone b k → openingRule false l (madeFrom b k) ≡ true
+      → standing (buffersAfter l (madeFrom b k)) ≡ some s → Agrees s (historyNow (buffersAfter l (madeFrom b k)) (historyOf (madeFrom b k) l))
+  -- so every restore answered done counts
+  pub done-counts : (b : Buffers) (k : ℕ) (l : List Input) (h j : ℕ) → MakeDone b k → openingRule false (l ++ call (restore h) j ∷ []) (madeFrom b k) ≡ true
+      → (callOn (restore h) j (buffersAfter l (madeFrom b k))) .report .status ≡ isDone
+      → CountsOne h (buffersAfter l (madeFrom b k)) (historyOf (madeFrom b k) l) (called (restore h) j isDone)
+      ((callOn (restore h) j (buffersAfter l (madeFrom b k))) .buffers .memory) (historyOf (madeFrom b k) l)
+  -- and every stopped one whose first done opening takes a step
+  pub late-counts : (b : Buffers) (k : ℕ) (l : List Input) (h j : ℕ) (ks : List ℕ) (i x : ℕ) → MakeDone b k
+      → openingRule false (l ++ call (restore h) j ∷ []) (madeFrom b k) ≡ true
+      → (callOn (restore h) j (buffersAfter l (madeFrom b k))) .report .status ≡ isStopped
+      → allStopped ks ((callOn (restore h) j (buffersAfter l (madeFrom b k))) .buffers)
+      → (outcome (openCall (buffersAfter (openings ks) ((callOn (restore h) j (buffersAfter l (madeFrom b k))) .buffers))) i (buffersAfter (openings ks) ((callOn (restore h) j (buffersAfter l (madeFrom b k))) .buffers))) .report ≡ done (suc x) 0
+      → CountsOne h (buffersAfter l (madeFrom b k)) (historyOf (madeFrom b k) l) (opened i isDone (suc x))
+      ((callOn (restore h) j (buffersAfter l (madeFrom b k))) .buffers .memory) (historyOf (madeFrom b k) (l ++ call (restore h) j ∷ openings ks))

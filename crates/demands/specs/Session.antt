@@ -1,0 +1,65 @@
+-- Sessions over lent buffers (document 01: lists of calls and program writes). A session is a function of the starting buffers and the list of
+-- inputs. Its step applies the very definitions that the exported calls' contracts are equations with; nothing else here says what a call does.
+use Prim.Native.Nat.{ℕ}
+use mathlib.Core.Bool.{Bool, true, false, not, _&&_, _||_}
+use mathlib.Core.List.{List, [], _∷_}
+use Rattle.words.specs.Stores.{stores}
+use Rattle.model.specs.Answer.{Status, isDone, isStopped, isRefused, Report, done}
+use Rattle.model.specs.History.{Request, create, list, add, delete, advance, commit, restore, look, Observation, observed}
+use Rattle.model.specs.Session.{Input, make, call, opening, write, shown}
+use Rattle.store.specs.Outcome.{Buffers, buffers, Outcome, outcome, leaves}
+use Rattle.store.specs.Calls.{makeCall, openCall, createCall}
+use Rattle.store.specs.Means.{listMeans}
+use Rattle.add.specs.Add.{addCall}
+use Rattle.delete.specs.Delete.{deleteCall}
+use Rattle.advance.specs.Advance.{advanceCall}
+use Rattle.commit.specs.Commit.{commitCall}
+use Rattle.restore.specs.Restore.{restoreCall}
+use Rattle.look.specs.Look.{lookPlace, placeReport}
+
+-- a call's report and the buffers that it leaves; list and look take no budget and change nothing
+abbrev pub callOn : Request → (budget : ℕ) → Buffers → Outcome
+callOn create k b = outcome (createCall b) k b
+callOn list k b = leaves ((listMeans b) .report) b
+callOn (add h first n kind label) k b = outcome (addCall h first n kind label b) k b
+callOn (delete h first n) k b = outcome (deleteCall h first n b) k b
+callOn (advance h) k b = outcome (advanceCall h b) k b
+callOn (commit h) k b = outcome (commitCall h b) k b
+callOn (restore h) k b = outcome (restoreCall h b) k b
+callOn (look h c) k b = leaves (placeReport (lookPlace h c b)) b
+
+-- one input: "Each call gets the buffers as the last call or write left them"; a program write is never stopped
+abbrev pub inputOn : Input → Buffers → Outcome
+inputOn (make k) b = outcome (makeCall b) k b
+inputOn (call c k) b = callOn c k b
+inputOn (opening k) b = outcome (openCall b) k b
+inputOn (write ws) b = leaves (done 0 0) (buffers (stores ws (b .memory)) (b .bodies) (b .table))
+
+-- what the history is fed of a session
+abbrev pub session : List Input → Buffers → List Observation
+session [] b = []
+session (i ∷ is) b = observed (shown i ((inputOn i b) .report)) ((inputOn i b) .buffers .memory) ∷ session is ((inputOn i b) .buffers)
+
+-- the buffers after it
+abbrev pub buffersAfter : List Input → Buffers → Buffers
+buffersAfter [] b = b
+buffersAfter (i ∷ is) b = buffersAfter is ((inputOn i b) .buffers)
+
+-- ---- "What follows a stopped call, a stopped opening too, is an opening"
+
+abbrev pub wasStopped : Status → Bool
+wasStopped isDone = false
+wasStopped isStopped = true
+wasStopped isRefused = false
+
+abbrev pub isOpening : Input → Bool
+isOpening (make k) = false
+isOpening (call c k) = false
+isOpening (opening k) = true
+isOpening (write ws) = false
+
+-- `due`: the input before was stopped
+abbrev pub openingRule : (due : Bool) → List Input → Buffers → Bool
+openingRule due [] b = true
+openingRule due (i ∷ is) b =
+    (not due || isOpening i) && openingRule (wasStopped ((inputOn i b) .report .status)) is ((inputOn i b) .buffers)

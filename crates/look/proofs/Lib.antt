@@ -1,0 +1,3 @@
+-- The laws of `look`.
+pub mod Placing
+pub mod Shown

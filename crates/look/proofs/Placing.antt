@@ -1,0 +1,270 @@
+-- Where the bytes of a cell stand: the words say it as the model does. And what the code of look cites. Assumes nothing.
+use Prim.Native.Nat.{ℕ, zero, suc, _+_, _≤_, _<_}
+use mathlib.Core.Bool.{true, false}
+use mathlib.Core.List.{List}
+use mathlib.Core.Path.{_≡_, refl, sym, ap, subst, _∙_}
+use native.Mathlib.Omega.{arith}
+use borrow.Author.Tests.{le-leb, lt-leb, leb-true, lt-ltb, le-ltb, ltb-true}
+use lib.Dec.{ltb}
+use lib.ListN.{length}
+use Rattle.words.specs.Layout.{cellAt, cellsOf, slotsOf, pairsAt, maxSlots, maxLive}
+use Rattle.words.specs.Cells.{cellBytes}
+use Rattle.words.proofs.Scan.{by-bool, is-false}
+use Rattle.table.specs.Entry.{live, word2}
+use Rattle.search.specs.Search.{stepsIn, heldFrom, holderIn, sourceIn, bodyFrom}
+use Rattle.search.specs.Domain.{depthNamed}
+use Rattle.search.specs.declared.Holder.the-variants.{At, Nobody}
+use Rattle.model.specs.Answer.{done, refused, ask, orElse}
+use Rattle.model.specs.Holdings.{rangeOk}
+use Rattle.model.specs.Restore.{Looked, lookedBy, looked, restoredCell}
+use Rattle.store.specs.Outcome.{Buffers, buffers}
+use Rattle.store.specs.Checks.{storeCheck}
+use Rattle.store.specs.State.{stateOf}
+use Rattle.store.proofs.Checks.{ask-yes, ask-rest, orElse-both, store-shape, shape-facts}
+use Rattle.store.proofs.Means.{by-check}
+use Rattle.store.proofs.Raw.{raw-named, check-rule}
+use Rattle.store.proofs.Outermost.{from-slot, from-fits, store-bytes}
+use Rattle.look.specs.Look.{lookCheck, placeIn, placed, lookPlace, placeReport, placePart, shownAt, orLookRefused, lookMeans}
+use Rattle.look.specs.declared.Place.{Place}
+use Rattle.look.specs.declared.Place.the-variants.{Refused, Memory, Bodies}
+
+zero-one : _≡_ {A = ℕ} 0 1 → ⊥
+zero-one z = omega arith
+
+-- ---- the place in the words of a table
+
+module _ (e : ℕ) (t : List ℕ) (d c : ℕ) where
+  pub place-memory : heldFrom e t d c ≡ false → placeIn e t d c ≡ Memory (cellAt c)
+  unfolding placeIn
+  place-memory h = rw h
+
+  pub place-bodies : heldFrom e t d c ≡ true → placeIn e t d c ≡ Bodies (cellAt (bodyFrom e t d c))
+  unfolding placeIn
+  place-bodies h = rw h
+
+  -- what the holder that was found tells
+  nobody-held : holderIn e t d c ≡ Nobody → heldFrom e t d c ≡ false
+  unfolding holderIn
+  nobody-held h =
+      is-false (heldFrom e t d c) (λ p. let q = rw p at h in let z : _≡_ {A = ℕ} 0 1 = cc in zero-one z)
+
+  record FoundAt (x : ℕ) : Type 0 where
+    held : heldFrom e t d c ≡ true
+    depth : d + stepsIn e t d c ≡ x
+
+  found-at : (x i : ℕ) → holderIn e t d c ≡ At x i → FoundAt x
+  unfolding holderIn
+  found-at x i h =
+      by-bool (heldFrom e t d c)
+      (λ p. let q = rw p at h in record { held = p; depth = cc })
+      (λ p. let q = rw p at h in let z : _≡_ {A = ℕ} 0 1 = cc in absurd (zero-one z))
+
+  -- the two exits of the code
+  pub at-memory : (w at : ℕ) → holderIn e t d c ≡ Nobody → w ≡ c → at ≡ cellAt w → Memory at ≡ placeIn e t d c
+  at-memory w at h p q = ap Memory (q ∙ ap cellAt p) ∙ sym (place-memory (nobody-held h))
+
+  pub at-bodies : (x i s v w at : ℕ) → holderIn e t d c ≡ At x i → s ≡ sourceIn e t x c → v ≡ word2 e t s → w ≡ v → at ≡ cellAt w → Bodies at ≡ placeIn e t d c
+  at-bodies x i s v w at h p q r l =
+      let f = found-at x i h in
+      let same : s ≡ sourceIn e t (d + stepsIn e t d c) c = p ∙ ap (λ (y : ℕ). sourceIn e t y c) (sym (f .depth)) in
+      ap Bodies (l ∙ ap cellAt (r ∙ q ∙ ap (word2 e t) same)) ∙ sym (place-bodies (f .held))
+
+  -- the entry behind the holder is one of the table's
+  pub source-slot : (x i s : ℕ) → (heldFrom e t d c ≡ true → sourceIn e t (d + stepsIn e t d c) c < e) → holderIn e t d c ≡ At x i → s ≡ sourceIn e t x c → s < e
+  source-slot x i s fits h p =
+      let f = found-at x i h in
+      subst (λ (y : ℕ). y < e) (ap (λ (y : ℕ). sourceIn e t y c) (f .depth) ∙ sym p) (fits (f .held))
+
+-- ---- the questions
+
+-- question 8 with count 1, by the numbers that the code has
+pub range-yes : (r w m c : ℕ) → r ≡ m → w ≡ c → w < r → rangeOk m c 1 ≡ true
+range-yes r w m c p q l = le-leb (c + 1) m (omega arith)
+
+pub range-not : (r w m c : ℕ) → r ≡ m → w ≡ c → r ≤ w → rangeOk m c 1 ≡ false
+range-not r w m c p q l = lt-leb (c + 1) m (omega arith)
+
+range-below : (m c : ℕ) → rangeOk m c 1 ≡ true → c < m
+range-below m c h = omega (arith, leb-true (c + 1) m h)
+
+-- questions 5 and 8, of words
+abbrev asked : (memory : ℕ) → List ℕ → (h c : ℕ) → ℕ
+asked memory t h c = ask (ltb 0 (depthNamed t h)) 5 (ask (rangeOk (cellsOf memory) c 1) 8 0)
+
+-- what passed questions tell
+pub record Passed (memory bodies : ℕ) (t : List ℕ) (h c : ℕ) : Type 0 where
+  pub store : storeCheck memory bodies t ≡ 0
+  pub live : 1 ≤ depthNamed t h
+  pub cell : c < cellsOf memory
+
+module _ (memory bodies : ℕ) (t : List ℕ) (h c : ℕ) where
+  pub check-passed : lookCheck memory bodies t h c ≡ 0 → Passed memory bodies t h c
+  unfolding lookCheck
+  check-passed q =
+      let both = orElse-both (storeCheck memory bodies t) (asked memory t h c) q in
+      let five = ask-yes (ltb 0 (depthNamed t h)) 5 (ask (rangeOk (cellsOf memory) c 1) 8 0) (omega arith) (both .1) in
+      let rest = ask-rest (ltb 0 (depthNamed t h)) 5 (ask (rangeOk (cellsOf memory) c 1) 8 0) (omega arith) (both .1) in
+      record {
+        store = both .0;
+        live = ltb-true 0 (depthNamed t h) five;
+        cell = range-below (cellsOf memory) c (ask-yes (rangeOk (cellsOf memory) c 1) 8 0 (omega arith) rest);
+      }
+
+-- question 5, by a depth that was found
+pub none-named : (r d : ℕ) → r ≡ d → r ≡ 0 → ltb 0 d ≡ false
+none-named r d p q = le-ltb 0 d (omega arith)
+
+pub some-named : (r d : ℕ) → r ≡ d → (r ≡ 0 → ⊥) → ltb 0 d ≡ true
+some-named r d p q = lt-ltb 0 d (omega (arith, q))
+
+-- a table that passes questions 1 to 4 has at most eight live domains, and room for its slots
+pub live-within : (memory bodies : ℕ) (t : List ℕ) → storeCheck memory bodies t ≡ 0 → live t ≤ maxLive
+live-within memory bodies t pass = check-rule memory bodies t pass .live
+
+pub store-room : (memory bodies : ℕ) (t : List ℕ) → storeCheck memory bodies t ≡ 0 → (slotsOf (length t) ≤ maxSlots) × (pairsAt (slotsOf (length t)) ≤ length t)
+store-room memory bodies t pass =
+    let f = shape-facts memory bodies t (store-shape memory bodies t pass) in
+    (f .slots-high, omega (arith, f .table-exact))
+
+-- ---- the place that look finds
+
+-- in a table that passes the questions, the copy behind the first holder has an entry, and its body fits
+module _ (memory bodies : ℕ) (t : List ℕ) (h c : ℕ) (p : Passed memory bodies t h c) (held : heldFrom (slotsOf (length t)) t (depthNamed t h) c ≡ true) where
+  pub found-slot : sourceIn (slotsOf (length t)) t (depthNamed t h + stepsIn (slotsOf (length t)) t (depthNamed t h) c) c < slotsOf (length t)
+  found-slot = from-slot (cellsOf memory) (slotsOf (length t)) (cellsOf bodies) t (check-rule memory bodies t (p .store)) (depthNamed t h) c (p .live) held
+
+  pub found-body : bodyFrom (slotsOf (length t)) t (depthNamed t h) c < cellsOf bodies
+  found-body = from-fits (cellsOf memory) (slotsOf (length t)) (cellsOf bodies) t (check-rule memory bodies t (p .store)) (depthNamed t h) c (p .live) held
+
+-- what `find_place` asks, by the numbers that the code has
+pub place-requires : (memory bodies : ℕ) (t : List ℕ) (h c slots d : ℕ) → Passed memory bodies t h c → slots ≡ slotsOf (length t) → d ≡ depthNamed t h
+    → ((slots ≤ maxSlots) × (pairsAt slots ≤ length t) × (live t ≤ maxLive)) × (heldFrom slots t d c ≡ true → sourceIn slots t (d + stepsIn slots t d c) c < slots)
+place-requires memory bodies t h c slots d p q r =
+    rw (q, r)
+    (let room = store-room memory bodies t (p .store) in ((room .0, room .1, live-within memory bodies t (p .store)), found-slot memory bodies t h c p))
+
+module _ (h c : ℕ) (b : Buffers) where
+  pub look-refused : (q : ℕ) → q ≡ lookCheck (length (b .memory)) (length (b .bodies)) (b .table) h c → (q ≡ 0 → ⊥) → Refused q ≡ lookPlace h c b
+  unfolding lookPlace
+  look-refused q e n = go (lookCheck (length (b .memory)) (length (b .bodies)) (b .table) h c) e
+    where
+      go : (r : ℕ) → q ≡ r → Refused q ≡ placed r (placeIn (slotsOf (length (b .table))) (b .table) (depthNamed (b .table) h) c)
+      go zero z = absurd (n z)
+      go (suc r) z = ap Refused z
+
+  pub look-placed : lookCheck (length (b .memory)) (length (b .bodies)) (b .table) h c ≡ 0
+      → lookPlace h c b ≡ placeIn (slotsOf (length (b .table))) (b .table) (depthNamed (b .table) h) c
+  unfolding lookPlace
+  look-placed pass = rw pass
+
+  pub look-found : (slots d : ℕ) (p : Place) → lookCheck (length (b .memory)) (length (b .bodies)) (b .table) h c ≡ 0
+      → slots ≡ slotsOf (length (b .table)) → d ≡ depthNamed (b .table) h → p ≡ placeIn slots (b .table) d c → p ≡ lookPlace h c b
+  look-found slots d p pass q r s = s ∙ (λ i. placeIn (q i) (b .table) (r i) c) ∙ sym (look-placed pass)
+
+-- ---- what look means
+
+shown-memory : (b : Buffers) (c : ℕ) (part : List ℕ) → cellBytes (b .memory) c ≡ part → shownAt (Memory (cellAt c)) b ≡ lookedBy 0 part
+shown-memory b c part h = λ i. record { report = done 0 0; part = h i }
+
+shown-bodies : (b : Buffers) (k : ℕ) (part : List ℕ) → cellBytes (b .bodies) k ≡ part → shownAt (Bodies (cellAt k)) b ≡ lookedBy 0 part
+shown-bodies b k part h = λ i. record { report = done 0 0; part = h i }
+
+module _ (memory bodies t : List ℕ) (h c : ℕ) (yes : storeCheck (length memory) (length bodies) t ≡ 0) (live : 1 ≤ depthNamed t h) where
+  abbrev b : Buffers
+  b = buffers memory bodies t
+
+  abbrev part : List ℕ
+  part = restoredCell (depthNamed t h) (stateOf (buffers memory bodies t)) memory c
+
+  pub place-shown : shownAt (placeIn (slotsOf (length t)) t (depthNamed t h) c) (buffers memory bodies t)
+      ≡ lookedBy 0 (restoredCell (depthNamed t h) (stateOf (buffers memory bodies t)) memory c)
+  place-shown =
+      let bytes = store-bytes memory bodies t yes (depthNamed t h) c live (cellBytes memory c) in
+      by-bool (heldFrom (slotsOf (length t)) t (depthNamed t h) c)
+      (λ p.
+      ap (λ (x : Place). shownAt x b) (place-bodies (slotsOf (length t)) t (depthNamed t h) c p)
+      ∙ shown-bodies b (bodyFrom (slotsOf (length t)) t (depthNamed t h) c) part (sym (rw p at bytes)))
+      (λ p.
+      ap (λ (x : Place). shownAt x b) (place-memory (slotsOf (length t)) t (depthNamed t h) c p)
+      ∙ shown-memory b c part (sym (rw p at bytes)))
+
+asked-live : (memory : ℕ) (t : List ℕ) (h c : ℕ) → asked memory t h c ≡ 0 → 1 ≤ depthNamed t h
+asked-live memory t h c q =
+    ltb-true 0 (depthNamed t h) (ask-yes (ltb 0 (depthNamed t h)) 5 (ask (rangeOk (cellsOf memory) c 1) 8 0) (omega arith) q)
+
+-- the place that look finds shows what look means
+pub look-means : (h c : ℕ) (b : Buffers) → shownAt (lookPlace h c b) b ≡ lookMeans h c b
+unfolding lookPlace lookMeans lookCheck
+look-means h c b =
+    let m : ℕ = cellsOf (length (b .memory)) in
+    let place : Place = placeIn (slotsOf (length (b .table))) (b .table) (depthNamed (b .table) h) c in
+    by-check (λ q. shownAt (placed (orElse q (asked (length (b .memory)) (b .table) h c)) (placeIn (slotsOf (length (b .table))) (b .table) (depthNamed (b .table) h) c)) b
+    ≡ orLookRefused q (looked (cellsOf (length (b .memory))) h c (stateOf b) (b .memory)))
+    (storeCheck (length (b .memory)) (length (b .bodies)) (b .table))
+    (λ n e. refl)
+    (λ yes.
+    subst (λ (d : ℕ). shownAt (placed (asked (length (b .memory)) (b .table) h c) (placeIn (slotsOf (length (b .table))) (b .table) (depthNamed (b .table) h) c)) b
+    ≡ lookedBy (ask (ltb 0 d) 5 (ask (rangeOk (cellsOf (length (b .memory))) c 1) 8 0)) (restoredCell d (stateOf b) (b .memory) c))
+    (sym (raw-named (b .memory) (b .bodies) (b .table) yes h))
+    (by-check (λ q. shownAt (placed q (placeIn (slotsOf (length (b .table))) (b .table) (depthNamed (b .table) h) c)) b
+    ≡ lookedBy q (restoredCell (depthNamed (b .table) h) (stateOf b) (b .memory) c))
+    (asked (length (b .memory)) (b .table) h c)
+    (λ n e. refl)
+    (λ e. place-shown (b .memory) (b .bodies) (b .table) h c yes (asked-live (length (b .memory)) (b .table) h c e))))
+
+-- ---- the part that look shows
+
+-- the 64 bytes at a place lie in their buffer
+abbrev pub Within : Place → Buffers → Type 0
+Within (Refused n) b = Unit {0}
+Within (Memory at) b = at + 64 ≤ length (b .memory)
+Within (Bodies at) b = at + 64 ≤ length (b .bodies)
+
+module _ (h c : ℕ) (b : Buffers) where
+  place-within : Passed (length (b .memory)) (length (b .bodies)) (b .table) h c → Within (placeIn (slotsOf (length (b .table))) (b .table) (depthNamed (b .table) h) c) b
+  place-within p =
+      let t : List ℕ = b .table in
+      let f = shape-facts (length (b .memory)) (length (b .bodies)) (b .table) (store-shape (length (b .memory)) (length (b .bodies)) (b .table) (p .store)) in
+      by-bool (heldFrom (slotsOf (length (b .table))) (b .table) (depthNamed (b .table) h) c)
+      (λ held.
+      subst (λ (x : Place). Within x b) (sym (place-bodies (slotsOf (length (b .table))) (b .table) (depthNamed (b .table) h) c held))
+      (omega (arith, f .bodies-exact, found-body (length (b .memory)) (length (b .bodies)) (b .table) h c p held)))
+      (λ free.
+      subst (λ (x : Place). Within x b) (sym (place-memory (slotsOf (length (b .table))) (b .table) (depthNamed (b .table) h) c free))
+      (omega (arith, f .memory-exact, p .cell)))
+
+  pub look-within : Within (lookPlace h c b) b
+  unfolding lookPlace
+  look-within = go (lookCheck (length (b .memory)) (length (b .bodies)) (b .table) h c) refl
+    where
+      go : (q : ℕ) → lookCheck (length (b .memory)) (length (b .bodies)) (b .table) h c ≡ q
+          → Within (placed q (placeIn (slotsOf (length (b .table))) (b .table) (depthNamed (b .table) h) c)) b
+      go zero e = place-within (check-passed (length (b .memory)) (length (b .bodies)) (b .table) h c e)
+      go (suc n) e = tt
+
+  -- by the place that the code has
+  pub memory-within : (p : Place) (at : ℕ) → p ≡ Memory at → p ≡ lookPlace h c b → at + 64 ≤ length (b .memory)
+  memory-within p at q e = subst (λ (x : Place). Within x b) (sym e ∙ q) look-within
+
+  pub bodies-within : (p : Place) (at : ℕ) → p ≡ Bodies at → p ≡ lookPlace h c b → at + 64 ≤ length (b .bodies)
+  bodies-within p at q e = subst (λ (x : Place). Within x b) (sym e ∙ q) look-within
+
+  pub part-shown : (p q : Place) (part : List ℕ) → p ≡ q → p ≡ lookPlace h c b → shownAt p b ≡ lookMeans h c b → part ≡ placePart q b
+      → (part ≡ placePart (lookPlace h c b) b) × (part ≡ lookMeans h c b .part)
+  part-shown p q part same found means e =
+      let here : part ≡ placePart p b = e ∙ ap (λ (x : Place). placePart x b) (sym same) in
+      (here ∙ ap (λ (x : Place). placePart x b) found, here ∙ ap (λ (l : Looked). l .part) means)
+
+-- look's answer
+pub answer-refused : (h c q : ℕ) (b : Buffers) → q ≡ lookCheck (length (b .memory)) (length (b .bodies)) (b .table) h c → (q ≡ 0 → ⊥) → refused q ≡ lookMeans h c b .report
+answer-refused h c q b e n =
+    ap placeReport (look-refused h c b q e n) ∙ ap (λ (l : Looked). l .report) (look-means h c b)
+
+pub answer-done : (h c : ℕ) (b : Buffers) → lookCheck (length (b .memory)) (length (b .bodies)) (b .table) h c ≡ 0 → done 0 0 ≡ lookMeans h c b .report
+answer-done h c b pass = shown ∙ ap placeReport (sym (look-placed h c b pass)) ∙ ap (λ (l : Looked). l .report) (look-means h c b)
+  where
+    shown : done 0 0 ≡ placeReport (placeIn (slotsOf (length (b .table))) (b .table) (depthNamed (b .table) h) c)
+    shown =
+        by-bool (heldFrom (slotsOf (length (b .table))) (b .table) (depthNamed (b .table) h) c)
+        (λ p. ap placeReport (sym (place-bodies (slotsOf (length (b .table))) (b .table) (depthNamed (b .table) h) c p)))
+        (λ p. ap placeReport (sym (place-memory (slotsOf (length (b .table))) (b .table) (depthNamed (b .table) h) c p)))

@@ -1,0 +1,149 @@
+-- What look shows: the 64 bytes that restore of the same handle leaves in that cell, from bodies where a domain from the named one inwards holds
+-- the cell, else from memory. Assumes nothing.
+use Prim.Native.Nat.{ℕ, _+_, _-_, _*_, _≤_, _<_}
+use mathlib.Core.Bool.{Bool, true, false, cond}
+use mathlib.Core.List.{List}
+use mathlib.Core.Path.{_≡_, refl, sym, ap, subst, _∙_}
+use native.Mathlib.Omega.{arith}
+use borrow.Author.Tests.{eqb-true, eqb-false}
+use lib.Dec.{eqb}
+use lib.ListN.{length, getD, take, drop, length-take, length-drop}
+use lib.Seq.{ext-getD, getD-take, getD-drop}
+use Rattle.words.specs.Layout.{cellAt, cellsOf, slotsOf}
+use Rattle.words.specs.Stores.{tab}
+use Rattle.words.specs.Cells.{cellBytes}
+use Rattle.words.proofs.Scan.{by-bool}
+use Rattle.words.proofs.Plans.{length-tab, getD-tab}
+use Rattle.words.proofs.Cells.{cellBytes-length}
+use Rattle.search.specs.Search.{heldFrom, bodyFrom}
+use Rattle.search.specs.Domain.{depthNamed}
+use Rattle.model.specs.State.{State}
+use Rattle.model.specs.Answer.{done, refused}
+use Rattle.model.specs.Holdings.{named, isHeld}
+use Rattle.model.specs.Restore.{Looked, cellOfByte, placeInCell, outermost, restoredCell, restoredByte, restoredMemory, cellsPutBack, memoryAfterSteps}
+use Rattle.model.proofs.Views.{all-stored}
+use Rattle.store.specs.Outcome.{Buffers, buffers}
+use Rattle.store.specs.State.{stateOf}
+use Rattle.store.proofs.Checks.{store-shape, shape-facts}
+use Rattle.store.proofs.Raw.{raw-named}
+use Rattle.store.proofs.Outermost.{store-held}
+use Rattle.look.specs.Look.{lookCheck, lookPlace, placePart, lookMeans}
+use Rattle.look.specs.declared.Place.{Place}
+use Rattle.look.specs.declared.Place.the-variants.{Refused, Memory, Bodies}
+use Rattle.look.proofs.Placing.{Passed, check-passed, place-memory, place-bodies, place-shown, look-refused, look-placed, look-means, Within, look-within, answer-refused, answer-done}
+
+-- look's number, of its buffers
+abbrev pub checked : (h c : ℕ) → Buffers → ℕ
+checked h c b = lookCheck (length (b .memory)) (length (b .bodies)) (b .table) h c
+
+-- ---- the answer and the length of the part
+
+pub look-report : (h c : ℕ) (b : Buffers) → lookMeans h c b .report ≡ cond (eqb (checked h c b) 0) (done 0 0) (refused (checked h c b))
+look-report h c b =
+    by-bool (eqb (checked h c b) 0)
+    (λ z. rw z (sym (answer-done h c b (eqb-true (checked h c b) 0 z))))
+    (λ z. rw z (sym (answer-refused h c (checked h c b) b refl (eqb-false (checked h c b) 0 z))))
+
+shown-part : (h c : ℕ) (b : Buffers) → lookMeans h c b .part ≡ placePart (lookPlace h c b) b
+shown-part h c b = ap (λ (l : Looked). l .part) (sym (look-means h c b))
+
+part-length : (s : List ℕ) (at : ℕ) → at + 64 ≤ length s → length (take 64 (drop at s)) ≡ 64
+part-length s at l = simp (length-take, length-drop) (omega arith)
+
+-- "when it is refused, the part has length 0"; else 64
+pub look-length : (h c : ℕ) (b : Buffers) → length (lookMeans h c b .part) ≡ cond (eqb (checked h c b) 0) 64 0
+look-length h c b =
+    by-bool (eqb (checked h c b) 0)
+    (λ z. rw z (ap length (shown-part h c b) ∙ shown (eqb-true (checked h c b) 0 z)))
+    (λ z.
+    rw z
+    (ap length (shown-part h c b)
+    ∙ ap (λ (p : Place). length (placePart p b)) (sym (look-refused h c b (checked h c b) refl (eqb-false (checked h c b) 0 z)))))
+  where
+    shown : checked h c b ≡ 0 → length (placePart (lookPlace h c b) b) ≡ 64
+    shown pass =
+        by-bool (heldFrom (slotsOf (length (b .table))) (b .table) (depthNamed (b .table) h) c)
+        (λ p.
+        let at : ℕ = cellAt (bodyFrom (slotsOf (length (b .table))) (b .table) (depthNamed (b .table) h) c) in
+        let q = look-placed h c b pass ∙ place-bodies (slotsOf (length (b .table))) (b .table) (depthNamed (b .table) h) c p in
+        ap (λ (x : Place). length (placePart x b)) q ∙ part-length (b .bodies) at (subst (λ (x : Place). Within x b) q (look-within h c b)))
+        (λ p.
+        let q = look-placed h c b pass ∙ place-memory (slotsOf (length (b .table))) (b .table) (depthNamed (b .table) h) c p in
+        ap (λ (x : Place). length (placePart x b)) q ∙ part-length (b .memory) (cellAt c) (subst (λ (x : Place). Within x b) q (look-within h c b)))
+
+-- ---- what restore leaves in a cell
+
+-- cell c of restored memory, where its value has 64 bytes
+pub restored-cell : (d c : ℕ) (s : State) (memory : List ℕ) → cellAt c + 64 ≤ length memory → length (restoredCell d s memory c) ≡ 64
+    → cellBytes (restoredMemory d s memory) c ≡ restoredCell d s memory c
+unfolding restoredMemory
+restored-cell d c s memory fits long =
+    ext-getD 0 (cellBytes whole c) (restoredCell d s memory c) (size ∙ sym long) (λ j l. each j (omega (arith, size)))
+  where
+    whole : List ℕ
+    whole = tab (length memory) (restoredByte d s memory)
+
+    size : length (cellBytes whole c) ≡ 64
+    size = cellBytes-length whole c (omega (arith, length-tab (restoredByte d s memory) (length memory), fits))
+
+    each : (j : ℕ) → j < 64 → getD (cellBytes whole c) j 0 ≡ getD (restoredCell d s memory c) j 0
+    each j l =
+        let cell : cellOfByte (cellAt c + j) ≡ c = omega arith in
+        let place : placeInCell (cellAt c + j) ≡ j = omega arith in
+        getD-take 64 (drop (cellAt c) whole) j 0 l
+        ∙ getD-drop (cellAt c) whole j 0
+        ∙ getD-tab (restoredByte d s memory) (length memory) (cellAt c + j) 0 (omega arith)
+        ∙ (λ i. getD (restoredCell d s memory (cell i)) (place i) 0)
+
+module _ (h c : ℕ) (b : Buffers) (pass : checked h c b ≡ 0) where
+  passed : Passed (length (b .memory)) (length (b .bodies)) (b .table) h c
+  passed = check-passed (length (b .memory)) (length (b .bodies)) (b .table) h c pass
+
+  same-depth : named h (stateOf b) ≡ depthNamed (b .table) h
+  same-depth = raw-named (b .memory) (b .bodies) (b .table) (passed .store) h
+
+  part-is : lookMeans h c b .part ≡ restoredCell (named h (stateOf b)) (stateOf b) (b .memory) c
+  part-is =
+      shown-part h c b
+      ∙ ap (λ (p : Place). placePart p b) (look-placed h c b pass)
+      ∙ ap (λ (l : Looked). l .part) (place-shown (b .memory) (b .bodies) (b .table) h c (passed .store) (passed .live))
+      ∙ ap (λ (d : ℕ). restoredCell d (stateOf b) (b .memory) c) (sym same-depth)
+
+  exact : length (b .memory) ≡ 64 * cellsOf (length (b .memory))
+  exact = shape-facts (length (b .memory)) (length (b .bodies)) (b .table) (store-shape (length (b .memory)) (length (b .bodies)) (b .table) (passed .store)) .memory-exact
+
+  -- "the 64 bytes that restore would leave there"
+  pub look-restores : lookMeans h c b .part ≡ cellBytes (restoredMemory (named h (stateOf b)) (stateOf b) (b .memory)) c
+  look-restores =
+      let size : length (restoredCell (named h (stateOf b)) (stateOf b) (b .memory) c) ≡ 64 = ap length (sym part-is) ∙ look-length h c b ∙ rw pass in
+      part-is ∙ sym (restored-cell (named h (stateOf b)) c (stateOf b) (b .memory) (omega (arith, exact, passed .cell)) size)
+
+  -- and so of a restore of the same handle with any budget that reaches past its bytes
+  pub look-after-bytes : (k : ℕ) → 64 * cellsPutBack (cellsOf (length (b .memory))) (named h (stateOf b)) (stateOf b) ≤ k
+      → lookMeans h c b .part ≡ cellBytes (memoryAfterSteps k (named h (stateOf b)) (stateOf b) (b .memory)) c
+  look-after-bytes k l =
+      look-restores
+      ∙ ap (λ (s : List ℕ). cellBytes s c) (sym (all-stored (cellsOf (length (b .memory))) k (named h (stateOf b)) (stateOf b) (b .memory) exact l))
+
+  -- ---- "a part of the lent bodies, or of the lent memory where nobody from that domain inwards holds the cell"
+
+  pub look-memory : lookPlace h c b
+      ≡ cond (isHeld (outermost (named h (stateOf b)) c (stateOf b))) (Bodies (cellAt (bodyFrom (slotsOf (length (b .table))) (b .table) (depthNamed (b .table) h) c))) (Memory (cellAt c))
+  look-memory =
+      let held : isHeld (outermost (named h (stateOf b)) c (stateOf b)) ≡ heldFrom (slotsOf (length (b .table))) (b .table) (depthNamed (b .table) h) c =
+      ap (λ (d : ℕ). isHeld (outermost d c (stateOf b))) same-depth ∙ store-held (b .memory) (b .bodies) (b .table) (passed .store) (depthNamed (b .table) h) c (passed .live) in
+      look-placed h c b pass
+      ∙ by-bool (heldFrom (slotsOf (length (b .table))) (b .table) (depthNamed (b .table) h) c)
+      (λ p. rw (held, p) (place-bodies (slotsOf (length (b .table))) (b .table) (depthNamed (b .table) h) c p))
+      (λ p. rw (held, p) (place-memory (slotsOf (length (b .table))) (b .table) (depthNamed (b .table) h) c p))
+
+-- so the place tells whether the cell is held
+abbrev pub inBodies : Place → Bool
+inBodies (Refused n) = false
+inBodies (Memory at) = false
+inBodies (Bodies at) = true
+
+pub look-tells : (h c : ℕ) (b : Buffers) → checked h c b ≡ 0 → inBodies (lookPlace h c b) ≡ isHeld (outermost (named h (stateOf b)) c (stateOf b))
+look-tells h c b pass =
+    ap inBodies (look-memory h c b pass)
+    ∙ by-bool (isHeld (outermost (named h (stateOf b)) c (stateOf b))) (λ p. rw p) (λ p. rw p)

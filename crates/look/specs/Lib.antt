@@ -1,0 +1,2 @@
+-- The definitions that the contracts of `look` cite.
+pub mod Look

@@ -1,0 +1,60 @@
+-- Look: its questions, the part that it shows, and what it means.
+use Prim.Native.Nat.{ℕ}
+use mathlib.Core.Bool.{cond}
+use mathlib.Core.List.{List, []}
+use lib.Dec.{ltb}
+use lib.ListN.{length, take, drop}
+use Rattle.words.specs.Layout.{cellAt, cellsOf, slotsOf}
+use Rattle.search.specs.Search.{heldFrom, bodyFrom}
+use Rattle.search.specs.Domain.{depthNamed}
+use Rattle.model.specs.Answer.{Report, done, refused, ask, orElse}
+use Rattle.model.specs.Holdings.{rangeOk}
+use Rattle.model.specs.Restore.{Looked, looked, lookRefused}
+use Rattle.store.specs.Outcome.{Buffers}
+use Rattle.store.specs.Checks.{storeCheck}
+use Rattle.store.specs.State.{stateOf}
+use Rattle.look.specs.declared.Place.{Place}
+use Rattle.look.specs.declared.Place.the-variants.{Refused, Memory, Bodies}
+
+-- questions 1 to 5, and 8 with count 1
+unfoldable pub lookCheck : (memory bodies : ℕ) → List ℕ → (h c : ℕ) → ℕ
+lookCheck memory bodies t h c =
+    orElse (storeCheck memory bodies t) (ask (ltb 0 (depthNamed t h)) 5 (ask (rangeOk (cellsOf memory) c 1) 8 0))
+
+-- "a part of the lent bodies, or of the lent memory where nobody from that domain inwards holds the cell"
+unfoldable pub placeIn : (e : ℕ) → List ℕ → (d c : ℕ) → Place
+placeIn e t d c = cond (heldFrom e t d c) (Bodies (cellAt (bodyFrom e t d c))) (Memory (cellAt c))
+
+-- by the number of its questions: 0 shows the part
+abbrev pub placed : ℕ → Place → Place
+placed ℕ.zero p = p
+placed (ℕ.suc n) p = Refused (ℕ.suc n)
+
+unfoldable pub lookPlace : (h c : ℕ) → Buffers → Place
+lookPlace h c b =
+    placed (lookCheck (length (b .memory)) (length (b .bodies)) (b .table) h c)
+    (placeIn (slotsOf (length (b .table))) (b .table) (depthNamed (b .table) h) c)
+
+-- a place in document 01's numbers and bytes: the answer, and the 64 bytes at that offset; "when it is refused, the part has length 0"
+abbrev pub placeReport : Place → Report
+placeReport (Refused n) = refused n
+placeReport (Memory at) = done 0 0
+placeReport (Bodies at) = done 0 0
+
+abbrev pub placePart : Place → Buffers → List ℕ
+placePart (Refused n) b = []
+placePart (Memory at) b = take 64 (drop at (b .memory))
+placePart (Bodies at) b = take 64 (drop at (b .bodies))
+
+abbrev pub shownAt : Place → Buffers → Looked
+shownAt p b = record { report = placeReport p; part = placePart p b }
+
+-- what look means: put questions 1 to 4 on the buffers and the others on the state
+abbrev pub orLookRefused : ℕ → Looked → Looked
+orLookRefused ℕ.zero l = l
+orLookRefused (ℕ.suc n) l = lookRefused (ℕ.suc n)
+
+unfoldable pub lookMeans : (h c : ℕ) → Buffers → Looked
+lookMeans h c b =
+    orLookRefused (storeCheck (length (b .memory)) (length (b .bodies)) (b .table))
+    (looked (cellsOf (length (b .memory))) h c (stateOf b) (b .memory))

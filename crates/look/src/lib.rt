@@ -1,0 +1,113 @@
+// Look: the 64 bytes that restore would leave in a cell, shown as a part of the lent bodies or of the lent memory. It changes nothing.
+use search::Holder;
+use search::find_domain;
+use search::find_holder;
+use search::find_source;
+use store::Answer;
+use store::store_check;
+use table::second_word;
+use words::layout::cell_at;
+use words::layout::cells_of;
+use words::layout::slots_of;
+use words::wide;
+ghost use mathlib.Core.Path.{_≡_};
+ghost use mathlib.Core.Bool.{true};
+ghost use Prim.Native.Nat.{_+_, _≤_, _<_};
+ghost use lib.ListN.{length};
+ghost use Rattle.words.specs.Layout.{pairsAt, maxSlots, maxLive};
+ghost use Rattle.table.specs.Entry.{live};
+ghost use Rattle.search.specs.Search.{stepsIn, heldFrom, sourceIn};
+ghost use Rattle.store.specs.Outcome.{buffers, report};
+ghost use Rattle.look.specs.Look.{lookCheck, placeIn, lookPlace, placePart, shownAt, lookMeans};
+
+// Where the 64 bytes stand: refused by a question's number, or at this offset of the lent memory, or of the lent bodies.
+pub enum Place {
+    Refused(u32),
+    Memory(usize),
+    Bodies(usize),
+}
+
+// The questions put to look: 0, or the number of the first no.
+fn look_check(memory: usize, bodies: usize, table: &[u32], handle: u32, cell: u32) -> u32
+    ensures { λ r. ⌜ r ≡ lookCheck memory bodies (now (table .entry)) handle cell ⌝ }
+{
+    let no = store_check(memory, bodies, table);
+    if no != 0 {
+        return no;
+    }
+    if find_domain(table, handle) == 0 {
+        return 5;
+    }
+    if cells_of(memory) <= wide(cell) {
+        return 8;
+    }
+    0
+}
+
+// The place of a cell's bytes in a table that passed the questions.
+fn find_place(table: &[u32], slots: usize, depth: u32, cell: u32) -> Place
+    requires { ⌜ (slots ≤ maxSlots) × (pairsAt slots ≤ length (now table)) × (live (now table) ≤ maxLive) ⌝ }
+    requires { ⌜ (heldFrom slots (now table) depth cell ≡ true → sourceIn slots (now table) (depth + stepsIn slots (now table) depth cell) cell < slots) ⌝ }
+    ensures { λ r. ⌜ r ≡ placeIn slots (now (table .entry)) depth cell ⌝ }
+{
+    match find_holder(table, slots, depth, cell) {
+        Holder::Nobody => Place::Memory(cell_at(wide(cell))),
+        Holder::At(at, _entry) => {
+            // the holder's own entry has no body where it is via parent: the copy at the end of its chain has
+            let source = find_source(table, slots, at, cell);
+            Place::Bodies(cell_at(wide(second_word(table, slots, source))))
+        }
+    }
+}
+
+// Where restore would take the bytes of this cell from.
+pub fn look_place(memory: &[u8], bodies: &[u8], table: &[u32], handle: u32, cell: u32) -> Place
+    ensures found { λ r. ⌜ r ≡ lookPlace handle cell (buffers (now (memory .entry)) (now (bodies .entry)) (now (table .entry))) ⌝ }
+    ensures means { λ r. ⌜ shownAt r (buffers (now (memory .entry)) (now (bodies .entry)) (now (table .entry)))
+        ≡ lookMeans handle cell (buffers (now (memory .entry)) (now (bodies .entry)) (now (table .entry))) ⌝ }
+{
+    let no = look_check(memory.len(), bodies.len(), table, handle, cell);
+    if no != 0 {
+        return Place::Refused(no);
+    }
+    find_place(
+        table,
+        slots_of(table.len()),
+        find_domain(table, handle),
+        cell,
+    )
+}
+
+// Look's answer.
+pub fn look_answer(memory: &[u8], bodies: &[u8], table: &[u32], handle: u32, cell: u32) -> Answer
+    ensures { λ r. ⌜ report r ≡ lookMeans handle cell (buffers (now (memory .entry)) (now (bodies .entry)) (now (table .entry))) .report ⌝ }
+{
+    let no = look_check(memory.len(), bodies.len(), table, handle, cell);
+    if no != 0 {
+        return Answer::Refused(no);
+    }
+    Answer::Done {
+        steps: 0,
+        handle: 0,
+    }
+}
+
+// The 64 bytes that restore of this handle would leave in this cell: a part of the lent bodies, or of the lent memory where nobody from that
+// domain inwards holds the cell; of length 0 where look is refused.
+pub fn look<'a>(
+    memory: &'a [u8],
+    bodies: &'a [u8],
+    table: &[u32],
+    handle: u32,
+    cell: u32,
+) -> &'a [u8]
+    ensures part { λ r. ⌜ now r ≡ placePart (lookPlace handle cell (buffers (now (memory .entry)) (now (bodies .entry)) (now (table .entry))))
+        (buffers (now (memory .entry)) (now (bodies .entry)) (now (table .entry))) ⌝ }
+    ensures means { λ r. ⌜ now r ≡ lookMeans handle cell (buffers (now (memory .entry)) (now (bodies .entry)) (now (table .entry))) .part ⌝ }
+{
+    match look_place(memory, bodies, table, handle, cell) {
+        Place::Refused(_) => &memory[0..0],
+        Place::Memory(at) => &memory[at..at + 64],
+        Place::Bodies(at) => &bodies[at..at + 64],
+    }
+}

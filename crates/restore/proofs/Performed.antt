@@ -1,0 +1,75 @@
+-- From what restore's parts did to the outcome of the call, and what the questions let the code rely on. Assumes nothing.
+use Prim.Native.Nat.{ℕ, _+_, _-_, _≤_}
+use mathlib.Core.Bool.{true, false}
+use mathlib.Core.List.{List}
+use mathlib.Core.Path.{_≡_, refl, _∙_}
+use native.Mathlib.Omega.{arith}
+use borrow.Author.Tests.{lt-ltb, le-ltb}
+use lib.Dec.{ltb}
+use lib.ListN.{length, take}
+use Rattle.words.specs.Layout.{cellsOf, slotsOf, pairsAt, maxLive}
+use Rattle.words.specs.Stores.{stores}
+use Rattle.words.specs.Journal.{journal, journalSteps}
+use Rattle.table.specs.Entry.{live}
+use Rattle.table.specs.Rule.{ruleOk}
+use Rattle.table.proofs.Rule.{ok-make}
+use Rattle.search.specs.Domain.{depthNamed}
+use Rattle.model.specs.Answer.{Report, refused, ended, stepsOf}
+use Rattle.store.specs.Outcome.{buffers, outcome, leaves}
+use Rattle.store.specs.Checks.{storeCheck}
+use Rattle.store.proofs.Checks.{orElse-both}
+use Rattle.store.proofs.Outcome.{refuses}
+use Rattle.store.proofs.Raw.{check-rule}
+use Rattle.restore.specs.Restore.{restoreCheck, restoreBytes, restoreWords, restoreCall}
+use Rattle.restore.proofs.Plan.{plan-performed}
+use Rattle.restore.proofs.Restored.{asked, asked-low}
+
+-- ---- the questions
+
+-- question 5, by a depth that was found
+pub none-named : (r d : ℕ) → r ≡ d → r ≡ 0 → ltb 0 d ≡ false
+none-named r d p q = le-ltb 0 d (omega arith)
+
+pub some-named : (r d : ℕ) → r ≡ d → (r ≡ 0 → ⊥) → ltb 0 d ≡ true
+some-named r d p q = lt-ltb 0 d (omega (arith, q))
+
+-- the rule of a table that passes questions 1 to 4
+pub rule-passed : (memory bodies : ℕ) (t : List ℕ) → storeCheck memory bodies t ≡ 0 → ruleOk (cellsOf memory) (slotsOf (length t)) (cellsOf bodies) t ≡ true
+rule-passed memory bodies t passed = ok-make (cellsOf memory) (slotsOf (length t)) (cellsOf bodies) t (check-rule memory bodies t passed)
+
+pub live-within : (memory bodies : ℕ) (t : List ℕ) → storeCheck memory bodies t ≡ 0 → live t ≤ maxLive
+live-within memory bodies t passed = check-rule memory bodies t passed .live
+
+module _ (memory bodies : ℕ) (t : List ℕ) (h : ℕ) (passed : restoreCheck memory bodies t h ≡ 0) where
+  pub restore-store : storeCheck memory bodies t ≡ 0
+  unfolding restoreCheck
+  restore-store = orElse-both (storeCheck memory bodies t) (asked t h) passed .0
+
+  pub restore-depth : 1 ≤ depthNamed t h
+  unfolding restoreCheck
+  restore-depth = asked-low t h (orElse-both (storeCheck memory bodies t) (asked t h) passed .1)
+
+-- ---- the call
+
+need-steps : (bytes p : ℕ) → bytes + journalSteps p ≡ stepsOf bytes p
+unfolding journalSteps
+need-steps bytes p = refl
+
+module _ (m b t : List ℕ) (h k : ℕ) where
+  pub restore-refused : (q : ℕ) → q ≡ restoreCheck (length m) (length b) t h → (q ≡ 0 → ⊥) → leaves (refused q) (buffers m b t) ≡ outcome (restoreCall h (buffers m b t)) k (buffers m b t)
+  unfolding restoreCall
+  restore-refused q e n = refuses q (restoreCheck (length m) (length b) t h) _ k (buffers m b t) e n
+
+  -- d is the depth found, and left what remains of the budget for the words
+  pub restore-performed : (d nb nw left : ℕ) (m′ t′ : List ℕ) (r : Report) → restoreCheck (length m) (length b) t h ≡ 0 → d ≡ depthNamed t h
+      → nb ≡ length (restoreBytes (cellsOf (length m)) d b t) → m′ ≡ stores (take k (restoreBytes (cellsOf (length m)) d b t)) m
+      → left ≡ k - nb → nw ≡ journalSteps (length (restoreWords d t)) → t′ ≡ stores (take left (journal (pairsAt (slotsOf (length t))) (restoreWords d t))) t
+      → r ≡ ended (nb + nw) 0 k → leaves r (buffers m′ b t′) ≡ outcome (restoreCall h (buffers m b t)) k (buffers m b t)
+  unfolding restoreCall
+  restore-performed d nb nw left m′ t′ r passed named nbytes put rest nwords written q =
+      let need : nb + nw ≡ stepsOf (length (restoreBytes (cellsOf (length m)) d b t)) (length (restoreWords d t)) =
+      rw (nbytes, nwords) (need-steps (length (restoreBytes (cellsOf (length m)) d b t)) (length (restoreWords d t))) in
+      let words : t′ ≡ stores (take (k - length (restoreBytes (cellsOf (length m)) d b t)) (journal (pairsAt (slotsOf (length t))) (restoreWords d t))) t =
+      written ∙ rw (rest, nbytes) in
+      rw (passed, ← named)
+      (plan-performed (pairsAt (slotsOf (length t))) (nb + nw) 0 k (restoreBytes (cellsOf (length m)) d b t) (restoreWords d t) m b t m′ t′ r need put words q)

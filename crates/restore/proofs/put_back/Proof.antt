@@ -1,0 +1,100 @@
+-- `put_back` meets its contract. The loop's invariant: memory is what the bytes of the cells passed leave, cut at the budget, and `bytes` is
+-- their number. Assumes nothing.
+use Prim.Native.Nat.{ℕ, _-_, _*_, _≤_}
+use mathlib.Core.Bool.{true}
+use mathlib.Core.List.{List}
+use mathlib.Core.Path.{_≡_, refl, sym, ap, subst, _∙_}
+use native.Mathlib.Omega.{arith}
+use borrow.Author.Needs.{needs}
+use lib.ListN.{length, take}
+use Rattle.words.specs.Layout.{cellsOf}
+use Rattle.words.specs.Stores.{Store, store, stores, gather}
+use Rattle.words.proofs.Gather.{gather-length, gather-turn}
+use Rattle.words.proofs.Plans.{stores-none}
+use Rattle.table.specs.Rule.{ruleOk}
+use Rattle.restore.specs.Parts.{backPlan}
+use Rattle.restore.proofs.put_back.Statement.{statement}
+use Rattle.restore.proofs.put_back.Tie as tie
+
+abbrev Inv-loop : tie.InvT-loop
+Inv-loop memory₀ bodies table slots depth marks budget cells bytes₀ cell₀ memory bytes cell = (cell ≤ cells) × (bytes ≤ 64 * cell) × (length memory ≡ length memory₀) × (bytes ≡ length (gather cell (backPlan slots table depth bodies))) × (memory ≡ stores (take budget (gather cell (backPlan slots table depth bodies))) memory₀)
+
+abbrev μ-loop : tie.MeasureT-loop
+μ-loop memory₀ bodies table slots depth marks budget cells bytes₀ cell₀ memory bytes cell = cells - cell
+
+cells-of-requires : tie.Need-cells-of-requires Inv-loop μ-loop
+cells-of-requires c κs = search needs
+
+loop-holds : tie.Need-loop-holds Inv-loop μ-loop
+loop-holds c = (search needs, search needs, refl, refl, stores-none (c .before .before .before .before .before .args .budget) (c .before .before .before .before .before .args .memory .now))
+
+shared-slice-read-put-marked : tie.Need-shared-slice-read-put-marked Inv-loop μ-loop
+shared-slice-read-put-marked c = search needs
+
+remaining-requires : tie.Need-remaining-requires Inv-loop μ-loop
+remaining-requires c κs = search needs
+
+put-marked-requires : tie.Need-put-marked-requires Inv-loop μ-loop
+put-marked-requires c κs =
+    let a = c .before .before .before .before .before .before .before .before .before .before .args in
+    let s = c .before .before .before .before .loop in
+    let here = c .before .before .before .loop-test .taken in
+    let q = c .before .before .before .before .before .cells-of .ensures in
+    let p = c .before .before .before .before .before .before .before .before .before .before .pre in (
+      (p .0 .0, p .0 .1, p .0 .2, omega (arith, q, p .0 .3), omega (arith, q, s .inv .2)),
+      (subst (λ (n : ℕ). ruleOk (cellsOf n) (a .slots) (cellsOf (length (a .bodies .now))) (a .table .now) ≡ true) (sym (s .inv .2)) (p .1 .0), p .1 .1 (s .cell) (omega (arith, q, p .0 .3))),
+    )
+
+add-bytes : tie.Need-add-bytes Inv-loop μ-loop
+add-bytes c = omega (arith, c .before .before .put-marked .ensures .1 .0, c .before .before .before .before .before .before .before .before .cells-of .ensures, c .before .before .before .before .before .before .before .before .before .before .before .before .before .pre .0 .3)
+
+add-cell : tie.Need-add-cell Inv-loop μ-loop
+add-cell c = search needs
+
+loop-less : tie.Need-loop-less Inv-loop μ-loop
+loop-less c = search needs
+
+loop-again : tie.Need-loop-again Inv-loop μ-loop
+loop-again c =
+    let a = c .before .before .before .before .before .before .before .before .before .before .before .before .before .args in
+    let s = c .before .before .before .before .before .before .before .loop in
+    let plan : ℕ → List Store = backPlan (a .slots) (a .table .now) (a .depth) (a .bodies .now) in
+    let r = c .before .before .put-marked .ensures in
+    let e₂ = rw (c .before .before .before .remaining .ensures) at (r .1 .1) in (
+      omega arith,
+      omega (arith, r .1 .0),
+      c .before .before .put-marked .kept .0 ∙ s .inv .2,
+      gather-length plan (s .cell) (s .bytes) (c .before .before .put-marked .result) (s .inv .3) (r .0),
+      gather-turn plan store (a .budget) (s .cell) (s .bytes) (a .memory .now) (s .memory) _ (s .inv .3) (s .inv .4) e₂,
+    )
+
+same-length : tie.Need-same-length Inv-loop μ-loop
+same-length c = c .before .loop .inv .2
+
+returns : tie.Need-returns Inv-loop μ-loop
+returns c =
+    let a = c .before .before .before .before .before .before .before .args in
+    let s = c .before .loop in
+    let plan : ℕ → List Store = backPlan (a .slots) (a .table .now) (a .depth) (a .bodies .now) in
+    let last : s .cell ≡ cellsOf (length (a .memory .now)) = omega (arith, c .before .before .cells-of .ensures) in (
+      s .inv .3 ∙ ap (λ (n : ℕ). length (gather n plan)) last,
+      (omega (arith, c .before .before .before .before .before .before .before .pre .0 .3), s .inv .4 ∙ ap (λ (n : ℕ). stores (take (a .budget) (gather n plan)) (a .memory .now)) last),
+    )
+
+pub put-back-spec : {M : Type 1} → statement M
+put-back-spec =
+    tie.close
+    (tie.spec
+    Inv-loop
+    μ-loop
+    cells-of-requires
+    loop-holds
+    shared-slice-read-put-marked
+    remaining-requires
+    put-marked-requires
+    add-bytes
+    add-cell
+    loop-less
+    loop-again
+    same-length
+    returns)
