@@ -1,75 +1,25 @@
-// What a scene is made of: calls with their numbers, a program's writes, and readings of the store. A scene is played act by act, and each act
-// prints a line.
-use crate::buffers::WHOLE;
-use crate::buffers::copy_bytes;
-use crate::buffers::copy_words;
-use crate::buffers::same_bytes;
-use crate::buffers::same_words;
-use crate::buffers::small_bodies;
-use crate::buffers::small_table;
-use crate::buffers::write_cell;
-use crate::holdings::show_holdings;
-use crate::text::say;
-use crate::text::say_answer;
-use crate::text::say_byte;
-use crate::text::say_listing;
-use crate::text::say_number;
-use store::Answer;
-
-// A call starts with its handle; then come the first cell and the count, and then an add's kind and label. Copy and Rely are adds to the
-// innermost domain, by copy and via parent: the first cell, the count and the label. A write fills a cell with a byte.
-pub enum Act {
-    Nothing,
-    Create,
-    Copy(u32, u32, u32),
-    Rely(u32, u32, u32),
-    Add(u32, u32, u32, u32, u32),
-    Delete(u32, u32, u32),
-    Commit(u32),
-    Advance(u32),
-    List,
-    Holdings,
-    Write(u32, u8),
-}
-
-pub const COPY: u32 = 0;
-
-pub const VIA_PARENT: u32 = 1;
-
-pub const READ_ONLY: u32 = 0;
-
-pub const READ_WRITE: u32 = 1;
-
-fn no_call() -> Answer {
-    Answer::Done {
-        steps: 0,
-        handle: 0,
-    }
-}
-
-// Makes the call of an act. An act that is no call changes nothing.
-pub fn perform(
-    memory: &[u8],
-    bodies: &mut [u8],
-    table: &mut [u32],
-    act: Act,
-    budget: usize,
-) -> Answer {
-    match act {
-        Act::Create => store::create(memory, bodies, table, budget),
-        Act::Copy(f, n, label) => { add::add(memory, bodies, table, 0, f, n, COPY, label, budget) }
-        Act::Rely(f, n, label) => {
-            add::add(memory, bodies, table, 0, f, n, VIA_PARENT, label, budget)
-        }
-        Act::Add(h, f, n, kind, label) => {
-            add::add(memory, bodies, table, h, f, n, kind, label, budget)
-        }
-        Act::Delete(h, f, n) => delete::delete(memory, bodies, table, h, f, n, budget),
-        Act::Commit(h) => commit::commit(memory, bodies, table, h, budget),
-        Act::Advance(h) => advance::advance(memory, bodies, table, h, budget),
-        _ => no_call(),
-    }
-}
+// The acts of a scene, shown: calls with their numbers, a program's writes, and readings of the store. A scene is played act by act, and each
+// act prints a line.
+use harness::acts::Act;
+use harness::acts::COPY;
+use harness::acts::READ_ONLY;
+use harness::acts::READ_WRITE;
+use harness::acts::VIA_PARENT;
+use harness::acts::perform;
+use harness::buffers::WHOLE;
+use harness::buffers::copy_bytes;
+use harness::buffers::copy_words;
+use harness::buffers::same_bytes;
+use harness::buffers::same_words;
+use harness::buffers::small_bodies;
+use harness::buffers::small_table;
+use harness::buffers::write_cell;
+use harness::holdings::show_holdings;
+use harness::text::say;
+use harness::text::say_answer;
+use harness::text::say_byte;
+use harness::text::say_listing;
+use harness::text::say_number;
 
 // ---- the text of a call
 
@@ -234,23 +184,6 @@ pub fn play(memory: &mut [u8], bodies: &mut [u8], table: &mut [u32], acts: [Act;
     let mut i: usize = 0;
     while i < 10 {
         show_act(memory, bodies, table, acts[i]);
-        i += 1;
-    }
-}
-
-fn prepare_act(memory: &mut [u8], bodies: &mut [u8], table: &mut [u32], act: Act) {
-    if let Act::Write(cell, byte) = act {
-        write_cell(memory, cell as usize, byte);
-        return;
-    }
-    perform(memory, bodies, table, act, WHOLE);
-}
-
-// Each act in turn, with nothing printed.
-pub fn prepare(memory: &mut [u8], bodies: &mut [u8], table: &mut [u32], acts: [Act; 10]) {
-    let mut i: usize = 0;
-    while i < 10 {
-        prepare_act(memory, bodies, table, acts[i]);
         i += 1;
     }
 }

@@ -1,9 +1,9 @@
 // What advance makes of the cells of the innermost domain, and which cells a delete frees.
-use crate::acts::Act;
-use crate::acts::READ_ONLY;
-use crate::acts::READ_WRITE;
 use crate::scenes::show_scene;
-use crate::text::say;
+use harness::acts::Act;
+use harness::acts::READ_ONLY;
+use harness::acts::READ_WRITE;
+use harness::text::say;
 
 fn advance_labels() {
     show_scene(

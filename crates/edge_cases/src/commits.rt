@@ -1,9 +1,9 @@
 // What becomes of the cells of a domain that is committed.
-use crate::acts::Act;
-use crate::acts::READ_ONLY;
-use crate::acts::READ_WRITE;
 use crate::scenes::show_scene;
-use crate::text::say;
+use harness::acts::Act;
+use harness::acts::READ_ONLY;
+use harness::acts::READ_WRITE;
+use harness::text::say;
 
 fn move_outwards() {
     show_scene(

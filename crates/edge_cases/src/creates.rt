@@ -1,12 +1,12 @@
 // Creates up to the eighth domain and up to the last handle.
-use crate::buffers::WHOLE;
-use crate::buffers::set_word;
-use crate::buffers::small_bodies;
-use crate::buffers::small_memory;
-use crate::buffers::small_table;
-use crate::text::say;
-use crate::text::say_answer;
-use crate::text::say_listing;
+use harness::buffers::WHOLE;
+use harness::buffers::set_word;
+use harness::buffers::small_bodies;
+use harness::buffers::small_memory;
+use harness::buffers::small_table;
+use harness::text::say;
+use harness::text::say_answer;
+use harness::text::say_listing;
 
 fn show_create(memory: &[u8], bodies: &[u8], table: &mut [u32]) {
     say(b"Create ");

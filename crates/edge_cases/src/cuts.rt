@@ -2,30 +2,26 @@
 //
 // What is found after the opening is compared with the store before the call, and with the one that the whole call leaves: all words in front of
 // the pairs, and all bytes of the bodies that these words say are held.
-use crate::acts::Act;
-use crate::acts::READ_ONLY;
-use crate::acts::READ_WRITE;
-use crate::acts::perform;
-use crate::acts::prepare;
-use crate::buffers::WHOLE;
-use crate::buffers::copy_bytes;
-use crate::buffers::copy_words;
-use crate::buffers::front_of;
-use crate::buffers::same_bytes;
-use crate::buffers::same_words;
-use crate::buffers::small_memory;
-use crate::buffers::two_bodies;
-use crate::buffers::two_entries;
-use crate::buffers::word_after;
-use crate::buffers::word_at;
-use crate::holdings::is_copy;
 use crate::scenes::start;
-use crate::stopped::is_done;
-use crate::stopped::refusal_of;
-use crate::stopped::steps_of;
-use crate::text::say;
-use crate::text::say_count;
-use crate::text::say_number;
+use harness::acts::Act;
+use harness::acts::READ_ONLY;
+use harness::acts::READ_WRITE;
+use harness::acts::perform;
+use harness::acts::prepare;
+use harness::buffers::WHOLE;
+use harness::buffers::copy_bytes;
+use harness::buffers::copy_words;
+use harness::buffers::small_memory;
+use harness::buffers::two_bodies;
+use harness::buffers::two_entries;
+use harness::holdings::same_store;
+use harness::text::is_done;
+use harness::text::refusal_of;
+use harness::text::say;
+use harness::text::say_budgets;
+use harness::text::say_count;
+use harness::text::say_number;
+use harness::text::steps_of;
 ghost use Prim.Native.Nat.{_<_};
 
 // What a call left behind at some budget: whether it was done, and then the refusal or the steps of an opening, and whether the store is the
@@ -47,59 +43,6 @@ struct Run {
 fn same_found(a: Found, b: Found) -> bool {
     ((a.done == b.done) & (a.refusal == b.refusal))
         & ((a.steps == b.steps) & ((a.made == b.made) & (a.unmade == b.unmade)))
-}
-
-// ---- two stores compared
-
-fn same_front(a: &[u32], b: &[u32]) -> bool {
-    let front = front_of(a);
-    if a.len() < front {
-        return false;
-    }
-    if b.len() < front {
-        return false;
-    }
-    same_words(&a[0..front], &b[0..front])
-}
-
-fn same_body(a: &[u8], b: &[u8], body: usize) -> bool {
-    if a.len() != b.len() {
-        return false;
-    }
-    if a.len() / 64 <= body {
-        return false;
-    }
-    let at = 64 * body;
-    let end = at + 64;
-    same_bytes(&a[at..end], &b[at..end])
-}
-
-// The entry that begins at this word: has it the same bytes, if it is a copy?
-fn same_copy(table: &[u32], at: usize, a: &[u8], b: &[u8]) -> bool {
-    if front_of(table) <= at {
-        return true;
-    }
-    if !is_copy(word_at(table, at)) {
-        return true;
-    }
-    same_body(a, b, word_after(table, at) as usize)
-}
-
-fn same_copies(table: &[u32], a: &[u8], b: &[u8]) -> bool {
-    let mut same = true;
-    let mut at: usize = 16;
-    while at < 32 {
-        same = same_copy(table, at, a, b) & same;
-        at += 2;
-    }
-    same
-}
-
-fn same_store(bodies: &[u8], table: &[u32], other_bodies: &[u8], other_table: &[u32]) -> bool {
-    if !same_front(table, other_table) {
-        return false;
-    }
-    same_copies(table, bodies, other_bodies)
 }
 
 // ---- one budget
@@ -179,12 +122,7 @@ fn say_opening(found: Found) {
 }
 
 fn say_run(run: Run, last: usize) {
-    say(b"Budget ");
-    say_number(run.first);
-    if run.first != last {
-        say(b" to ");
-        say_number(last);
-    }
+    say_budgets(run.first, last);
     say(b": ");
     let found = run.found;
     say_made(found);

@@ -1,10 +1,10 @@
 // The edges that document 01 names. Where one ends in a restore or a look, it is played up to that.
-use crate::acts::Act;
-use crate::acts::COPY;
-use crate::acts::READ_ONLY;
-use crate::acts::READ_WRITE;
 use crate::scenes::show_scene;
-use crate::text::say;
+use harness::acts::Act;
+use harness::acts::COPY;
+use harness::acts::READ_ONLY;
+use harness::acts::READ_WRITE;
+use harness::text::say;
 
 fn keep_seven() {
     show_scene(

@@ -1,9 +1,9 @@
 // What add does with labels and kinds, on a cell that is new and on one that is held.
-use crate::acts::Act;
-use crate::acts::READ_ONLY;
-use crate::acts::READ_WRITE;
 use crate::scenes::show_scene;
-use crate::text::say;
+use harness::acts::Act;
+use harness::acts::READ_ONLY;
+use harness::acts::READ_WRITE;
+use harness::text::say;
 
 // The label rises and never goes back, and the first value stays.
 fn own_copy() {

@@ -1,11 +1,11 @@
 // The lengths that question 1 allows, and those just beside them.
-use crate::buffers::WHOLE;
-use crate::buffers::least_bytes;
-use crate::buffers::least_table;
-use crate::text::say;
-use crate::text::say_answer;
-use crate::text::say_listing;
-use crate::text::say_number;
+use harness::buffers::WHOLE;
+use harness::buffers::least_bytes;
+use harness::buffers::least_table;
+use harness::text::say;
+use harness::text::say_answer;
+use harness::text::say_listing;
+use harness::text::say_number;
 ghost use mathlib.Core.Path.{_≡_};
 ghost use lib.ListN.{length};
 

@@ -4,12 +4,10 @@
 // of all its words ("nothing changed": and of all bytes of the bodies). What is held is read from the table and the bodies.
 mod acts;
 mod advances;
-mod buffers;
 mod commits;
 mod creates;
 mod cuts;
 mod edges;
-mod holdings;
 mod labels;
 mod lengths;
 mod questions;
@@ -18,7 +16,6 @@ mod reopening;
 mod room;
 mod scenes;
 mod stopped;
-mod text;
 mod unsound;
 
 fn main() {

@@ -1,12 +1,12 @@
 // The questions that refuse an add, a delete, a commit or an advance of a sound store.
-use crate::acts::Act;
-use crate::acts::COPY;
-use crate::acts::READ_ONLY;
-use crate::acts::READ_WRITE;
-use crate::acts::VIA_PARENT;
 use crate::scenes::show_after;
 use crate::scenes::show_scene;
-use crate::text::say;
+use harness::acts::Act;
+use harness::acts::COPY;
+use harness::acts::READ_ONLY;
+use harness::acts::READ_WRITE;
+use harness::acts::VIA_PARENT;
+use harness::text::say;
 
 // Domain 1 copies cells 0 and 1, and domain 2 holds cell 0 via parent. Handle 3 names no domain any more, and memory no longer has the
 // value of cell 1.

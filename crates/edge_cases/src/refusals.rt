@@ -1,15 +1,15 @@
 // Corrupt tables, and the question that refuses them. A case of question 4 breaks one rule and keeps the others, so that only this rule can
 // be what refuses it; a title that ends in "and .." says what else was set for that.
-use crate::buffers::WHOLE;
-use crate::buffers::copy_words;
-use crate::buffers::same_words;
-use crate::buffers::set_words;
-use crate::buffers::small_bodies;
-use crate::buffers::small_memory;
-use crate::buffers::small_table;
-use crate::text::say;
-use crate::text::say_answer;
-use crate::text::say_listing;
+use harness::buffers::WHOLE;
+use harness::buffers::copy_words;
+use harness::buffers::same_words;
+use harness::buffers::set_words;
+use harness::buffers::small_bodies;
+use harness::buffers::small_memory;
+use harness::buffers::small_table;
+use harness::text::say;
+use harness::text::say_answer;
+use harness::text::say_listing;
 
 // A sound store with two domains, whose handles are 1 and 2. Entry 0: domain 1 holds cell 0, read-write, in body 0. Entry 1: domain 1
 // holds cell 1, read-only, in body 1. Entry 2: domain 2 holds cell 0 via parent. The other five are free. A word not set is 0.

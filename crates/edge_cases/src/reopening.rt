@@ -1,13 +1,13 @@
 // An opening that is stopped itself: the next one ends at the same table.
-use crate::buffers::WHOLE;
-use crate::buffers::copy_words;
-use crate::buffers::same_words;
-use crate::buffers::small_bodies;
-use crate::buffers::small_memory;
-use crate::buffers::small_table;
-use crate::text::say;
-use crate::text::say_answer;
-use crate::text::say_number;
+use harness::buffers::WHOLE;
+use harness::buffers::copy_words;
+use harness::buffers::same_words;
+use harness::buffers::small_bodies;
+use harness::buffers::small_memory;
+use harness::buffers::small_table;
+use harness::text::say;
+use harness::text::say_answer;
+use harness::text::say_number;
 
 fn say_table(table: &[u32], whole: &[u32]) {
     if same_words(table, whole) {

@@ -1,9 +1,9 @@
 // Stores with too few entries or bodies for a call. B bodies have 64B bytes, and a table with E entries has 36 + 6E words.
-use crate::acts::Act;
-use crate::acts::READ_ONLY;
-use crate::acts::READ_WRITE;
 use crate::scenes::show_lent;
-use crate::text::say;
+use harness::acts::Act;
+use harness::acts::READ_ONLY;
+use harness::acts::READ_WRITE;
+use harness::text::say;
 
 fn advance_in_one_body() {
     show_lent(

@@ -1,13 +1,13 @@
 // Scenes, each on a store of its own. Every memory is filled with 7 at first.
-use crate::acts::Act;
 use crate::acts::play;
-use crate::acts::prepare;
-use crate::buffers::WHOLE;
-use crate::buffers::fill;
-use crate::buffers::small_bodies;
-use crate::buffers::small_memory;
-use crate::buffers::small_table;
-use crate::text::say;
+use harness::acts::Act;
+use harness::acts::prepare;
+use harness::buffers::WHOLE;
+use harness::buffers::fill;
+use harness::buffers::small_bodies;
+use harness::buffers::small_memory;
+use harness::buffers::small_table;
+use harness::text::say;
 
 pub fn start(memory: &mut [u8], bodies: &[u8], table: &mut [u32]) {
     fill(memory, 7);

@@ -1,15 +1,18 @@
 // Calls stopped at every budget, and what an opening then finds. Budgets with the same result stand in one line.
-use crate::buffers::WHOLE;
-use crate::buffers::copy_words;
-use crate::buffers::least_bytes;
-use crate::buffers::least_table;
-use crate::buffers::small_bodies;
-use crate::buffers::small_memory;
-use crate::buffers::small_table;
-use crate::text::say;
-use crate::text::say_count;
-use crate::text::say_number;
-use store::Answer;
+use harness::buffers::WHOLE;
+use harness::buffers::copy_words;
+use harness::buffers::least_bytes;
+use harness::buffers::least_table;
+use harness::buffers::small_bodies;
+use harness::buffers::small_memory;
+use harness::buffers::small_table;
+use harness::text::is_done;
+use harness::text::refusal_of;
+use harness::text::say;
+use harness::text::say_budgets;
+use harness::text::say_count;
+use harness::text::say_number;
+use harness::text::steps_of;
 ghost use Prim.Native.Nat.{_<_};
 
 // The two calls that are stopped.
@@ -31,37 +34,6 @@ struct Found {
 struct Run {
     first: usize,
     found: Found,
-}
-
-pub fn is_done(answer: Answer) -> bool {
-    match answer {
-        Answer::Refused(_) => false,
-        Answer::Done {
-            steps: _,
-            handle: _,
-        } => true,
-        Answer::Stopped(_) => false,
-    }
-}
-
-// The number of the question that refused, or 0.
-pub fn refusal_of(answer: Answer) -> u32 {
-    match answer {
-        Answer::Refused(question) => question,
-        Answer::Done {
-            steps: _,
-            handle: _,
-        } => 0,
-        Answer::Stopped(_) => 0,
-    }
-}
-
-pub fn steps_of(answer: Answer) -> usize {
-    match answer {
-        Answer::Refused(_) => 0,
-        Answer::Done { steps, handle: _ } => steps,
-        Answer::Stopped(steps) => steps,
-    }
 }
 
 fn same_found(a: Found, b: Found) -> bool {
@@ -141,12 +113,7 @@ fn say_found(call: Call, found: Found) {
 }
 
 fn say_run(call: Call, run: Run, last: usize) {
-    say(b"Budget ");
-    say_number(run.first);
-    if run.first != last {
-        say(b" to ");
-        say_number(last);
-    }
+    say_budgets(run.first, last);
     say(b": ");
     let found = run.found;
     say_found(call, found);

@@ -1,16 +1,16 @@
 // Add, delete, commit and advance on buffers that are no sound store: questions 1 to 4 come before those that tell the calls apart.
-use crate::acts::Act;
-use crate::acts::COPY;
-use crate::acts::READ_ONLY;
-use crate::acts::READ_WRITE;
 use crate::acts::play;
-use crate::acts::prepare;
-use crate::buffers::set_word;
-use crate::buffers::small_bodies;
-use crate::buffers::small_memory;
-use crate::buffers::small_table;
 use crate::scenes::start;
-use crate::text::say;
+use harness::acts::Act;
+use harness::acts::COPY;
+use harness::acts::READ_ONLY;
+use harness::acts::READ_WRITE;
+use harness::acts::prepare;
+use harness::buffers::set_word;
+use harness::buffers::small_bodies;
+use harness::buffers::small_memory;
+use harness::buffers::small_table;
+use harness::text::say;
 
 // Domain 1 copies cell 0, read-write.
 fn one_domain() -> [Act; 10] {
