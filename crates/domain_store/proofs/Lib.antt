@@ -1,0 +1,2 @@
+-- The laws of `domain_store`.
+pub mod Telling

@@ -1,0 +1,41 @@
+-- From a call's contract to what its function of C gives back. Assumes nothing.
+use Prim.Native.Nat.{ℕ, _+_, _<_}
+use mathlib.Core.List.{List}
+use mathlib.Core.Path.{_≡_, refl, sym, ap, subst, _∙_}
+use native.Mathlib.Omega.{arith}
+use borrow.Author.Tests.{eqb-true, eqb-false}
+use lib.Dec.{eqb}
+use lib.ListN.{length, getD, set}
+use lib.Seq.{getD-set-same, getD-set-other}
+use Rattle.words.proofs.Scan.{by-bool}
+use Rattle.words.proofs.Plans.{tab-below}
+use Rattle.model.specs.Answer.{Report}
+use Rattle.model.specs.Calls.{Listed}
+use Rattle.store.specs.Outcome.{Buffers, Outcome, leaves}
+use Rattle.look.specs.declared.Place.{Place}
+use Rattle.domain_store.specs.Boundary.{numberOf, returned, returnedBy, eight, listedInC, listedBy, lookedBy}
+
+pub told : (n s : ℕ) (r : Report) (b : Buffers) (o : Outcome) → n ≡ numberOf (r .status) (r .refusal) → s ≡ r .steps → leaves r b ≡ o → returned n s b ≡ returnedBy o
+told n s r b o e f g = (λ i. returned (e i) (f i) b) ∙ ap returnedBy g
+
+-- the handle that create names
+pub named : (h : ℕ) (r : Report) (b : Buffers) (o : Outcome) → h ≡ r .handle → leaves r b ≡ o → h ≡ o .report .handle
+named h r b o e g = e ∙ ap (λ (x : Outcome). x .report .handle) g
+
+-- the eight handles, copied one after the other
+pub copied : (from to : List ℕ) (k : ℕ) → k < length to → ((j : ℕ) → j < k → getD to j 0 ≡ getD from j 0)
+    → (j : ℕ) → j < k + 1 → getD (set to k (getD from k 0)) j 0 ≡ getD from j 0
+copied from to k l h j b =
+    by-bool (eqb j k)
+    (λ z.
+    let q = eqb-true j k z in
+    subst (λ (x : ℕ). getD (set to k (getD from k 0)) x 0 ≡ getD from x 0) (sym q) (getD-set-same to k (getD from k 0) 0 l))
+    (λ z. getD-set-other to k j (getD from k 0) 0 (eqb-false j k z) ∙ h j (let n = eqb-false j k z in omega arith))
+
+pub listed : (n : ℕ) (r : Report) (k : ℕ) (hs to : List ℕ) (l : Listed) → n ≡ numberOf (r .status) (r .refusal)
+    → record { report = r; count = k; handles = hs } ≡ l → ((j : ℕ) → j < 8 → getD to j 0 ≡ getD hs j 0) → listedInC n k (eight to) ≡ listedBy l
+listed n r k hs to l e g h = (λ i. listedInC (e i) k (tab-below _ (λ j. getD hs j 0) 8 h i)) ∙ ap listedBy g
+
+-- a place that was found, by its case
+pub placed : (p q : Place) (x : Place) → x ≡ p → x ≡ q → lookedBy p ≡ lookedBy q
+placed p q x e f = ap lookedBy (sym e ∙ f)

@@ -1,0 +1,58 @@
+-- What a function of C gives back: a number, and what it stores into its out parameters.
+use Prim.Native.Nat.{ℕ}
+use mathlib.Core.List.{List}
+use lib.ListN.{getD}
+use Rattle.words.specs.Stores.{tab}
+use Rattle.model.specs.Answer.{Status, isDone, isStopped, isRefused, Report}
+use Rattle.model.specs.Calls.{Listed}
+use Rattle.store.specs.Outcome.{Buffers, Outcome}
+use Rattle.look.specs.declared.Place.{Place}
+use Rattle.look.specs.declared.Place.the-variants.{Refused, Memory, Bodies}
+
+-- "0 when done, 255 when stopped by its budget, else the refusal's number"
+abbrev pub numberOf : Status → (refusal : ℕ) → ℕ
+numberOf isDone q = 0
+numberOf isStopped q = 255
+numberOf isRefused q = q
+
+-- a changing call: the number, the steps made, and the buffers left
+pub record Returned : Type 0 where
+  pub number : ℕ
+  pub steps : ℕ
+  pub buffers : Buffers
+
+abbrev pub returned : (number steps : ℕ) → Buffers → Returned
+returned n s b = record { number = n; steps = s; buffers = b }
+
+abbrev pub returnedBy : Outcome → Returned
+returnedBy o = returned (numberOf (o .report .status) (o .report .refusal)) (o .report .steps) (o .buffers)
+
+-- the eight words of an array
+abbrev pub eight : List ℕ → List ℕ
+eight hs = tab 8 (λ j. getD hs j 0)
+
+-- list: the number, how many domains are live, and their handles
+pub record ListedInC : Type 0 where
+  pub number : ℕ
+  pub count : ℕ
+  pub handles : List ℕ
+
+abbrev pub listedInC : (number count : ℕ) → List ℕ → ListedInC
+listedInC n c hs = record { number = n; count = c; handles = hs }
+
+abbrev pub listedBy : Listed → ListedInC
+listedBy l = listedInC (numberOf (l .report .status) (l .report .refusal)) (l .count) (eight (l .handles))
+
+-- look: the number, which buffer (1 memory, 2 bodies, 0 refused), and the offset of the 64 bytes in it
+pub record LookedInC : Type 0 where
+  pub number : ℕ
+  pub place : ℕ
+  pub offset : ℕ
+
+abbrev pub lookedInC : (number place offset : ℕ) → LookedInC
+lookedInC n p o = record { number = n; place = p; offset = o }
+
+abbrev pub lookedBy : Place → LookedInC
+lookedBy (Refused n) = lookedInC n 0 0
+lookedBy (Memory at) = lookedInC 0 1 at
+lookedBy (Bodies at) = lookedInC 0 2 at

@@ -1,0 +1,2 @@
+-- The definitions that the contracts of `domain_store` cite.
+pub mod Boundary
