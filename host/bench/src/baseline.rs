@@ -1,0 +1,848 @@
+//! The same store without proofs, as a plain systems program: the format, the questions and the journal of document 01.
+//!
+//! It is here to be measured beside the library, so it makes no use of it. The table is checked in one pass with marks for
+//! each cell and each body. Restore and add via parent find each cell's holder by one search over depths and entries, since that is
+//! what the library does. Table words are stored one after another with volatile stores: their order is what a cut relies on, and a
+//! compiler may reorder or drop plain ones.
+
+/// The magic number of a made store.
+pub const MAGIC: u32 = 0xCD51_1E01;
+/// The answer of a call that its budget stopped.
+pub const STOPPED: u32 = 255;
+
+const READ_WRITE: u32 = 1 << 27;
+const VIA_PARENT: u32 = 1 << 26;
+const MAX_CELLS: usize = 65_536;
+const MAX_PLACES: usize = 4_096;
+const CELL: usize = 64;
+
+/// The three lent buffers.
+pub struct Buffers<'a> {
+    pub memory: &'a mut [u8],
+    pub bodies: &'a mut [u8],
+    pub table: &'a mut [u32],
+}
+
+/// m, E and B, as the lengths give them.
+#[derive(Clone, Copy)]
+struct Shape {
+    cells: usize,
+    entries: usize,
+    bodies: usize,
+}
+
+/// What the pass over the table found out, for the later questions.
+struct Marks {
+    /// For each cell, bit d - 1 tells that depth d holds it.
+    holders: [u8; MAX_CELLS],
+    /// One bit for each body in use.
+    used: [u64; MAX_PLACES / 64],
+    entries: usize,
+    copies: usize,
+}
+
+impl Marks {
+    fn new() -> Self {
+        Marks {
+            holders: [0; MAX_CELLS],
+            used: [0; MAX_PLACES / 64],
+            entries: 0,
+            copies: 0,
+        }
+    }
+
+    fn holds(&self, depth: usize, cell: usize) -> bool {
+        self.holders[cell] >> (depth - 1) & 1 == 1
+    }
+}
+
+#[inline]
+fn depth_of(word: u32) -> usize {
+    (word >> 28) as usize
+}
+
+#[inline]
+fn cell_of(word: u32) -> usize {
+    (word & 0xFFFF) as usize
+}
+
+#[inline]
+fn entry(table: &[u32], place: usize) -> (u32, u32) {
+    (table[16 + 2 * place], table[17 + 2 * place])
+}
+
+/// Question 1.
+fn shape(memory: usize, bodies: usize, table: usize) -> Option<Shape> {
+    let whole = |length: usize, most: usize| {
+        (length.is_multiple_of(CELL) && (1..=most).contains(&(length / CELL)))
+            .then_some(length / CELL)
+    };
+    let cells = whole(memory, MAX_CELLS)?;
+    let bodies = whole(bodies, MAX_PLACES)?;
+    let words = table.checked_sub(36)?;
+    if !words.is_multiple_of(6) || !(1..=MAX_PLACES).contains(&(words / 6)) {
+        return None;
+    }
+    Some(Shape {
+        cells,
+        entries: words / 6,
+        bodies,
+    })
+}
+
+/// Questions 1 and 2.
+fn header(memory: usize, bodies: usize, table: &[u32]) -> Result<Shape, u32> {
+    let shape = shape(memory, bodies, table.len()).ok_or(1u32)?;
+    let right = table[0] == MAGIC
+        && table[1] as usize == shape.cells
+        && table[2] as usize == shape.entries
+        && table[3] as usize == shape.bodies
+        && table[7] == 0;
+    if right { Ok(shape) } else { Err(2) }
+}
+
+/// Question 4 for a table without pending pairs: one pass over the entries sets the marks, and a second one, taken only when some
+/// entry is via parent, asks whether the next domain out holds its cell.
+fn check_words(table: &[u32], shape: Shape, marks: &mut Marks) -> bool {
+    let live = table[4] as usize;
+    let next = table[5];
+    if live > 8 || next == 0 {
+        return false;
+    }
+    let mut last = 0;
+    for &handle in &table[8..8 + live] {
+        if handle <= last || handle >= next {
+            return false;
+        }
+        last = handle;
+    }
+    if table[8 + live..16].iter().any(|&word| word != 0) {
+        return false;
+    }
+    let mut via = false;
+    for pair in table[16..16 + 2 * shape.entries].chunks_exact(2) {
+        let (first, second) = (pair[0], pair[1]);
+        if first == 0 {
+            if second != 0 {
+                return false;
+            }
+            continue;
+        }
+        let depth = depth_of(first);
+        let cell = cell_of(first);
+        if depth == 0 || depth > live || first & 0x03FF_0000 != 0 || cell >= shape.cells {
+            return false;
+        }
+        let bit = 1u8 << (depth - 1);
+        if marks.holders[cell] & bit != 0 {
+            return false;
+        }
+        marks.holders[cell] |= bit;
+        marks.entries += 1;
+        if first & VIA_PARENT != 0 {
+            if depth < 2 || second != 0 {
+                return false;
+            }
+            via = true;
+        } else {
+            let body = second as usize;
+            if body >= shape.bodies || marks.used[body / 64] >> (body % 64) & 1 == 1 {
+                return false;
+            }
+            marks.used[body / 64] |= 1 << (body % 64);
+            marks.copies += 1;
+        }
+    }
+    if via {
+        for pair in table[16..16 + 2 * shape.entries].chunks_exact(2) {
+            if pair[0] & VIA_PARENT != 0 && !marks.holds(depth_of(pair[0]) - 1, cell_of(pair[0])) {
+                return false;
+            }
+        }
+    }
+    true
+}
+
+/// Question 4 for open: the pairs are checked and laid over a copy of the words that they may name.
+fn check_pending(table: &[u32], shape: Shape, marks: &mut Marks) -> bool {
+    let pending = table[6] as usize;
+    if pending == 0 {
+        return check_words(table, shape, marks);
+    }
+    if pending > 2 * shape.entries + 10 {
+        return false;
+    }
+    let end = 16 + 2 * shape.entries;
+    let mut meant = [0u32; 16 + 2 * MAX_PLACES];
+    meant[..end].copy_from_slice(&table[..end]);
+    let mut last = 0;
+    for pair in table[end..end + 2 * pending].chunks_exact(2) {
+        let word = pair[0] as usize;
+        if word <= last || word >= end || !(word == 4 || word == 5 || word >= 8) {
+            return false;
+        }
+        meant[word] = pair[1];
+        last = word;
+    }
+    check_words(&meant, shape, marks)
+}
+
+/// Questions 1 to 4, as every call but make and open is put them.
+fn check(memory: usize, bodies: usize, table: &[u32], marks: &mut Marks) -> Result<Shape, u32> {
+    let shape = header(memory, bodies, table)?;
+    if table[6] != 0 {
+        return Err(3);
+    }
+    if check_words(table, shape, marks) {
+        Ok(shape)
+    } else {
+        Err(4)
+    }
+}
+
+/// Question 5: the depth of a handle.
+fn depth_of_handle(table: &[u32], handle: u32) -> Result<usize, u32> {
+    let live = table[4] as usize;
+    if handle == 0 {
+        return if live > 0 { Ok(live) } else { Err(5) };
+    }
+    table[8..8 + live]
+        .iter()
+        .position(|&known| known == handle)
+        .map(|index| index + 1)
+        .ok_or(5)
+}
+
+/// Questions 5 and 6.
+fn innermost(table: &[u32], handle: u32) -> Result<usize, u32> {
+    let depth = depth_of_handle(table, handle)?;
+    if depth == table[4] as usize {
+        Ok(depth)
+    } else {
+        Err(6)
+    }
+}
+
+/// Question 8.
+fn range(first: u32, count: u32, cells: usize) -> Result<core::ops::Range<usize>, u32> {
+    let end = first as u64 + count as u64;
+    if count >= 1 && end <= cells as u64 {
+        Ok(first as usize..end as usize)
+    } else {
+        Err(8)
+    }
+}
+
+/// The entry by which the outermost of the depths `from..=to` that hold the cell holds it.
+fn first_holder(
+    table: &[u32],
+    entries: usize,
+    from: usize,
+    to: usize,
+    cell: usize,
+) -> Option<usize> {
+    for depth in from..=to {
+        let wanted = (depth as u32) << 28 | cell as u32;
+        for (place, pair) in table[16..16 + 2 * entries].chunks_exact(2).enumerate() {
+            if pair[0] & !(READ_WRITE | VIA_PARENT) == wanted {
+                return Some(place);
+            }
+        }
+    }
+    None
+}
+
+/// The body behind an entry: its own, or for via parent that of the next copy outwards.
+fn body_behind(table: &[u32], entries: usize, mut place: usize) -> usize {
+    loop {
+        let (first, second) = entry(table, place);
+        if first & VIA_PARENT == 0 {
+            return second as usize;
+        }
+        let out = depth_of(first) - 1;
+        place = first_holder(table, entries, out, out, cell_of(first))
+            .expect("a checked table has a holder further out");
+    }
+}
+
+/// Free bodies, lowest first.
+struct FreeBodies<'a> {
+    used: &'a [u64; MAX_PLACES / 64],
+    word: usize,
+    free: u64,
+}
+
+impl<'a> FreeBodies<'a> {
+    fn new(used: &'a [u64; MAX_PLACES / 64]) -> Self {
+        FreeBodies {
+            used,
+            word: 0,
+            free: !used[0],
+        }
+    }
+
+    /// Asked only as often as question 17 allows.
+    fn take(&mut self) -> usize {
+        while self.free == 0 {
+            self.word += 1;
+            self.free = !self.used[self.word];
+        }
+        let bit = self.free.trailing_zeros() as usize;
+        self.free &= self.free - 1;
+        64 * self.word + bit
+    }
+}
+
+/// The end of a call whose budget is used up.
+struct Stop;
+
+/// Counts the stores of a call against its budget.
+struct Stores {
+    budget: u64,
+    made: u64,
+}
+
+impl Stores {
+    fn new(budget: u64) -> Self {
+        Stores { budget, made: 0 }
+    }
+
+    #[inline]
+    fn word(&mut self, table: &mut [u32], index: usize, value: u32) -> Result<(), Stop> {
+        if self.made == self.budget {
+            return Err(Stop);
+        }
+        let place: &mut u32 = &mut table[index];
+        // Volatile: the order of these stores is the whole point of the journal.
+        unsafe { core::ptr::write_volatile(place, value) };
+        self.made += 1;
+        Ok(())
+    }
+
+    /// The 64 bytes of a cell, or as many as the budget still allows.
+    #[inline]
+    fn cell(&mut self, to: &mut [u8], from: &[u8]) -> Result<(), Stop> {
+        let left = self.budget - self.made;
+        if left >= CELL as u64 {
+            to[..CELL].copy_from_slice(&from[..CELL]);
+            self.made += CELL as u64;
+            return Ok(());
+        }
+        let left = left as usize;
+        to[..left].copy_from_slice(&from[..left]);
+        self.made += left as u64;
+        Err(Stop)
+    }
+
+    fn answer(&self, end: Result<(), Stop>) -> (u32, u64) {
+        match end {
+            Ok(()) => (0, self.made),
+            Err(Stop) => (STOPPED, self.made),
+        }
+    }
+}
+
+/// Writes pairs behind the entries, then word 6, the words and word 6 again.
+struct Journal {
+    base: usize,
+    pairs: usize,
+}
+
+impl Journal {
+    fn new(shape: Shape) -> Self {
+        // The bytes stored before must not sink below the first pair.
+        core::sync::atomic::compiler_fence(core::sync::atomic::Ordering::SeqCst);
+        Journal {
+            base: 16 + 2 * shape.entries,
+            pairs: 0,
+        }
+    }
+
+    #[inline]
+    fn pair(
+        &mut self,
+        stores: &mut Stores,
+        table: &mut [u32],
+        word: usize,
+        value: u32,
+    ) -> Result<(), Stop> {
+        let at = self.base + 2 * self.pairs;
+        stores.word(table, at, word as u32)?;
+        stores.word(table, at + 1, value)?;
+        self.pairs += 1;
+        Ok(())
+    }
+
+    #[inline]
+    fn entry(
+        &mut self,
+        stores: &mut Stores,
+        table: &mut [u32],
+        place: usize,
+        words: (u32, u32),
+    ) -> Result<(), Stop> {
+        self.pair(stores, table, 16 + 2 * place, words.0)?;
+        self.pair(stores, table, 17 + 2 * place, words.1)
+    }
+
+    fn finish(self, stores: &mut Stores, table: &mut [u32]) -> Result<(), Stop> {
+        if self.pairs == 0 {
+            return Ok(());
+        }
+        stores.word(table, 6, self.pairs as u32)?;
+        put_in_place(stores, table, self.base, self.pairs)
+    }
+}
+
+/// The pending words, and word 6 after them.
+fn put_in_place(
+    stores: &mut Stores,
+    table: &mut [u32],
+    base: usize,
+    pairs: usize,
+) -> Result<(), Stop> {
+    for index in 0..pairs {
+        let (word, value) = (table[base + 2 * index], table[base + 2 * index + 1]);
+        stores.word(table, word as usize, value)?;
+    }
+    stores.word(table, 6, 0)
+}
+
+pub fn make(buffers: &mut Buffers, budget: u64) -> (u32, u64) {
+    let Some(shape) = shape(
+        buffers.memory.len(),
+        buffers.bodies.len(),
+        buffers.table.len(),
+    ) else {
+        return (1, 0);
+    };
+    let mut stores = Stores::new(budget);
+    let table = &mut *buffers.table;
+    let end = (|| {
+        stores.word(table, 0, 0)?;
+        stores.word(table, 1, shape.cells as u32)?;
+        stores.word(table, 2, shape.entries as u32)?;
+        stores.word(table, 3, shape.bodies as u32)?;
+        stores.word(table, 4, 0)?;
+        stores.word(table, 5, 1)?;
+        for word in 6..16 + 2 * shape.entries {
+            stores.word(table, word, 0)?;
+        }
+        stores.word(table, 0, MAGIC)
+    })();
+    stores.answer(end)
+}
+
+pub fn open(buffers: &mut Buffers, budget: u64) -> (u32, u64) {
+    let table = &mut *buffers.table;
+    let shape = match header(buffers.memory.len(), buffers.bodies.len(), table) {
+        Ok(shape) => shape,
+        Err(number) => return (number, 0),
+    };
+    let mut marks = Marks::new();
+    if !check_pending(table, shape, &mut marks) {
+        return (4, 0);
+    }
+    let pairs = table[6] as usize;
+    if pairs == 0 {
+        return (0, 0);
+    }
+    let mut stores = Stores::new(budget);
+    let end = put_in_place(&mut stores, table, 16 + 2 * shape.entries, pairs);
+    stores.answer(end)
+}
+
+/// The answer, the steps and the new handle (0 unless done).
+pub fn create(buffers: &mut Buffers, budget: u64) -> (u32, u64, u32) {
+    let table = &mut *buffers.table;
+    let mut marks = Marks::new();
+    let shape = match check(
+        buffers.memory.len(),
+        buffers.bodies.len(),
+        table,
+        &mut marks,
+    ) {
+        Ok(shape) => shape,
+        Err(number) => return (number, 0, 0),
+    };
+    let live = table[4] as usize;
+    let handle = table[5];
+    if live >= 8 {
+        return (9, 0, 0);
+    }
+    if handle == u32::MAX {
+        return (10, 0, 0);
+    }
+    let mut stores = Stores::new(budget);
+    let mut journal = Journal::new(shape);
+    let end = (|| {
+        journal.pair(&mut stores, table, 4, live as u32 + 1)?;
+        journal.pair(&mut stores, table, 5, handle + 1)?;
+        journal.pair(&mut stores, table, 8 + live, handle)?;
+        journal.finish(&mut stores, table)
+    })();
+    let (number, steps) = stores.answer(end);
+    (number, steps, if number == 0 { handle } else { 0 })
+}
+
+pub fn add(
+    buffers: &mut Buffers,
+    handle: u32,
+    first: u32,
+    count: u32,
+    kind: u32,
+    label: u32,
+    budget: u64,
+) -> (u32, u64) {
+    let table = &mut *buffers.table;
+    let mut marks = Marks::new();
+    let asked = (|| {
+        let shape = check(
+            buffers.memory.len(),
+            buffers.bodies.len(),
+            table,
+            &mut marks,
+        )?;
+        let depth = innermost(table, handle)?;
+        if kind > 1 || label > 1 {
+            return Err(7);
+        }
+        let range = range(first, count, shape.cells)?;
+        let fresh = range
+            .clone()
+            .filter(|&cell| !marks.holds(depth, cell))
+            .count();
+        if kind == 1 && fresh > 0 {
+            if depth == 1
+                || range
+                    .clone()
+                    .any(|cell| !marks.holds(depth, cell) && !marks.holds(depth - 1, cell))
+            {
+                return Err(11);
+            }
+            for cell in range.clone().filter(|&cell| !marks.holds(depth, cell)) {
+                let place = first_holder(table, shape.entries, depth - 1, depth - 1, cell)
+                    .expect("asked just before");
+                let body = body_behind(table, shape.entries, place);
+                if buffers.memory[CELL * cell..][..CELL] != buffers.bodies[CELL * body..][..CELL] {
+                    return Err(12);
+                }
+            }
+        }
+        if marks.entries + fresh > shape.entries {
+            return Err(16);
+        }
+        if kind == 0 && marks.copies + fresh > shape.bodies {
+            return Err(17);
+        }
+        Ok((shape, depth, range))
+    })();
+    let (shape, depth, range) = match asked {
+        Ok(plan) => plan,
+        Err(number) => return (number, 0),
+    };
+    let mut stores = Stores::new(budget);
+    let end = (|| {
+        if kind == 0 {
+            let mut free = FreeBodies::new(&marks.used);
+            for cell in range.clone().filter(|&cell| !marks.holds(depth, cell)) {
+                let body = free.take();
+                stores.cell(
+                    &mut buffers.bodies[CELL * body..],
+                    &buffers.memory[CELL * cell..],
+                )?;
+            }
+        }
+        // The lowest free entries in order of cell, and the lowest free bodies too: one walk over the entries meets both in order.
+        let mut free = FreeBodies::new(&marks.used);
+        let mut fresh = range.clone().filter(|&cell| !marks.holds(depth, cell));
+        let mut journal = Journal::new(shape);
+        for place in 0..shape.entries {
+            let (word, second) = entry(table, place);
+            if word == 0 {
+                if let Some(cell) = fresh.next() {
+                    let word = (depth as u32) << 28 | label << 27 | kind << 26 | cell as u32;
+                    let body = if kind == 0 { free.take() as u32 } else { 0 };
+                    journal.entry(&mut stores, table, place, (word, body))?;
+                }
+            } else if label == 1
+                && depth_of(word) == depth
+                && word & READ_WRITE == 0
+                && range.contains(&cell_of(word))
+            {
+                journal.entry(&mut stores, table, place, (word | READ_WRITE, second))?;
+            }
+        }
+        journal.finish(&mut stores, table)
+    })();
+    stores.answer(end)
+}
+
+pub fn delete(
+    buffers: &mut Buffers,
+    handle: u32,
+    first: u32,
+    count: u32,
+    budget: u64,
+) -> (u32, u64) {
+    let table = &mut *buffers.table;
+    let mut marks = Marks::new();
+    let asked = (|| {
+        let shape = check(
+            buffers.memory.len(),
+            buffers.bodies.len(),
+            table,
+            &mut marks,
+        )?;
+        let depth = depth_of_handle(table, handle)?;
+        let range = range(first, count, shape.cells)?;
+        if range.clone().any(|cell| !marks.holds(depth, cell)) {
+            return Err(13);
+        }
+        for place in 0..shape.entries {
+            let (word, _) = entry(table, place);
+            if depth_of(word) == depth + 1
+                && word & VIA_PARENT != 0
+                && range.contains(&cell_of(word))
+            {
+                return Err(14);
+            }
+        }
+        Ok((shape, depth, range))
+    })();
+    let (shape, depth, range) = match asked {
+        Ok(plan) => plan,
+        Err(number) => return (number, 0),
+    };
+    let mut stores = Stores::new(budget);
+    let mut journal = Journal::new(shape);
+    let end = (|| {
+        for place in 0..shape.entries {
+            let (word, _) = entry(table, place);
+            if depth_of(word) == depth && range.contains(&cell_of(word)) {
+                journal.entry(&mut stores, table, place, (0, 0))?;
+            }
+        }
+        journal.finish(&mut stores, table)
+    })();
+    stores.answer(end)
+}
+
+pub fn commit(buffers: &mut Buffers, handle: u32, budget: u64) -> (u32, u64) {
+    let table = &mut *buffers.table;
+    let mut marks = Marks::new();
+    let asked = (|| {
+        let shape = check(
+            buffers.memory.len(),
+            buffers.bodies.len(),
+            table,
+            &mut marks,
+        )?;
+        Ok((shape, innermost(table, handle)?))
+    })();
+    let (shape, depth) = match asked {
+        Ok(plan) => plan,
+        Err(number) => return (number, 0),
+    };
+    // The cells that the innermost domain holds read-write: they raise the label further out.
+    let mut raising = [0u64; MAX_CELLS / 64];
+    if depth > 1 {
+        for place in 0..shape.entries {
+            let (word, _) = entry(table, place);
+            if depth_of(word) == depth && word & READ_WRITE != 0 {
+                raising[cell_of(word) / 64] |= 1 << (cell_of(word) % 64);
+            }
+        }
+    }
+    let mut stores = Stores::new(budget);
+    let mut journal = Journal::new(shape);
+    let end = (|| {
+        journal.pair(&mut stores, table, 4, depth as u32 - 1)?;
+        journal.pair(&mut stores, table, 7 + depth, 0)?;
+        for place in 0..shape.entries {
+            let (word, second) = entry(table, place);
+            let cell = cell_of(word);
+            if depth_of(word) == depth {
+                let words = if depth == 1 || marks.holds(depth - 1, cell) {
+                    (0, 0)
+                } else {
+                    (word - (1 << 28), second)
+                };
+                journal.entry(&mut stores, table, place, words)?;
+            } else if word != 0
+                && depth_of(word) + 1 == depth
+                && word & READ_WRITE == 0
+                && raising[cell / 64] >> (cell % 64) & 1 == 1
+            {
+                journal.entry(&mut stores, table, place, (word | READ_WRITE, second))?;
+            }
+        }
+        journal.finish(&mut stores, table)
+    })();
+    stores.answer(end)
+}
+
+pub fn advance(buffers: &mut Buffers, handle: u32, budget: u64) -> (u32, u64) {
+    let table = &mut *buffers.table;
+    let mut marks = Marks::new();
+    // Cell and place of each read-write entry of the innermost domain, to be taken in order of cell.
+    let mut found = [0u32; MAX_PLACES];
+    let asked = (|| {
+        let shape = check(
+            buffers.memory.len(),
+            buffers.bodies.len(),
+            table,
+            &mut marks,
+        )?;
+        let depth = innermost(table, handle)?;
+        let mut count = 0;
+        for place in 0..shape.entries {
+            let (word, _) = entry(table, place);
+            if depth_of(word) == depth && word & READ_WRITE != 0 {
+                if depth > 1 && !marks.holds(depth - 1, cell_of(word)) {
+                    return Err(15);
+                }
+                found[count] = (cell_of(word) as u32) << 16 | place as u32;
+                count += 1;
+            }
+        }
+        if marks.copies + count > shape.bodies {
+            return Err(17);
+        }
+        Ok((shape, count))
+    })();
+    let (shape, count) = match asked {
+        Ok(plan) => plan,
+        Err(number) => return (number, 0),
+    };
+    let found = &mut found[..count];
+    found.sort_unstable();
+    let mut body_for = [u16::MAX; MAX_PLACES];
+    let mut stores = Stores::new(budget);
+    let end = (|| {
+        let mut free = FreeBodies::new(&marks.used);
+        for &key in found.iter() {
+            let (cell, place) = ((key >> 16) as usize, (key & 0xFFFF) as usize);
+            let body = free.take();
+            body_for[place] = body as u16;
+            stores.cell(
+                &mut buffers.bodies[CELL * body..],
+                &buffers.memory[CELL * cell..],
+            )?;
+        }
+        let mut journal = Journal::new(shape);
+        for (place, &body) in body_for[..shape.entries].iter().enumerate() {
+            if body != u16::MAX {
+                let (word, _) = entry(table, place);
+                journal.entry(&mut stores, table, place, (word & !VIA_PARENT, body as u32))?;
+            }
+        }
+        journal.finish(&mut stores, table)
+    })();
+    stores.answer(end)
+}
+
+pub fn restore(buffers: &mut Buffers, handle: u32, budget: u64) -> (u32, u64) {
+    let table = &mut *buffers.table;
+    let mut marks = Marks::new();
+    let asked = (|| {
+        let shape = check(
+            buffers.memory.len(),
+            buffers.bodies.len(),
+            table,
+            &mut marks,
+        )?;
+        Ok((shape, depth_of_handle(table, handle)?))
+    })();
+    let (shape, depth) = match asked {
+        Ok(plan) => plan,
+        Err(number) => return (number, 0),
+    };
+    let live = table[4] as usize;
+    let mut stores = Stores::new(budget);
+    let end = (|| {
+        // Eight marks at a time: most cells of a large memory are held by nobody. Marks past the memory are never set.
+        let wanted = u64::from_ne_bytes([0xFF << (depth - 1); 8]);
+        for (group, eight) in marks.holders[..shape.cells.next_multiple_of(8)]
+            .chunks_exact(8)
+            .enumerate()
+        {
+            if u64::from_ne_bytes(eight.try_into().expect("eight marks")) & wanted == 0 {
+                continue;
+            }
+            for (offset, holders) in eight.iter().enumerate() {
+                if holders >> (depth - 1) == 0 {
+                    continue;
+                }
+                let cell = 8 * group + offset;
+                let place = first_holder(table, shape.entries, depth, live, cell)
+                    .expect("the marks name a holder");
+                let body = body_behind(table, shape.entries, place);
+                stores.cell(
+                    &mut buffers.memory[CELL * cell..],
+                    &buffers.bodies[CELL * body..],
+                )?;
+            }
+        }
+        if depth == live {
+            return Ok(());
+        }
+        let mut journal = Journal::new(shape);
+        journal.pair(&mut stores, table, 4, depth as u32)?;
+        for word in 8 + depth..8 + live {
+            journal.pair(&mut stores, table, word, 0)?;
+        }
+        for place in 0..shape.entries {
+            if depth_of(entry(table, place).0) > depth {
+                journal.entry(&mut stores, table, place, (0, 0))?;
+            }
+        }
+        journal.finish(&mut stores, table)
+    })();
+    stores.answer(end)
+}
+
+/// The answer, the handles outermost first, and their number.
+pub fn list(memory: &[u8], bodies: &[u8], table: &[u32]) -> (u32, [u32; 8], u32) {
+    let mut marks = Marks::new();
+    if let Err(number) = check(memory.len(), bodies.len(), table, &mut marks) {
+        return (number, [0; 8], 0);
+    }
+    let mut handles = [0; 8];
+    handles.copy_from_slice(&table[8..16]);
+    (0, handles, table[4])
+}
+
+/// Where a looked-for cell stands: the answer, the place (1 memory, 2 bodies, 0 refused) and the offset of its 64 bytes.
+pub fn look(
+    memory: &[u8],
+    bodies: &[u8],
+    table: &[u32],
+    handle: u32,
+    cell: u32,
+) -> (u32, u32, u64) {
+    let mut marks = Marks::new();
+    let asked = (|| {
+        let shape = check(memory.len(), bodies.len(), table, &mut marks)?;
+        let depth = depth_of_handle(table, handle)?;
+        range(cell, 1, shape.cells)?;
+        Ok((shape, depth))
+    })();
+    match asked {
+        Err(number) => (number, 0, 0),
+        Ok((shape, depth)) => match first_holder(
+            table,
+            shape.entries,
+            depth,
+            table[4] as usize,
+            cell as usize,
+        ) {
+            Some(place) => (
+                0,
+                2,
+                (CELL * body_behind(table, shape.entries, place)) as u64,
+            ),
+            None => (0, 1, (CELL * cell as usize) as u64),
+        },
+    }
+}

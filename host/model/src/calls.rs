@@ -1,0 +1,796 @@
+//! The ten calls: questions in their order, what a call leaves, its steps, and what each cut
+//! leaves.
+
+use crate::fault::Fault;
+use crate::state::{Bytes, CELL, Domain, Holding, Kept, State, cell_of};
+use std::collections::{BTreeMap, BTreeSet};
+use std::fmt;
+
+/// A call with its arguments. The numbers are as lent, right or wrong.
+#[derive(Clone, PartialEq, Eq, Debug)]
+pub enum Call {
+    Make,
+    Open,
+    Create,
+    Add {
+        handle: u32,
+        first: u32,
+        count: u32,
+        kind: u32,
+        label: u32,
+    },
+    Delete {
+        handle: u32,
+        first: u32,
+        count: u32,
+    },
+    Commit {
+        handle: u32,
+    },
+    Advance {
+        handle: u32,
+    },
+    Restore {
+        handle: u32,
+    },
+    List,
+    Look {
+        handle: u32,
+        cell: u32,
+    },
+}
+
+impl Call {
+    pub const NAMES: [&'static str; 10] = [
+        "make", "open", "create", "add", "delete", "commit", "advance", "restore", "list", "look",
+    ];
+
+    /// The call's place in [`Call::NAMES`].
+    pub fn number(&self) -> usize {
+        match self {
+            Call::Make => 0,
+            Call::Open => 1,
+            Call::Create => 2,
+            Call::Add { .. } => 3,
+            Call::Delete { .. } => 4,
+            Call::Commit { .. } => 5,
+            Call::Advance { .. } => 6,
+            Call::Restore { .. } => 7,
+            Call::List => 8,
+            Call::Look { .. } => 9,
+        }
+    }
+
+    pub fn name(&self) -> &'static str {
+        Call::NAMES[self.number()]
+    }
+
+    /// List and look change nothing and take no budget.
+    pub fn only_reads(&self) -> bool {
+        matches!(self, Call::List | Call::Look { .. })
+    }
+}
+
+impl fmt::Display for Call {
+    fn fmt(&self, f: &mut fmt::Formatter<'_>) -> fmt::Result {
+        match self {
+            Call::Make | Call::Open | Call::Create | Call::List => write!(f, "{}", self.name()),
+            Call::Add {
+                handle,
+                first,
+                count,
+                kind,
+                label,
+            } => {
+                let kind = match kind {
+                    0 => "copy".to_string(),
+                    1 => "via parent".to_string(),
+                    n => format!("kind {n}"),
+                };
+                let label = match label {
+                    0 => "read-only".to_string(),
+                    1 => "read-write".to_string(),
+                    n => format!("label {n}"),
+                };
+                write!(
+                    f,
+                    "add to {handle}: first {first}, count {count}, {kind}, {label}"
+                )
+            }
+            Call::Delete {
+                handle,
+                first,
+                count,
+            } => write!(f, "delete from {handle}: first {first}, count {count}"),
+            Call::Commit { handle } | Call::Advance { handle } | Call::Restore { handle } => {
+                write!(f, "{} {handle}", self.name())
+            }
+            Call::Look { handle, cell } => write!(f, "look {handle}, cell {cell}"),
+        }
+    }
+}
+
+/// The lengths of the three buffers: bytes, bytes, words.
+#[derive(Clone, Copy, PartialEq, Eq, Debug)]
+pub struct Lengths {
+    pub memory: usize,
+    pub bodies: usize,
+    pub table: usize,
+}
+
+/// Cells, entry places and bodies.
+#[derive(Clone, Copy, PartialEq, Eq, Debug)]
+pub struct Sizes {
+    pub m: u32,
+    pub e: u32,
+    pub b: u32,
+}
+
+impl Sizes {
+    pub fn lengths(&self) -> Lengths {
+        Lengths {
+            memory: self.m as usize * CELL,
+            bodies: self.b as usize * CELL,
+            table: 36 + 6 * self.e as usize,
+        }
+    }
+}
+
+impl Lengths {
+    /// Question 1: the sizes that go with these lengths, if they are allowed.
+    pub fn sizes(&self) -> Option<Sizes> {
+        let cells = |bytes: usize, most: usize| {
+            (bytes.is_multiple_of(CELL) && bytes >= CELL && bytes / CELL <= most)
+                .then_some((bytes / CELL) as u32)
+        };
+        let m = cells(self.memory, 65_536)?;
+        let b = cells(self.bodies, 4_096)?;
+        // A table below 36 words must not be read as a very long one.
+        let rest = self.table.checked_sub(36)?;
+        let e = (rest.is_multiple_of(6) && rest >= 6 && rest / 6 <= 4_096)
+            .then_some((rest / 6) as u32)?;
+        Some(Sizes { m, e, b })
+    }
+}
+
+/// What three lent buffers stand for.
+#[derive(Clone, PartialEq, Eq, Debug)]
+pub enum Reading {
+    /// Question 1 is answered by no.
+    WrongLengths,
+    /// Question 2 is answered by no.
+    NoStore,
+    /// Question 4 is answered by no; `pending` tells question 3 (word 6 is not zero).
+    Damaged { pending: bool },
+    /// A store. With `pending` above 0 that many pairs wait for an opening, and `state` is what the
+    /// pairs mean.
+    Store { state: State, pending: u32 },
+}
+
+/// What look shows.
+#[derive(Clone, PartialEq, Eq, Debug)]
+pub struct Looked {
+    /// The domain whose body is shown; nobody for memory.
+    pub keeper: Option<usize>,
+    pub bytes: Bytes,
+}
+
+/// What a changing call has to do.
+#[derive(Clone, PartialEq, Eq, Debug)]
+pub struct Work {
+    /// Copies taken, rising by cell.
+    pub taken: Vec<(u32, Bytes)>,
+    /// Cells put back into memory, rising.
+    pub put_back: Vec<(u32, Bytes)>,
+    /// p: table words to replace.
+    pub words: u64,
+    /// All steps.
+    pub need: u64,
+    /// What the store means when the call is done.
+    pub after: State,
+    /// The new handle of a create, else 0.
+    pub handle: u32,
+    shape: Shape,
+}
+
+#[derive(Clone, Copy, PartialEq, Eq, Debug)]
+enum Shape {
+    Make,
+    Open,
+    Bytes,
+    /// An error: table first, bytes after.
+    TableFirst,
+    /// An error: bodies in use are written over.
+    OverBodies,
+    /// An error: word 6 before the pairs.
+    EarlyWord6,
+    /// An error: pairs are forgotten while they are put in place.
+    ForgettingOpen,
+}
+
+/// The answer to a call, before any step.
+#[derive(Clone, PartialEq, Eq, Debug)]
+pub enum Verdict {
+    Refused(u32),
+    Listed(Vec<u32>),
+    Looked(Looked),
+    Work(Work),
+}
+
+/// The model of document 01, perhaps with one error switched on.
+#[derive(Clone, Copy, Debug, Default)]
+pub struct Model {
+    pub fault: Option<Fault>,
+}
+
+impl Model {
+    fn has(&self, fault: Fault) -> bool {
+        self.fault == Some(fault)
+    }
+
+    /// Puts the questions in their order, and says what the call does if none is answered by no.
+    pub fn verdict(
+        &self,
+        lengths: Lengths,
+        reading: &Reading,
+        memory: &[u8],
+        call: &Call,
+    ) -> Verdict {
+        match self.ask(lengths, reading, memory, call) {
+            Ok(verdict) => verdict,
+            Err(number) => Verdict::Refused(number),
+        }
+    }
+
+    fn ask(
+        &self,
+        lengths: Lengths,
+        reading: &Reading,
+        memory: &[u8],
+        call: &Call,
+    ) -> Result<Verdict, u32> {
+        // 1: lengths. Make is asked nothing else.
+        let sizes = lengths.sizes().ok_or(1u32)?;
+        if *call == Call::Make {
+            let need = 2 * sizes.e as u64 + 17;
+            return Ok(Verdict::Work(Work {
+                need,
+                shape: Shape::Make,
+                ..self.work(State::fresh())
+            }));
+        }
+        // 2: words 0 to 3 and 7. 3: nothing pending, asked of all but open. 4: the table.
+        let (state, pending) = match reading {
+            Reading::WrongLengths => return Err(1),
+            Reading::NoStore => return Err(2),
+            Reading::Damaged { pending: true } if *call != Call::Open => return Err(3),
+            Reading::Damaged { .. } => return Err(4),
+            Reading::Store { state, pending } => (state, *pending),
+        };
+        if *call == Call::Open {
+            let need = if pending == 0 { 0 } else { pending as u64 + 1 };
+            let shape = if self.has(Fault::OpeningForgets) {
+                Shape::ForgettingOpen
+            } else {
+                Shape::Open
+            };
+            return Ok(Verdict::Work(Work {
+                words: pending as u64,
+                need,
+                shape,
+                ..self.work(state.clone())
+            }));
+        }
+        if pending != 0 {
+            return Err(3);
+        }
+        match *call {
+            Call::Make | Call::Open => unreachable!(),
+            Call::Create => self.create(state),
+            Call::Add {
+                handle,
+                first,
+                count,
+                kind,
+                label,
+            } => self.add(sizes, state, memory, handle, first, count, kind, label),
+            Call::Delete {
+                handle,
+                first,
+                count,
+            } => self.delete(sizes, state, handle, first, count),
+            Call::Commit { handle } => self.commit(state, handle),
+            Call::Advance { handle } => self.advance(sizes, state, memory, handle),
+            Call::Restore { handle } => self.restore(state, handle),
+            Call::List => Ok(Verdict::Listed(
+                state.domains.iter().map(|d| d.handle).collect(),
+            )),
+            Call::Look { handle, cell } => self.look(sizes, state, memory, handle, cell),
+        }
+    }
+
+    /// Work that does nothing yet and leaves `after`.
+    fn work(&self, after: State) -> Work {
+        let shape = if self.has(Fault::PendingTooEarly) {
+            Shape::EarlyWord6
+        } else {
+            Shape::Bytes
+        };
+        Work {
+            taken: Vec::new(),
+            put_back: Vec::new(),
+            words: 0,
+            need: 0,
+            after,
+            handle: 0,
+            shape,
+        }
+    }
+
+    /// Counts the steps: 64 for each copy taken or cell put back, then 3p + 2, or none if p is 0.
+    fn count(&self, mut work: Work) -> Result<Verdict, u32> {
+        let bytes = CELL as u64 * (work.taken.len() + work.put_back.len()) as u64;
+        work.need = bytes
+            + if work.words == 0 {
+                0
+            } else {
+                3 * work.words + 2
+            };
+        if self.has(Fault::StepTooMany) {
+            work.need += 1;
+        }
+        Ok(Verdict::Work(work))
+    }
+
+    /// Question 8, without wrapping.
+    fn range(&self, sizes: Sizes, first: u32, count: u32) -> Result<std::ops::Range<u32>, u32> {
+        let end = if self.has(Fault::RangeWraps) {
+            first.wrapping_add(count) as u64
+        } else {
+            first as u64 + count as u64
+        };
+        if count < 1 || end > sizes.m as u64 {
+            return Err(8);
+        }
+        Ok(first..end as u32)
+    }
+
+    fn create(&self, state: &State) -> Result<Verdict, u32> {
+        let most = if self.has(Fault::NinthDomain) { 9 } else { 8 };
+        if state.domains.len() >= most {
+            return Err(9);
+        }
+        if state.next == u32::MAX {
+            return Err(10);
+        }
+        let handle = state.next;
+        let mut after = state.clone();
+        after.next += 1;
+        after.domains.push(Domain {
+            handle,
+            cells: BTreeMap::new(),
+        });
+        self.count(Work {
+            words: 3,
+            handle,
+            ..self.work(after)
+        })
+    }
+
+    #[allow(clippy::too_many_arguments)]
+    fn add(
+        &self,
+        sizes: Sizes,
+        state: &State,
+        memory: &[u8],
+        handle: u32,
+        first: u32,
+        count: u32,
+        kind: u32,
+        label: u32,
+    ) -> Result<Verdict, u32> {
+        let named = state.find(handle).ok_or(5u32)?;
+        if named + 1 != state.domains.len() {
+            return Err(6);
+        }
+        if kind > 1 || label > 1 {
+            return Err(7);
+        }
+        let range = self.range(sizes, first, count)?;
+        let domain = &state.domains[named];
+        let new: Vec<u32> = range.clone().filter(|c| !domain.holds(*c)).collect();
+        if kind == 1 && !new.is_empty() {
+            let outer = named.checked_sub(1).ok_or(11u32)?;
+            let holds = |c: u32| state.domains[outer].holds(c);
+            let equal = |c: u32| state.value(outer, c) == Some(cell_of(memory, c));
+            if self.has(Fault::Question12CellByCell) {
+                for c in &new {
+                    if !holds(*c) {
+                        return Err(11);
+                    }
+                    if !equal(*c) {
+                        return Err(12);
+                    }
+                }
+            }
+            if new.iter().any(|c| !holds(*c)) {
+                return Err(11);
+            }
+            if !self.has(Fault::NoQuestion12) && new.iter().any(|c| !equal(*c)) {
+                return Err(12);
+            }
+        }
+        let no_16 = state.entries() + new.len() as u64 > sizes.e as u64;
+        let no_17 = kind == 0 && state.copies() + new.len() as u64 > sizes.b as u64;
+        if self.has(Fault::BodiesBeforeEntries) && no_17 {
+            return Err(17);
+        }
+        if no_16 {
+            return Err(16);
+        }
+        if no_17 {
+            return Err(17);
+        }
+
+        let mut work = self.work(state.clone());
+        let cells = &mut work.after.domains[named].cells;
+        for c in range {
+            match cells.get_mut(&c) {
+                None => {
+                    let kept = if kind == 0 {
+                        work.taken.push((c, cell_of(memory, c)));
+                        Kept::Copy(cell_of(memory, c))
+                    } else {
+                        Kept::ViaParent
+                    };
+                    cells.insert(
+                        c,
+                        Holding {
+                            read_write: label == 1,
+                            kept,
+                        },
+                    );
+                    work.words += 2;
+                }
+                Some(held) => {
+                    if label == 1 && !held.read_write {
+                        held.read_write = true;
+                        if !self.has(Fault::RaiseWithoutSteps) {
+                            work.words += 2;
+                        }
+                    }
+                    if self.has(Fault::LabelGoesBack) && label == 0 && held.read_write {
+                        held.read_write = false;
+                        work.words += 2;
+                    }
+                    if self.has(Fault::AddTakesNewValue)
+                        && kind == 0
+                        && matches!(held.kept, Kept::Copy(_))
+                    {
+                        held.kept = Kept::Copy(cell_of(memory, c));
+                        work.taken.push((c, cell_of(memory, c)));
+                    }
+                }
+            }
+        }
+        self.count(work)
+    }
+
+    fn delete(
+        &self,
+        sizes: Sizes,
+        state: &State,
+        handle: u32,
+        first: u32,
+        count: u32,
+    ) -> Result<Verdict, u32> {
+        let named = state.find(handle).ok_or(5u32)?;
+        let range = self.range(sizes, first, count)?;
+        if range.clone().any(|c| !state.domains[named].holds(c)) {
+            return Err(13);
+        }
+        if let Some(inner) = state.domains.get(named + 1) {
+            let rests = |c: u32| {
+                inner
+                    .cells
+                    .get(&c)
+                    .is_some_and(|h| h.kept == Kept::ViaParent)
+            };
+            if !self.has(Fault::NoQuestion14) && range.clone().any(rests) {
+                return Err(14);
+            }
+        }
+        let mut work = self.work(state.clone());
+        for c in range {
+            for (at, domain) in work.after.domains.iter_mut().enumerate() {
+                if (at == named || self.has(Fault::DeleteFromAll))
+                    && domain.cells.remove(&c).is_some()
+                {
+                    work.words += 2;
+                }
+            }
+        }
+        self.count(work)
+    }
+
+    fn commit(&self, state: &State, handle: u32) -> Result<Verdict, u32> {
+        let named = state.find(handle).ok_or(5u32)?;
+        if named + 1 != state.domains.len() {
+            return Err(6);
+        }
+        let mut work = self.work(state.clone());
+        work.words = 2;
+        let inner = work.after.domains.pop().expect("live");
+        match work.after.domains.last_mut() {
+            // With no outer domain everything is freed.
+            None => work.words += 2 * inner.cells.len() as u64,
+            Some(outer) => {
+                for (c, held) in inner.cells {
+                    // Moved or freed: the inner entry changes either way.
+                    work.words += 2;
+                    match outer.cells.get_mut(&c) {
+                        None => {
+                            outer.cells.insert(c, held);
+                        }
+                        Some(kept) => {
+                            let mut changed = false;
+                            if held.read_write
+                                && !kept.read_write
+                                && !self.has(Fault::CommitForgetsRaise)
+                            {
+                                kept.read_write = true;
+                                changed = true;
+                            }
+                            if self.has(Fault::NewestWinsInCommit) && held.kept != Kept::ViaParent {
+                                kept.kept = held.kept;
+                                changed = true;
+                            }
+                            if changed {
+                                work.words += 2;
+                            }
+                        }
+                    }
+                }
+            }
+        }
+        if self.has(Fault::HandleReuse) {
+            work.after.next = inner.handle;
+            work.words += 1;
+        }
+        self.count(work)
+    }
+
+    fn advance(
+        &self,
+        sizes: Sizes,
+        state: &State,
+        memory: &[u8],
+        handle: u32,
+    ) -> Result<Verdict, u32> {
+        let named = state.find(handle).ok_or(5u32)?;
+        if named + 1 != state.domains.len() {
+            return Err(6);
+        }
+        let takes = |h: &Holding| {
+            (h.read_write || self.has(Fault::AdvanceTakesReadOnly))
+                && !(self.has(Fault::AdvanceKeepsViaParent) && h.kept == Kept::ViaParent)
+        };
+        let renewed: Vec<u32> = state.domains[named]
+            .cells
+            .iter()
+            .filter(|(_, h)| takes(h))
+            .map(|(c, _)| *c)
+            .collect();
+        if let Some(outer) = named.checked_sub(1)
+            && !self.has(Fault::NoQuestion15)
+            && renewed.iter().any(|c| !state.domains[outer].holds(*c))
+        {
+            return Err(15);
+        }
+        let bodies = if self.has(Fault::AdvanceCountsFewerBodies) {
+            renewed
+                .iter()
+                .filter(|c| state.domains[named].cells[c].kept == Kept::ViaParent)
+                .count()
+        } else {
+            renewed.len()
+        };
+        if state.copies() + bodies as u64 > sizes.b as u64 {
+            return Err(17);
+        }
+        let mut work = self.work(state.clone());
+        for c in renewed {
+            let bytes = cell_of(memory, c);
+            let held = work.after.domains[named].cells.get_mut(&c).expect("held");
+            held.kept = Kept::Copy(bytes);
+            if self.has(Fault::AdvanceDemotes) {
+                held.read_write = false;
+            }
+            work.taken.push((c, bytes));
+            work.words += 2;
+        }
+        if self.has(Fault::AdvanceInPlace) {
+            work.shape = Shape::OverBodies;
+        }
+        self.count(work)
+    }
+
+    fn restore(&self, state: &State, handle: u32) -> Result<Verdict, u32> {
+        let named = state.find(handle).ok_or(5u32)?;
+        let mut work = self.work(state.clone());
+        let mut cells: BTreeSet<u32> = BTreeSet::new();
+        for domain in &state.domains[named..] {
+            cells.extend(domain.cells.keys());
+            if self.has(Fault::RestoreNamedCellsOnly) {
+                break;
+            }
+        }
+        for c in cells {
+            let mut holders = (named..state.domains.len()).filter(|at| state.domains[*at].holds(c));
+            let holder = if self.has(Fault::NewestWinsInRestore) {
+                holders.next_back()
+            } else {
+                holders.next()
+            }
+            .expect("held");
+            let keeper = state.keeper(holder, c);
+            if self.has(Fault::RestoreStopsAtNamed) && keeper.is_some_and(|k| k < named) {
+                continue;
+            }
+            if let Some(bytes) = state.value(holder, c) {
+                work.put_back.push((c, bytes));
+            }
+        }
+        let mut ended = work.after.domains.split_off(named + 1);
+        if self.has(Fault::RestoreEndsNamed) {
+            ended.insert(0, work.after.domains.pop().expect("live"));
+        }
+        if !ended.is_empty() {
+            work.words = 1
+                + ended.len() as u64
+                + ended.iter().map(|d| 2 * d.cells.len() as u64).sum::<u64>();
+        }
+        if self.has(Fault::RestoreEndsFirst) {
+            work.shape = Shape::TableFirst;
+        }
+        self.count(work)
+    }
+
+    fn look(
+        &self,
+        sizes: Sizes,
+        state: &State,
+        memory: &[u8],
+        handle: u32,
+        cell: u32,
+    ) -> Result<Verdict, u32> {
+        let named = state.find(handle).ok_or(5u32)?;
+        self.range(sizes, cell, 1)?;
+        let mut holders = (named..state.domains.len()).filter(|at| state.domains[*at].holds(cell));
+        let holder = if self.has(Fault::LookFromInside) {
+            holders.next_back()
+        } else {
+            holders.next()
+        };
+        let keeper = holder.and_then(|h| state.keeper(h, cell));
+        let bytes = match keeper {
+            Some(k) => state.value(k, cell).expect("a copy"),
+            None => cell_of(memory, cell),
+        };
+        Ok(Verdict::Looked(Looked { keeper, bytes }))
+    }
+}
+
+impl Work {
+    /// Whether the table part comes before the bytes (an error).
+    pub(crate) fn table_first(&self) -> bool {
+        self.shape == Shape::TableFirst
+    }
+
+    /// Whether copies go over the bodies in use (an error).
+    pub(crate) fn over_bodies(&self) -> bool {
+        self.shape == Shape::OverBodies
+    }
+
+    /// Whether word 6 comes before the pairs (an error).
+    pub(crate) fn early_word_6(&self) -> bool {
+        self.shape == Shape::EarlyWord6
+    }
+
+    /// Byte steps: 64 for each copy taken or cell put back.
+    pub fn byte_steps(&self) -> u64 {
+        (CELL * (self.taken.len() + self.put_back.len())) as u64
+    }
+
+    /// Steps of a call with this budget, and whether it is done.
+    pub fn steps(&self, budget: u64) -> (u64, bool) {
+        (self.need.min(budget), self.need <= budget)
+    }
+
+    /// What the buffers stand for after `k` steps, from `before`.
+    pub fn reading_after(&self, before: &Reading, k: u64) -> Reading {
+        if k >= self.need {
+            return Reading::Store {
+                state: self.after.clone(),
+                pending: 0,
+            };
+        }
+        let made = |pending: u64| Reading::Store {
+            state: self.after.clone(),
+            pending: pending as u32,
+        };
+        match self.shape {
+            Shape::Make => {
+                if k == 0 {
+                    before.clone()
+                } else {
+                    Reading::NoStore
+                }
+            }
+            // Every pair waits until word 6 is cleared, which is the last step.
+            Shape::Open => made(self.words),
+            Shape::ForgettingOpen => made(self.words - k.min(self.words)),
+            Shape::Bytes | Shape::OverBodies | Shape::EarlyWord6 => {
+                let table_steps = k.saturating_sub(self.byte_steps());
+                let turn = if self.shape == Shape::EarlyWord6 {
+                    1
+                } else {
+                    2 * self.words + 1
+                };
+                if table_steps >= turn {
+                    return made(self.words);
+                }
+                let mut reading = before.clone();
+                if let (Shape::OverBodies, Reading::Store { state, .. }) =
+                    (self.shape, &mut reading)
+                {
+                    self.mix(state, k);
+                }
+                reading
+            }
+            Shape::TableFirst => {
+                if self.words == 0 || k >= 3 * self.words + 2 {
+                    made(0)
+                } else if k > 2 * self.words {
+                    made(self.words)
+                } else {
+                    before.clone()
+                }
+            }
+        }
+    }
+
+    /// The error of an advance in place: the first `k` bytes are in the old bodies already.
+    fn mix(&self, state: &mut State, k: u64) {
+        let Some(domain) = state.domains.last_mut() else {
+            return;
+        };
+        for (at, (cell, bytes)) in self.taken.iter().enumerate() {
+            if let Some(Holding {
+                kept: Kept::Copy(old),
+                ..
+            }) = domain.cells.get_mut(cell)
+            {
+                let stored = k.saturating_sub((CELL * at) as u64).min(CELL as u64) as usize;
+                old[..stored].copy_from_slice(&bytes[..stored]);
+            }
+        }
+    }
+
+    /// Memory after `k` steps: a restore puts back its cells byte by byte, no other call touches
+    /// memory.
+    pub fn memory_after(&self, memory: &mut [u8], k: u64) {
+        let before_bytes = if self.table_first() && self.words > 0 {
+            3 * self.words + 2
+        } else {
+            0
+        };
+        let mut left = k.saturating_sub(before_bytes) as usize;
+        for (cell, bytes) in &self.put_back {
+            let now = left.min(CELL);
+            let at = *cell as usize * CELL;
+            memory[at..at + now].copy_from_slice(&bytes[..now]);
+            left -= now;
+        }
+    }
+}

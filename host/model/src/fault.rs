@@ -1,0 +1,163 @@
+//! Plausible errors, switched on one at a time.
+//!
+//! A comparison that finds no difference says something only if it would have found one. Each of
+//! these is an error that somebody could make on reading document 01 quickly; with one of them
+//! switched on, the model and a right store have to differ within a few sessions.
+
+/// One plausible error.
+#[derive(Clone, Copy, PartialEq, Eq, Debug)]
+pub enum Fault {
+    /// Document 01: newest wins in a restore.
+    NewestWinsInRestore,
+    /// Document 01: newest wins in a commit.
+    NewestWinsInCommit,
+    /// Document 01: advance writes bodies over the old ones in use, so a cut mixes two points. In
+    /// the model only a cut shows it; a store with this error takes no free bodies at all.
+    AdvanceInPlace,
+    /// Document 01: restore ends the inner domains before memory is whole.
+    RestoreEndsFirst,
+    /// Document 01: commit forgets to raise read-only to read-write.
+    CommitForgetsRaise,
+    /// Via parent is allowed where memory differs from the outer value.
+    NoQuestion12,
+    /// A cell may be deleted under a via parent holder.
+    NoQuestion14,
+    /// Advance does not ask whether the next domain out holds its read-write cells.
+    NoQuestion15,
+    /// Advance counts only the via parent cells as new bodies.
+    AdvanceCountsFewerBodies,
+    /// Questions 11 and 12 are put cell by cell instead of one after the other.
+    Question12CellByCell,
+    /// 17 is asked before 16.
+    BodiesBeforeEntries,
+    /// first + count wraps at 32 bits.
+    RangeWraps,
+    /// A ninth domain is allowed.
+    NinthDomain,
+    /// Add by copy gives a cell that is held already a new value.
+    AddTakesNewValue,
+    /// Add with read-only takes read-write back.
+    LabelGoesBack,
+    /// Add raises a label without a step.
+    RaiseWithoutSteps,
+    /// Restore does not follow via parent past the named domain.
+    RestoreStopsAtNamed,
+    /// Restore ends the named domain too.
+    RestoreEndsNamed,
+    /// Restore puts back the named domain's cells only.
+    RestoreNamedCellsOnly,
+    /// Look takes the innermost holder.
+    LookFromInside,
+    /// A step count one too high.
+    StepTooMany,
+    /// The handle of a domain that ended by commit is given out again.
+    HandleReuse,
+    /// Delete frees the cells in every domain.
+    DeleteFromAll,
+    /// Advance leaves a read-write via parent cell as it is.
+    AdvanceKeepsViaParent,
+    /// Advance renews read-only cells too.
+    AdvanceTakesReadOnly,
+    /// Advance turns read-write into read-only (the text of 2012).
+    AdvanceDemotes,
+    /// Word 6 is stored before the pairs.
+    PendingTooEarly,
+    /// A stopped opening keeps only the pairs not yet put in place.
+    OpeningForgets,
+    /// The table's rules miss a via parent entry whose cell the next domain out does not hold.
+    TableMissesOrphan,
+    /// The table's rules miss two copies that share a body.
+    TableMissesSharedBody,
+    /// The table's rules look at the raw words while pairs are pending.
+    TableReadsRaw,
+    /// Notebook: a program write spoils nothing.
+    NotebookWithoutSpoiltWrites,
+    /// Notebook: a delete spoils nothing.
+    NotebookWithoutSpoiltDeletes,
+    /// Notebook: a delete spoils for the named domain only, not for those around it.
+    NotebookDeleteSpoilsNamedOnly,
+    /// Notebook: a stopped restore marks nobody.
+    NotebookWithoutMarks,
+    /// Notebook: advance keeps the old picture.
+    NotebookAdvanceKeepsPicture,
+    /// Notebook: a stopped call is never carried out by the opening.
+    NotebookDropsStopped,
+}
+
+impl Fault {
+    pub const ALL: [Fault; 37] = [
+        Fault::NewestWinsInRestore,
+        Fault::NewestWinsInCommit,
+        Fault::AdvanceInPlace,
+        Fault::RestoreEndsFirst,
+        Fault::CommitForgetsRaise,
+        Fault::NoQuestion12,
+        Fault::NoQuestion14,
+        Fault::NoQuestion15,
+        Fault::AdvanceCountsFewerBodies,
+        Fault::Question12CellByCell,
+        Fault::BodiesBeforeEntries,
+        Fault::RangeWraps,
+        Fault::NinthDomain,
+        Fault::AddTakesNewValue,
+        Fault::LabelGoesBack,
+        Fault::RaiseWithoutSteps,
+        Fault::RestoreStopsAtNamed,
+        Fault::RestoreEndsNamed,
+        Fault::RestoreNamedCellsOnly,
+        Fault::LookFromInside,
+        Fault::StepTooMany,
+        Fault::HandleReuse,
+        Fault::DeleteFromAll,
+        Fault::AdvanceKeepsViaParent,
+        Fault::AdvanceTakesReadOnly,
+        Fault::AdvanceDemotes,
+        Fault::PendingTooEarly,
+        Fault::OpeningForgets,
+        Fault::TableMissesOrphan,
+        Fault::TableMissesSharedBody,
+        Fault::TableReadsRaw,
+        Fault::NotebookWithoutSpoiltWrites,
+        Fault::NotebookWithoutSpoiltDeletes,
+        Fault::NotebookDeleteSpoilsNamedOnly,
+        Fault::NotebookWithoutMarks,
+        Fault::NotebookAdvanceKeepsPicture,
+        Fault::NotebookDropsStopped,
+    ];
+
+    /// The four errors that document 01 names (the first of them has two sides).
+    pub const NAMED: [Fault; 5] = [
+        Fault::NewestWinsInRestore,
+        Fault::NewestWinsInCommit,
+        Fault::AdvanceInPlace,
+        Fault::RestoreEndsFirst,
+        Fault::CommitForgetsRaise,
+    ];
+
+    /// Whether the error lies in the notebook alone, which a store does not have.
+    pub fn in_notebook(self) -> bool {
+        matches!(
+            self,
+            Fault::NotebookWithoutSpoiltWrites
+                | Fault::NotebookWithoutSpoiltDeletes
+                | Fault::NotebookDeleteSpoilsNamedOnly
+                | Fault::NotebookWithoutMarks
+                | Fault::NotebookAdvanceKeepsPicture
+                | Fault::NotebookDropsStopped
+        )
+    }
+
+    /// Whether the error can be made by a store that plays the model's plan: the notebook is no
+    /// part of a store, and two of the errors are in what is counted or kept between openings, for
+    /// which there is no plan of stores.
+    pub fn in_store(self) -> bool {
+        !self.in_notebook() && !matches!(self, Fault::OpeningForgets | Fault::RaiseWithoutSteps)
+    }
+
+    /// The error that goes by this name.
+    pub fn named(name: &str) -> Option<Fault> {
+        Fault::ALL
+            .into_iter()
+            .find(|f| format!("{f:?}").eq_ignore_ascii_case(name))
+    }
+}

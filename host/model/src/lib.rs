@@ -1,0 +1,32 @@
+//! An independent model of the domain store.
+//!
+//! It is written from document 01 and from nothing else, so that a mistake in the proved code, in
+//! its statements, or on the way to the compiled library does not repeat itself here. The parts:
+//!
+//! - [`state`]: what a store means: next handle, live domains, and what each holds of each cell.
+//! - [`calls`]: the ten calls: the questions in their order, what a call leaves, how many steps it
+//!   takes, and what a cut at each step leaves.
+//! - [`table`]: the three lent buffers: reading them back into a state, with every rule of question
+//!   4, and writing a state into a table.
+//! - [`plan`]: the exact list of stores of a call, so that the buffers after k steps are an
+//!   equation.
+//! - [`notebook`]: the notebook of document 01, which settles what a restore has to bring back. It
+//!   never sees table or bodies.
+//! - [`fault`]: plausible errors that can be switched on one at a time, to show that a comparison
+//!   with this model finds them.
+//! - [`edges`]: document 01's "edges to run" as scripts.
+
+pub mod calls;
+pub mod edges;
+pub mod fault;
+pub mod notebook;
+pub mod plan;
+pub mod state;
+pub mod table;
+
+pub use calls::{Call, Lengths, Looked, Model, Reading, Sizes, Verdict, Work};
+pub use fault::Fault;
+pub use notebook::{Ended, Notebook};
+pub use plan::{Place, Store};
+pub use state::{Bytes, CELL, Domain, Holding, Kept, State};
+pub use table::{Broken, Decoded};

@@ -1,0 +1,763 @@
+//! One call on both sides, with every comparison: answer, step count, handle, buffers after exactly
+//! that many stores, meaning, guards, notebook.
+
+use crate::buffers::Buffers;
+use crate::rng::Rng;
+use crate::store::{Reply, STOPPED, Store};
+use domain_model::{
+    Call, Decoded, Ended, Kept, Model, Notebook, Reading, State, Verdict, Work, plan, table,
+};
+use std::collections::BTreeSet;
+
+/// Where store and model differ.
+#[derive(Clone, Debug)]
+pub struct Mismatch {
+    pub call: String,
+    pub what: String,
+}
+
+/// A store in use: its buffers, what the model says they stand for, and the notebook, if a list of
+/// calls from a done make is kept.
+#[derive(Clone)]
+pub struct Line {
+    pub buffers: Buffers,
+    pub reading: Reading,
+    pub notebook: Option<Notebook>,
+}
+
+impl Line {
+    /// Buffers with any contents, read by the model.
+    pub fn new(buffers: Buffers, model: Model) -> Line {
+        let reading = table::reading(&buffers.decode(model.fault));
+        Line {
+            buffers,
+            reading,
+            notebook: None,
+        }
+    }
+
+    /// The state, where there is a store with nothing pending.
+    pub fn state(&self) -> Option<&State> {
+        match &self.reading {
+            Reading::Store { state, pending: 0 } => Some(state),
+            _ => None,
+        }
+    }
+}
+
+/// What was tried.
+#[derive(Clone, Debug, Default)]
+pub struct Tally {
+    pub sessions: u64,
+    pub writes: u64,
+    /// Calls by name, then by answer: refusals 1 to 17, 0 done, 18 stopped.
+    pub answers: [[u64; 19]; 10],
+    /// Stopped calls other than opening.
+    pub cuts: u64,
+    /// Calls of which every cut was tried.
+    pub whole: u64,
+    pub stopped_openings: u64,
+    pub damaged: u64,
+    pub damaged_good: u64,
+    pub lengths: u64,
+    /// Zero counts taken, and the bytes they looked at.
+    pub counts: u64,
+    pub looked_at: u64,
+    /// Most domains live.
+    pub deepest: usize,
+    /// Longest way from a via parent cell to its copy.
+    pub chain: usize,
+    /// Restores that ended domains, and restores that followed via parent past the named domain.
+    pub ending_restores: u64,
+    pub outward_restores: u64,
+    /// Advances that turned via parent into a copy; commits that raised a label; commits that moved
+    /// a cell.
+    pub turning_advances: u64,
+    pub raising_commits: u64,
+    pub moving_commits: u64,
+    /// Most entries in use.
+    pub entries: u64,
+}
+
+impl Tally {
+    pub fn calls(&self) -> u64 {
+        self.answers.iter().flatten().sum()
+    }
+
+    pub fn answered(&self, number: u32) -> u64 {
+        self.answers.iter().map(|a| a[number as usize]).sum()
+    }
+
+    /// Adds another tally.
+    pub fn join(&mut self, other: &Tally) {
+        for (mine, theirs) in self
+            .answers
+            .iter_mut()
+            .flatten()
+            .zip(other.answers.iter().flatten())
+        {
+            *mine += theirs;
+        }
+        self.sessions += other.sessions;
+        self.writes += other.writes;
+        self.cuts += other.cuts;
+        self.whole += other.whole;
+        self.stopped_openings += other.stopped_openings;
+        self.damaged += other.damaged;
+        self.damaged_good += other.damaged_good;
+        self.lengths += other.lengths;
+        self.counts += other.counts;
+        self.looked_at += other.looked_at;
+        self.deepest = self.deepest.max(other.deepest);
+        self.chain = self.chain.max(other.chain);
+        self.ending_restores += other.ending_restores;
+        self.outward_restores += other.outward_restores;
+        self.turning_advances += other.turning_advances;
+        self.raising_commits += other.raising_commits;
+        self.moving_commits += other.moving_commits;
+        self.entries = self.entries.max(other.entries);
+    }
+}
+
+/// Compares a store with a model.
+pub struct Checker<'a> {
+    pub store: &'a dyn Store,
+    pub model: Model,
+    pub tally: Tally,
+    /// Calls with at most so many steps are cut at every step; longer ones at a choice of steps.
+    pub every_step_up_to: u64,
+    /// Compares nothing but the notebook's zero counts: does demand 3 alone find an error of a
+    /// store?
+    pub counts_only: bool,
+}
+
+impl<'a> Checker<'a> {
+    pub fn new(store: &'a dyn Store, model: Model) -> Checker<'a> {
+        Checker {
+            store,
+            model,
+            tally: Tally::default(),
+            every_step_up_to: 700,
+            counts_only: false,
+        }
+    }
+
+    /// Makes the call on the line and compares everything.
+    pub fn call(&mut self, line: &mut Line, call: &Call, budget: u64) -> Result<Reply, Mismatch> {
+        self.compared(line, call, budget).map_err(|what| {
+            let limit = if call.only_reads() || budget == u64::MAX {
+                String::new()
+            } else {
+                format!(" with budget {budget}")
+            };
+            Mismatch {
+                call: format!("{call}{limit}"),
+                what,
+            }
+        })
+    }
+
+    fn compared(&mut self, line: &mut Line, call: &Call, budget: u64) -> Result<Reply, String> {
+        if self.counts_only {
+            let reply = self.store.call(&mut line.buffers, call, budget);
+            self.tally_answer(call, &reply);
+            line.reading = table::reading(&line.buffers.decode(self.model.fault));
+            self.note(line, call, budget, &reply)?;
+            return Ok(reply);
+        }
+        let fault = self.model.fault;
+        let before = line.buffers.clone();
+        let verdict =
+            self.model
+                .verdict(before.lengths(), &line.reading, before.memory.get(), call);
+        let reply = self.store.call(&mut line.buffers, call, budget);
+        self.tally_answer(call, &reply);
+        let expected = expected(&verdict, call, budget, &before, self.model)?;
+        if reply != expected {
+            return Err(format!(
+                "told {}, should tell {}",
+                tell(&reply, call),
+                tell(&expected, call)
+            ));
+        }
+        if let Some(stray) = line.buffers.strayed() {
+            return Err(stray);
+        }
+        match &verdict {
+            Verdict::Refused(_) | Verdict::Listed(_) => unchanged(&line.buffers, &before)?,
+            Verdict::Looked(looked) => {
+                unchanged(&line.buffers, &before)?;
+                let from = reply.offset as usize;
+                let shown = if reply.place == 1 {
+                    line.buffers.memory.get()
+                } else {
+                    line.buffers.bodies.get()
+                };
+                if shown.get(from..from + 64) != Some(&looked.bytes[..]) {
+                    return Err("look shows other bytes than a restore would leave".into());
+                }
+            }
+            Verdict::Work(work) => {
+                let (steps, done) = work.steps(budget);
+                bounded(call, work, &before)?;
+                let stores = if done {
+                    planned(self.model, &before, call, work, &line.buffers)?
+                } else {
+                    // The places that a call takes do not depend on the budget, so a whole run on a
+                    // copy tells them.
+                    let full = self.whole_run(&before, call, work)?;
+                    planned(self.model, &before, call, work, &full)?
+                };
+                let mut should = before;
+                let reading = work.reading_after(&line.reading, steps);
+                let mut memory = should.memory.get().to_vec();
+                for store in &stores[..steps as usize] {
+                    store.apply(
+                        should.memory.get_mut(),
+                        should.bodies.get_mut(),
+                        should.table.get_mut(),
+                    );
+                }
+                if let Some(at) = line.buffers.differs(&should) {
+                    return Err(format!("after {steps} steps {at}"));
+                }
+                work.memory_after(&mut memory, steps);
+                if memory != line.buffers.memory.get() {
+                    return Err(format!(
+                        "after {steps} steps memory is not what the call leaves there"
+                    ));
+                }
+                let decoded = line.buffers.decode(fault);
+                let found = table::reading(&decoded);
+                if found != reading {
+                    return Err(format!(
+                        "after {steps} steps {}",
+                        other_meaning(&found, &reading)
+                    ));
+                }
+                self.tally_work(call, work, line.state(), done);
+                line.reading = reading;
+            }
+        }
+        self.note(line, call, budget, &reply)?;
+        Ok(reply)
+    }
+
+    /// Feeds the notebook, and looks at a zero count.
+    fn note(
+        &mut self,
+        line: &mut Line,
+        call: &Call,
+        budget: u64,
+        reply: &Reply,
+    ) -> Result<(), String> {
+        let ended = match reply.code {
+            0 => Ended::Done,
+            STOPPED => Ended::Stopped,
+            _ => Ended::Refused,
+        };
+        let Some(notebook) = &mut line.notebook else {
+            return Ok(());
+        };
+        // Of the step counts the notebook may see opening's only.
+        let steps = if *call == Call::Open { reply.steps } else { 0 };
+        if let Some(count) = notebook.call(call, budget, ended, steps, line.buffers.memory.get())? {
+            self.tally.counts += 1;
+            self.tally.looked_at += count.looked_at;
+            if count.differ != 0 {
+                let what = "bytes differ from what stood at the point of domain";
+                return Err(format!(
+                    "the zero count is {}: so many {what} {}",
+                    count.differ, count.handle
+                ));
+            }
+        }
+        if ended != Ended::Stopped
+            && !self.counts_only
+            && let Reading::Store { state, pending: 0 } = &line.reading
+        {
+            let live: Vec<u32> = state.domains.iter().map(|d| d.handle).collect();
+            if notebook.handles() != live {
+                return Err(format!(
+                    "live domains are {live:?}, in the notebook {:?}",
+                    notebook.handles()
+                ));
+            }
+        }
+        Ok(())
+    }
+
+    fn whole_run(&mut self, before: &Buffers, call: &Call, work: &Work) -> Result<Buffers, String> {
+        let mut full = before.clone();
+        let reply = self.store.call(&mut full, call, u64::MAX);
+        self.tally_answer(call, &reply);
+        let should = Reply {
+            steps: work.need,
+            handle: work.handle,
+            ..Reply::default()
+        };
+        if reply != should {
+            return Err(format!(
+                "without a budget told {}, should tell {}",
+                tell(&reply, call),
+                tell(&should, call)
+            ));
+        }
+        Ok(full)
+    }
+
+    /// Cuts the call at every step (of a long call: at a choice of them) on copies, each followed
+    /// by opening, also by stopped openings.
+    pub fn every_cut(&mut self, line: &Line, call: &Call, seed: u64) -> Result<(), Mismatch> {
+        let named = |what: String| Mismatch {
+            call: format!("{call}, cut at every step"),
+            what,
+        };
+        let before = &line.buffers;
+        let verdict =
+            self.model
+                .verdict(before.lengths(), &line.reading, before.memory.get(), call);
+        let Verdict::Work(work) = &verdict else {
+            return Ok(());
+        };
+        if self.counts_only {
+            return Ok(());
+        }
+        let full = self.whole_run(before, call, work).map_err(named)?;
+        let stores = planned(self.model, before, call, work, &full).map_err(named)?;
+        let mut rng = Rng::new(seed);
+        let budgets = self.budgets(work, &mut rng);
+        let all_openings = if work.words > 0 {
+            work.byte_steps() + 2 * work.words + 1 + rng.below(work.words + 1)
+        } else {
+            u64::MAX
+        };
+        let small = before.memory.get().len() <= 64 * 64;
+        let mut should = before.clone();
+        let mut copy = before.clone();
+        let mut applied = 0;
+        self.tally.whole += 1;
+        for budget in budgets {
+            let at = |what: String| Mismatch {
+                call: format!("{call} with budget {budget}"),
+                what,
+            };
+            for store in &stores[applied..budget as usize] {
+                store.apply(
+                    should.memory.get_mut(),
+                    should.bodies.get_mut(),
+                    should.table.get_mut(),
+                );
+            }
+            applied = budget as usize;
+            copy.copy_from(before);
+            let reply = self.store.call(&mut copy, call, budget);
+            self.tally_answer(call, &reply);
+            let expected = expected(&verdict, call, budget, before, self.model).map_err(at)?;
+            if reply != expected {
+                return Err(at(format!(
+                    "told {}, should tell {}",
+                    tell(&reply, call),
+                    tell(&expected, call)
+                )));
+            }
+            if let Some(stray) = copy.strayed() {
+                return Err(at(stray));
+            }
+            if let Some(place) = copy.differs(&should) {
+                return Err(at(format!("after {budget} steps {place}")));
+            }
+            let reading = work.reading_after(&line.reading, budget);
+            let found = table::reading(&copy.decode(self.model.fault));
+            if found != reading {
+                return Err(at(format!(
+                    "after {budget} steps {}",
+                    other_meaning(&found, &reading)
+                )));
+            }
+            if reply.code != STOPPED {
+                continue;
+            }
+            let mut cut = Line {
+                buffers: copy.clone(),
+                reading,
+                notebook: None,
+            };
+            if small && rng.chance(400) {
+                cut.notebook = line.notebook.clone();
+                self.note(&mut cut, call, budget, &reply).map_err(at)?;
+            }
+            self.after_cut(cut, budget == all_openings, &mut rng)
+                .map_err(|m| Mismatch {
+                    call: format!("{call} with budget {budget}, then {}", m.call),
+                    what: m.what,
+                })?;
+        }
+        Ok(())
+    }
+
+    /// The budgets to cut at: all of them, or those at the joints of the call and some others.
+    fn budgets(&self, work: &Work, rng: &mut Rng) -> BTreeSet<u64> {
+        if work.need <= self.every_step_up_to {
+            return (0..=work.need).collect();
+        }
+        let bytes = work.byte_steps();
+        let joints = [
+            0,
+            1,
+            63,
+            64,
+            65,
+            bytes,
+            bytes + 1,
+            bytes + 2 * work.words,
+            bytes + 2 * work.words + 1,
+            bytes + 3 * work.words + 1,
+            work.need,
+        ];
+        let mut list: BTreeSet<u64> = joints
+            .into_iter()
+            .flat_map(|j| [j.saturating_sub(1), j])
+            .filter(|k| *k <= work.need)
+            .collect();
+        for _ in 0..12 {
+            list.insert(rng.below(work.need));
+        }
+        list
+    }
+
+    /// What may follow a cut: a call that is not opening, stopped openings, the opening, a restore.
+    fn after_cut(
+        &mut self,
+        mut line: Line,
+        all_openings: bool,
+        rng: &mut Rng,
+    ) -> Result<(), Mismatch> {
+        if rng.chance(150) {
+            let mut other = line.clone();
+            other.notebook = None;
+            let probes = [
+                Call::List,
+                Call::Create,
+                Call::Commit { handle: 0 },
+                Call::Advance { handle: 0 },
+                Call::Restore { handle: 0 },
+                Call::Look { handle: 0, cell: 0 },
+                Call::Add {
+                    handle: 0,
+                    first: 0,
+                    count: 1,
+                    kind: 0,
+                    label: 1,
+                },
+                Call::Delete {
+                    handle: 0,
+                    first: 0,
+                    count: 1,
+                },
+            ];
+            self.call(&mut other, rng.pick(&probes), u64::MAX)?;
+        }
+        if let Reading::Store { pending, .. } = line.reading {
+            let most = pending as u64 + 1;
+            if all_openings {
+                for budget in 0..=most {
+                    let mut other = line.clone();
+                    if self.call(&mut other, &Call::Open, budget)?.code == STOPPED {
+                        self.call(&mut other, &Call::Open, rng.below(most))?;
+                        self.call(&mut other, &Call::Open, u64::MAX)?;
+                    }
+                }
+            }
+            if pending > 0 && rng.chance(400) {
+                for _ in 0..rng.between(1, 3) {
+                    self.call(&mut line, &Call::Open, rng.below(most))?;
+                }
+            }
+        }
+        self.call(&mut line, &Call::Open, u64::MAX)?;
+        if line.notebook.is_some()
+            && let Some(live) = line.state().map(|s| s.domains.len()).filter(|n| *n > 0)
+        {
+            let handle =
+                line.state().expect("a store").domains[rng.below(live as u64) as usize].handle;
+            self.call(&mut line, &Call::Restore { handle }, u64::MAX)?;
+        }
+        Ok(())
+    }
+
+    fn tally_answer(&mut self, call: &Call, reply: &Reply) {
+        let answer = match reply.code {
+            STOPPED => 18,
+            number => number.min(17) as usize,
+        };
+        self.tally.answers[call.number()][answer] += 1;
+        if reply.code == STOPPED {
+            if *call == Call::Open {
+                self.tally.stopped_openings += 1;
+            } else {
+                self.tally.cuts += 1;
+            }
+        }
+    }
+
+    /// Counts what makes a state deep, so that a run can say whether it got there.
+    fn tally_work(&mut self, call: &Call, work: &Work, before: Option<&State>, done: bool) {
+        let Some(before) = before else { return };
+        if !done {
+            return;
+        }
+        let tally = &mut self.tally;
+        let after = &work.after;
+        tally.deepest = tally.deepest.max(after.domains.len());
+        tally.entries = tally.entries.max(after.entries());
+        match *call {
+            Call::Restore { handle } => {
+                let named = before.find(handle).unwrap_or(0);
+                tally.ending_restores += (after.domains.len() < before.domains.len()) as u64;
+                let outward = work.put_back.iter().any(|(c, _)| {
+                    let holder =
+                        (named..before.domains.len()).find(|at| before.domains[*at].holds(*c));
+                    holder
+                        .and_then(|h| before.keeper(h, *c))
+                        .is_some_and(|k| k < named)
+                });
+                tally.outward_restores += outward as u64;
+            }
+            Call::Advance { .. } => {
+                let turned = |d: &domain_model::Domain| {
+                    work.taken
+                        .iter()
+                        .any(|(c, _)| d.cells.get(c).is_some_and(|h| h.kept == Kept::ViaParent))
+                };
+                tally.turning_advances += before.domains.last().is_some_and(turned) as u64;
+            }
+            Call::Commit { .. }
+                if after.domains.len() == before.domains.len().wrapping_sub(1)
+                    && !after.domains.is_empty() =>
+            {
+                let outer = after.domains.len() - 1;
+                let was = &before.domains[outer].cells;
+                let raised = after.domains[outer]
+                    .cells
+                    .iter()
+                    .any(|(c, h)| h.read_write && was.get(c).is_some_and(|o| !o.read_write));
+                tally.raising_commits += raised as u64;
+                tally.moving_commits += after.domains[outer]
+                    .cells
+                    .keys()
+                    .any(|c| !was.contains_key(c)) as u64;
+            }
+            Call::Add { kind: 1, .. } => {
+                let innermost = after.domains.len() - 1;
+                for c in after.domains[innermost].cells.keys() {
+                    let way = after.keeper(innermost, *c).map_or(0, |k| innermost - k);
+                    tally.chain = tally.chain.max(way);
+                }
+            }
+            _ => {}
+        }
+    }
+}
+
+/// What the call has to tell.
+fn expected(
+    verdict: &Verdict,
+    call: &Call,
+    budget: u64,
+    before: &Buffers,
+    model: Model,
+) -> Result<Reply, String> {
+    let mut reply = Reply::default();
+    match verdict {
+        Verdict::Refused(number) => reply.code = *number,
+        Verdict::Listed(list) => {
+            reply.count = list.len() as u32;
+            for (place, handle) in reply.handles.iter_mut().zip(list) {
+                *place = *handle;
+            }
+        }
+        Verdict::Looked(looked) => {
+            let Call::Look { cell, .. } = call else {
+                return Err("the model mixed up its calls".into());
+            };
+            (reply.place, reply.offset) = match looked.keeper {
+                None => (1, 64 * *cell as u64),
+                Some(keeper) => {
+                    let decoded = decoded(before, model)?;
+                    let place = decoded
+                        .places
+                        .get(&(keeper, *cell))
+                        .ok_or("the cell looked for has no place")?;
+                    (2, 64 * place.body as u64)
+                }
+            };
+        }
+        Verdict::Work(work) => {
+            let (steps, done) = work.steps(budget);
+            reply.steps = steps;
+            reply.code = if done { 0 } else { STOPPED };
+            // A stopped create names no handle.
+            reply.handle = if done { work.handle } else { 0 };
+        }
+    }
+    Ok(reply)
+}
+
+fn decoded(buffers: &Buffers, model: Model) -> Result<Decoded, String> {
+    buffers
+        .decode(model.fault)
+        .map_err(|why| format!("the buffers cannot be read: {why:?}"))
+}
+
+/// The exact stores of the call, with the places that the store was seen to take in `after`.
+fn planned(
+    model: Model,
+    before: &Buffers,
+    call: &Call,
+    work: &Work,
+    after: &Buffers,
+) -> Result<Vec<domain_model::Store>, String> {
+    let stores = match call {
+        Call::Make => plan::make(before.lengths().sizes().ok_or("make with wrong lengths")?),
+        Call::Open => plan::open(&decoded(before, model)?),
+        _ => {
+            let from = decoded(before, model)?;
+            let to = decoded(after, model)?;
+            let places = plan::places_after(&from, call, work, model.fault, false, |at, cell| {
+                to.places.get(&(at, cell)).copied()
+            })?;
+            plan::steps(&from, before.table.get(), work, &places)
+        }
+    };
+    if stores.len() as u64 != work.need {
+        return Err(format!(
+            "{} stores bring about what the model says, and it counts {} steps",
+            stores.len(),
+            work.need
+        ));
+    }
+    Ok(stores)
+}
+
+/// Document 01's bounds: open needs at most 2E + 11 steps, every other call at most 70E + 32.
+fn bounded(call: &Call, work: &Work, before: &Buffers) -> Result<(), String> {
+    let e = before.lengths().sizes().map_or(0, |s| s.e as u64);
+    let most = if *call == Call::Open {
+        2 * e + 11
+    } else {
+        70 * e + 32
+    };
+    if work.need > most {
+        return Err(format!(
+            "{} steps are needed, and at most {most} are allowed",
+            work.need
+        ));
+    }
+    Ok(())
+}
+
+fn unchanged(is: &Buffers, was: &Buffers) -> Result<(), String> {
+    match is.differs(was) {
+        None => Ok(()),
+        Some(at) => Err(format!("nothing may change, yet {at}")),
+    }
+}
+
+fn tell(reply: &Reply, call: &Call) -> String {
+    let mut text = match reply.code {
+        0 => "done".to_string(),
+        STOPPED => "stopped".to_string(),
+        number => format!("refused by {number}"),
+    };
+    if !call.only_reads() {
+        text += &format!(" with {} steps", reply.steps);
+    }
+    if *call == Call::Create {
+        text += &format!(", handle {}", reply.handle);
+    }
+    if *call == Call::List {
+        text += &format!(", {} live {:?}", reply.count, reply.handles);
+    }
+    if let Call::Look { .. } = call {
+        text += &format!(", place {} offset {}", reply.place, reply.offset);
+    }
+    if reply.strayed {
+        text += ", with a store beside an out parameter";
+    }
+    text
+}
+
+/// How two readings differ, in words.
+fn other_meaning(is: &Reading, should: &Reading) -> String {
+    match (is, should) {
+        (
+            Reading::Store {
+                state: a,
+                pending: p,
+            },
+            Reading::Store {
+                state: b,
+                pending: q,
+            },
+        ) => {
+            if p != q {
+                return format!("{p} pairs are pending and should be {q}");
+            }
+            if a.next != b.next {
+                return format!("the next handle is {} and should be {}", a.next, b.next);
+            }
+            let handles = |s: &State| s.domains.iter().map(|d| d.handle).collect::<Vec<u32>>();
+            if handles(a) != handles(b) {
+                return format!("live are {:?} and should be {:?}", handles(a), handles(b));
+            }
+            for (x, y) in a.domains.iter().zip(&b.domains) {
+                let cells: BTreeSet<u32> = x.cells.keys().chain(y.cells.keys()).copied().collect();
+                for c in cells {
+                    if x.cells.get(&c) != y.cells.get(&c) {
+                        let show = |h: Option<&domain_model::Holding>| match h {
+                            None => "not held".to_string(),
+                            Some(h) => {
+                                let label = if h.read_write {
+                                    "read-write"
+                                } else {
+                                    "read-only"
+                                };
+                                match h.kept {
+                                    Kept::ViaParent => format!("{label} via parent"),
+                                    Kept::Copy(bytes) if bytes.iter().all(|v| *v == bytes[0]) => {
+                                        format!("{label} as a copy of {}", bytes[0])
+                                    }
+                                    Kept::Copy(bytes) => format!("{label} as a copy of {bytes:?}"),
+                                }
+                            }
+                        };
+                        return format!(
+                            "domain {} has cell {c} {}, and should have it {}",
+                            x.handle,
+                            show(x.cells.get(&c)),
+                            show(y.cells.get(&c))
+                        );
+                    }
+                }
+            }
+            "the states differ".into()
+        }
+        _ => {
+            let name = |r: &Reading| match r {
+                Reading::WrongLengths => "no store (question 1)".to_string(),
+                Reading::NoStore => "no store (question 2)".to_string(),
+                Reading::Damaged { pending } => format!(
+                    "a damaged table{}",
+                    if *pending { " with pairs pending" } else { "" }
+                ),
+                Reading::Store { pending, .. } => format!("a store with {pending} pairs pending"),
+            };
+            format!(
+                "the buffers are {}, and should be {}",
+                name(is),
+                name(should)
+            )
+        }
+    }
+}

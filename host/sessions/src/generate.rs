@@ -1,0 +1,926 @@
+//! The random choice of inputs.
+//!
+//! Calls with random numbers are nearly all refused, and a store that is seldom more than empty
+//! shows little. So the choice looks at the state that the model is in: it nests domains, adds near
+//! what is held, makes memory equal before an add via parent, and cuts where steps are.
+
+use crate::check::Line;
+use crate::rng::Rng;
+use crate::session::Input;
+use domain_model::{Call, Kept, Lengths, Model, Sizes, State, Verdict, state::cell_of};
+use std::collections::VecDeque;
+
+/// What a session is like. Numbers are out of a thousand.
+#[derive(Clone, Debug)]
+pub struct Habits {
+    pub sizes: Sizes,
+    pub inputs: usize,
+    cut: u64,
+    every_cut: u64,
+    damage: u64,
+    wild: u64,
+    /// Bytes that fills choose from: few of them make equal memory likely.
+    letters: u64,
+    /// Most cells that an add names.
+    most: u64,
+    /// Chance of a create: some sessions nest, others stay flat and long.
+    nest: u64,
+}
+
+impl Habits {
+    pub fn choose(rng: &mut Rng) -> Habits {
+        let class = rng.below(1000);
+        let pair = |rng: &mut Rng, low: u64, high: u64| {
+            (rng.between(low, high) as u32, rng.between(low, high) as u32)
+        };
+        let (sizes, inputs, most, every_cut) = if class < 250 {
+            let (e, b) = pair(rng, 1, 5);
+            (
+                Sizes {
+                    m: rng.between(1, 4) as u32,
+                    e,
+                    b,
+                },
+                rng.between(10, 70),
+                3,
+                *rng.pick(&[0, 60, 250]),
+            )
+        } else if class < 850 {
+            let (e, b) = pair(rng, 3, 30);
+            (
+                Sizes {
+                    m: rng.between(2, 12) as u32,
+                    e,
+                    b,
+                },
+                rng.between(20, 120),
+                5,
+                *rng.pick(&[0, 30, 120]),
+            )
+        } else if class < 994 {
+            let (e, b) = pair(rng, 20, 150);
+            (
+                Sizes {
+                    m: rng.between(10, 300) as u32,
+                    e,
+                    b,
+                },
+                rng.between(30, 120),
+                24,
+                *rng.pick(&[0, 20]),
+            )
+        } else {
+            let (e, b) = pair(rng, 300, 4096);
+            let sizes = Sizes {
+                m: rng.between(1000, 65_536) as u32,
+                e,
+                b,
+            };
+            let largest = Sizes {
+                m: 65_536,
+                e: 4_096,
+                b: 4_096,
+            };
+            (
+                if rng.chance(300) { largest } else { sizes },
+                rng.between(8, 25),
+                1500,
+                20,
+            )
+        };
+        Habits {
+            sizes,
+            inputs: inputs as usize,
+            cut: *rng.pick(&[0, 60, 150, 400]),
+            every_cut,
+            damage: *rng.pick(&[0, 60, 60, 300]),
+            wild: *rng.pick(&[10, 40, 200]),
+            letters: *rng.pick(&[2, 3, 250]),
+            most,
+            nest: *rng.pick(&[60, 110, 200]),
+        }
+    }
+}
+
+/// An intention: what to do next, without budget.
+enum Want {
+    Write(usize, Vec<u8>),
+    Call(Call),
+}
+
+/// A way to choose what comes next.
+type Act = fn(&mut Generator, &State, &Line);
+
+/// Chooses inputs one after the other.
+pub struct Generator {
+    pub habits: Habits,
+    rng: Rng,
+    wants: VecDeque<Want>,
+}
+
+impl Generator {
+    pub fn new(seed: u64) -> Generator {
+        let mut rng = Rng::new(seed);
+        let habits = Habits::choose(&mut rng);
+        Generator {
+            habits,
+            rng,
+            wants: VecDeque::new(),
+        }
+    }
+
+    /// Seed of the first contents.
+    pub fn fill(&mut self) -> u64 {
+        self.rng.draw()
+    }
+
+    /// The next input, for a line that stands there.
+    pub fn next(&mut self, line: &Line, model: Model) -> Input {
+        if self.wants.is_empty() {
+            let h = &self.habits;
+            let (damage, wild) = (h.damage, h.wild);
+            match line.state() {
+                // No store: mostly make, at times something that has to be refused.
+                None => {
+                    if self.rng.chance(250) {
+                        let call = self.wild_call();
+                        self.wants.push_back(Want::Call(call));
+                    } else {
+                        self.wants.push_back(Want::Call(Call::Make));
+                    }
+                }
+                Some(_) if self.rng.chance(damage) => return self.damaged(line),
+                Some(_) if self.rng.chance(damage / 4) => return self.lengths(),
+                Some(_) if self.rng.chance(wild) => {
+                    let call = self.wild_call();
+                    self.wants.push_back(Want::Call(call));
+                }
+                Some(state) => {
+                    let state = state.clone();
+                    self.plausible(&state, line);
+                }
+            }
+        }
+        match self.wants.pop_front().expect("something to do") {
+            Want::Write(at, bytes) => Input::Write { at, bytes },
+            Want::Call(call) => self.with_budget(call, line, model),
+        }
+    }
+
+    /// Chooses a budget for the call: mostly none, else one at which it is cut.
+    fn with_budget(&mut self, call: Call, line: &Line, model: Model) -> Input {
+        let verdict = model.verdict(
+            line.buffers.lengths(),
+            &line.reading,
+            line.buffers.memory.get(),
+            &call,
+        );
+        let Verdict::Work(work) = verdict else {
+            let budget = if self.rng.chance(300) {
+                self.rng.below(20)
+            } else {
+                u64::MAX
+            };
+            return Input::Call {
+                call,
+                budget,
+                openings: Vec::new(),
+                every_cut: None,
+            };
+        };
+        let every_cut = self
+            .rng
+            .chance(self.habits.every_cut)
+            .then(|| self.rng.draw());
+        let mut input = (u64::MAX, Vec::new());
+        if work.need > 0 && self.rng.chance(self.habits.cut) {
+            let bytes = work.byte_steps().min(work.need);
+            // Most steps are bytes, and most of what can go wrong lies behind them.
+            let budget = if self.rng.chance(500) || bytes == work.need {
+                self.rng.below(work.need)
+            } else {
+                self.rng.between(bytes, work.need - 1)
+            };
+            let openings = (0..self.rng.below(4))
+                .map(|_| self.rng.below(work.words + 2))
+                .collect();
+            input = (budget, openings);
+        } else if self.rng.chance(100) {
+            input.0 = work.need + self.rng.below(2);
+        }
+        Input::Call {
+            call,
+            budget: input.0,
+            openings: input.1,
+            every_cut,
+        }
+    }
+
+    fn letter(&mut self) -> u8 {
+        self.rng.below(self.habits.letters) as u8
+    }
+
+    fn write_cell(&mut self, cell: u32, bytes: Vec<u8>) {
+        self.wants.push_back(Want::Write(64 * cell as usize, bytes));
+    }
+
+    fn call(&mut self, call: Call) {
+        self.wants.push_back(Want::Call(call));
+    }
+
+    /// A cell to work with: mostly one that is held, or beside one.
+    fn cell(&mut self, state: &State) -> u32 {
+        let m = self.habits.sizes.m;
+        if !state.domains.is_empty() && self.rng.chance(700) {
+            let domain = self.rng.pick(&state.domains);
+            if !domain.cells.is_empty() {
+                let at = self.rng.below(domain.cells.len() as u64) as usize;
+                let cell = *domain.cells.keys().nth(at).expect("counted");
+                return match self.rng.below(6) {
+                    0 => cell.saturating_sub(1),
+                    1 => (cell + 1).min(m - 1),
+                    _ => cell,
+                };
+            }
+        }
+        self.rng.below(m as u64) as u32
+    }
+
+    fn handle(&mut self, state: &State, at: usize) -> u32 {
+        // The innermost one goes by two names.
+        if at + 1 == state.domains.len() && self.rng.chance(500) {
+            0
+        } else {
+            state.domains[at].handle
+        }
+    }
+
+    fn plausible(&mut self, state: &State, line: &Line) {
+        let live = state.domains.len();
+        if live == 0 {
+            match self.rng.below(10) {
+                0 => self.write(state, line),
+                1 => self.call(Call::List),
+                2 if self.rng.chance(100) => self.call(Call::Make),
+                _ => self.call(Call::Create),
+            }
+            return;
+        }
+        let nest = self.habits.nest;
+        let weights: [(u64, Act); 12] = [
+            (200, Generator::write),
+            (nest, Generator::creates),
+            (180, Generator::add_copy),
+            (130, Generator::add_via),
+            (45, Generator::add_again),
+            (55, Generator::delete),
+            (70, Generator::commit),
+            (110, Generator::advance),
+            (85, Generator::restore),
+            (60, Generator::look),
+            (25, Generator::small_things),
+            (30, Generator::nest),
+        ];
+        let mut left = self.rng.below(weights.iter().map(|w| w.0).sum());
+        for (weight, act) in weights {
+            if left < weight {
+                act(self, state, line);
+                return;
+            }
+            left -= weight;
+        }
+    }
+
+    fn write(&mut self, state: &State, line: &Line) {
+        let cell = self.cell(state);
+        match self.rng.below(10) {
+            // A part of memory that does not keep to cells.
+            0 | 1 => {
+                let all = line.buffers.memory.get().len() as u64;
+                let at = (64 * cell as u64 + self.rng.below(64)).min(all - 1);
+                let len = self.rng.between(1, 150.min(all - at)) as usize;
+                let letter = self.letter();
+                let bytes = (0..len).map(|i| letter.wrapping_add(i as u8)).collect();
+                self.wants.push_back(Want::Write(at as usize, bytes));
+            }
+            // One byte.
+            2 => {
+                let at = 64 * cell as usize + self.rng.below(64) as usize;
+                let letter = self.letter();
+                self.wants.push_back(Want::Write(at, vec![letter]));
+            }
+            // The same bytes again: a write of equal bytes is a write.
+            3 => self.write_cell(cell, cell_of(line.buffers.memory.get(), cell).to_vec()),
+            _ => {
+                for _ in 0..self.rng.between(1, 3) {
+                    let (cell, letter) = (self.cell(state), self.letter());
+                    self.write_cell(cell, vec![letter; 64]);
+                }
+            }
+        }
+    }
+
+    fn creates(&mut self, _: &State, _: &Line) {
+        let many = if self.rng.chance(120) {
+            self.rng.between(2, 9)
+        } else {
+            1
+        };
+        for _ in 0..many {
+            self.call(Call::Create);
+        }
+    }
+
+    fn count(&mut self, from: u32) -> u32 {
+        let room = self.habits.sizes.m - from;
+        let most = if self.rng.chance(40) {
+            self.habits.sizes.e as u64 + 1
+        } else {
+            self.habits.most
+        };
+        (self.rng.between(1, most) as u32).min(room).max(1)
+    }
+
+    fn add_copy(&mut self, state: &State, _: &Line) {
+        let first = self.cell(state);
+        let count = self.count(first);
+        let label = self.rng.chance(650) as u32;
+        let handle = self.handle(state, state.domains.len() - 1);
+        self.call(Call::Add {
+            handle,
+            first,
+            count,
+            kind: 0,
+            label,
+        });
+    }
+
+    /// Add via parent: cells that the next domain out holds, after memory was made equal.
+    fn add_via(&mut self, state: &State, line: &Line) {
+        let inner = state.domains.len() - 1;
+        let Some(outer) = inner.checked_sub(1) else {
+            // Refused by 11: there is no domain further out.
+            let first = self.cell(state);
+            return self.call(Call::Add {
+                handle: 0,
+                first,
+                count: 1,
+                kind: 1,
+                label: 1,
+            });
+        };
+        let open: Vec<u32> = state.domains[outer]
+            .cells
+            .keys()
+            .copied()
+            .filter(|c| !state.domains[inner].holds(*c))
+            .collect();
+        if open.is_empty() {
+            return self.add_copy(state, line);
+        }
+        let first = *self.rng.pick(&open);
+        let mut count = 1;
+        while count < self.habits.most as u32 && self.rng.chance(600) {
+            let next = first + count;
+            // At times the run goes on over a cell that nobody holds.
+            if next >= self.habits.sizes.m
+                || !(state.domains[outer].holds(next) || self.rng.chance(40))
+            {
+                break;
+            }
+            count += 1;
+        }
+        for c in first..first + count {
+            if let Some(value) = state.value(outer, c)
+                && value != cell_of(line.buffers.memory.get(), c)
+                && self.rng.chance(900)
+            {
+                self.write_cell(c, value.to_vec());
+            }
+        }
+        let label = self.rng.chance(600) as u32;
+        let handle = self.handle(state, inner);
+        self.call(Call::Add {
+            handle,
+            first,
+            count,
+            kind: 1,
+            label,
+        });
+        // Deeper chains: the same cells once more, one domain further in.
+        while self.rng.chance(400) {
+            let label = self.rng.below(2) as u32;
+            self.call(Call::Create);
+            self.call(Call::Add {
+                handle: 0,
+                first,
+                count,
+                kind: 1,
+                label,
+            });
+        }
+    }
+
+    /// Add over what is held already, by either kind.
+    fn add_again(&mut self, state: &State, line: &Line) {
+        let inner = state.domains.last().expect("live");
+        if inner.cells.is_empty() {
+            return self.add_copy(state, line);
+        }
+        let cells: Vec<u32> = inner.cells.keys().copied().collect();
+        let first = *self.rng.pick(&cells);
+        let count = if self.rng.chance(700) {
+            1
+        } else {
+            self.count(first)
+        };
+        let (kind, label) = (self.rng.below(2) as u32, self.rng.below(2) as u32);
+        self.call(Call::Add {
+            handle: 0,
+            first,
+            count,
+            kind,
+            label,
+        });
+    }
+
+    fn delete(&mut self, state: &State, line: &Line) {
+        let mut at = self.rng.below(state.domains.len() as u64) as usize;
+        let mut cells: Vec<u32> = state.domains[at].cells.keys().copied().collect();
+        if self.rng.chance(200) {
+            // What rests on the next domain out must stay there: question 14.
+            let rests = |at: &usize| {
+                state.domains[*at]
+                    .cells
+                    .values()
+                    .any(|h| h.kept == Kept::ViaParent)
+            };
+            if let Some(inner) = (1..state.domains.len()).find(rests) {
+                at = inner - 1;
+                cells = state.domains[inner]
+                    .cells
+                    .iter()
+                    .filter(|(_, h)| h.kept == Kept::ViaParent)
+                    .map(|(c, _)| *c)
+                    .collect();
+            }
+        }
+        if cells.is_empty() {
+            return self.write(state, line);
+        }
+        let first = *self.rng.pick(&cells);
+        let mut count = 1;
+        while self.rng.chance(500)
+            && (state.domains[at].holds(first + count) || self.rng.chance(100))
+            && first + count < self.habits.sizes.m
+        {
+            count += 1;
+        }
+        let handle = self.handle(state, at);
+        self.call(Call::Delete {
+            handle,
+            first,
+            count,
+        });
+    }
+
+    fn commit(&mut self, state: &State, _: &Line) {
+        let at = if self.rng.chance(930) {
+            state.domains.len() - 1
+        } else {
+            0
+        };
+        let handle = self.handle(state, at);
+        self.call(Call::Commit { handle });
+        if self.rng.chance(300) {
+            self.call(Call::Advance { handle: 0 });
+        }
+    }
+
+    fn advance(&mut self, state: &State, line: &Line) {
+        let inner = state.domains.len() - 1;
+        // Changed cells make an advance worth while.
+        let cells: Vec<u32> = state.domains[inner]
+            .cells
+            .iter()
+            .filter(|(_, h)| h.read_write)
+            .map(|(c, _)| *c)
+            .collect();
+        if !cells.is_empty() && self.rng.chance(700) {
+            let (cell, letter) = (*self.rng.pick(&cells), self.letter());
+            self.write_cell(cell, vec![letter; 64]);
+        }
+        let handle = if self.rng.chance(950) {
+            self.handle(state, inner)
+        } else {
+            state.domains[0].handle
+        };
+        self.call(Call::Advance { handle });
+        if self.rng.chance(250) {
+            self.write(state, line);
+            self.call(Call::Restore { handle: 0 });
+        }
+    }
+
+    fn restore(&mut self, state: &State, line: &Line) {
+        if self.rng.chance(600) {
+            self.write(state, line);
+        }
+        let at = self.rng.below(state.domains.len() as u64) as usize;
+        // Outer domains end many inner ones, so most restores keep near the innermost.
+        let at = if self.rng.chance(500) {
+            at.max(state.domains.len().saturating_sub(2))
+        } else {
+            at
+        };
+        let handle = self.handle(state, at);
+        self.call(Call::Restore { handle });
+    }
+
+    fn look(&mut self, state: &State, _: &Line) {
+        let at = self.rng.below(state.domains.len() as u64) as usize;
+        let handle = self.handle(state, at);
+        let cell = self.cell(state);
+        self.call(Call::Look { handle, cell });
+    }
+
+    fn small_things(&mut self, _: &State, _: &Line) {
+        let call = match self.rng.below(20) {
+            0 => Call::Make,
+            1..=8 => Call::Open,
+            _ => Call::List,
+        };
+        self.call(call);
+    }
+
+    /// A nest like the caller's own: cycle, tile, channel, each holding what the one around it
+    /// holds, with work in between.
+    fn nest(&mut self, state: &State, _: &Line) {
+        let first = self.cell(state);
+        let count = self.count(first).min(3);
+        for _ in 0..self.rng.between(1, 3) {
+            let (kind, label) = (self.rng.chance(400) as u32, self.rng.chance(750) as u32);
+            self.call(Call::Create);
+            self.call(Call::Add {
+                handle: 0,
+                first,
+                count,
+                kind,
+                label,
+            });
+            if self.rng.chance(600) {
+                let (cell, letter) = (first + self.rng.below(count as u64) as u32, self.letter());
+                self.write_cell(cell, vec![letter; 64]);
+            }
+            if self.rng.chance(400) {
+                self.call(Call::Advance { handle: 0 });
+            }
+        }
+        if self.rng.chance(500) {
+            self.call(Call::Commit { handle: 0 });
+        }
+    }
+
+    fn wild_number(&mut self) -> u32 {
+        let m = self.habits.sizes.m;
+        match self.rng.below(8) {
+            0 => 0,
+            1 => 1,
+            2 => m - 1,
+            3 => m,
+            4 => m + 1,
+            5 => u32::MAX - self.rng.below(3) as u32,
+            6 => self.rng.below(12) as u32,
+            _ => self.rng.draw() as u32,
+        }
+    }
+
+    /// Any call with any numbers.
+    fn wild_call(&mut self) -> Call {
+        let handle = if self.rng.chance(500) {
+            0
+        } else {
+            self.wild_number()
+        };
+        match self.rng.below(40) {
+            0 => Call::Make,
+            1 => Call::Open,
+            2 => Call::Create,
+            3 => Call::List,
+            4..=8 => Call::Commit {
+                handle: self.rng.between(1, 12) as u32,
+            },
+            9..=12 => Call::Advance {
+                handle: self.rng.between(1, 12) as u32,
+            },
+            13..=15 => Call::Restore {
+                handle: self.rng.between(1, 12) as u32,
+            },
+            16..=21 => Call::Look {
+                handle,
+                cell: self.wild_number(),
+            },
+            22..=28 => Call::Delete {
+                handle,
+                first: self.wild_number(),
+                count: self.wild_number(),
+            },
+            _ => {
+                let (first, count) = (self.wild_number(), self.wild_number());
+                let odd = |rng: &mut Rng| {
+                    if rng.chance(150) {
+                        *rng.pick(&[2, 7, u32::MAX])
+                    } else {
+                        rng.below(2) as u32
+                    }
+                };
+                let (kind, label) = (odd(&mut self.rng), odd(&mut self.rng));
+                Call::Add {
+                    handle,
+                    first,
+                    count,
+                    kind,
+                    label,
+                }
+            }
+        }
+    }
+
+    /// A call that is likely to do something in this state.
+    fn probe(&mut self, state: &State) -> Call {
+        let any = |rng: &mut Rng, s: &State| {
+            if s.domains.is_empty() {
+                0
+            } else {
+                rng.pick(&s.domains).handle
+            }
+        };
+        match self.rng.below(12) {
+            0 | 1 => Call::Open,
+            2 => Call::Create,
+            3 => Call::List,
+            4 => Call::Commit { handle: 0 },
+            5 => Call::Advance { handle: 0 },
+            6 | 7 => Call::Restore {
+                handle: any(&mut self.rng, state),
+            },
+            8 => Call::Look {
+                handle: any(&mut self.rng, state),
+                cell: self.cell(state),
+            },
+            9 => Call::Delete {
+                handle: any(&mut self.rng, state),
+                first: self.cell(state),
+                count: 1,
+            },
+            10 => self.wild_call(),
+            _ => Call::Add {
+                handle: 0,
+                first: self.cell(state),
+                count: 1,
+                kind: self.rng.below(2) as u32,
+                label: self.rng.below(2) as u32,
+            },
+        }
+    }
+
+    /// A damaged table: random flips, one field wrong, or pairs pending with good or bad names.
+    fn damaged(&mut self, line: &Line) -> Input {
+        let table = line.buffers.table.get();
+        let state = line.state().expect("a store").clone();
+        let Sizes { m, e, b } = self.habits.sizes;
+        let entries_end = 16 + 2 * e as usize;
+        let mut edits: Vec<(usize, u32)> = Vec::new();
+        match self.rng.below(10) {
+            0 | 1 => {
+                for _ in 0..self.rng.between(1, 3) {
+                    let within = if self.rng.chance(500) {
+                        16
+                    } else {
+                        table.len()
+                    };
+                    let word = self.rng.below(within as u64) as usize;
+                    edits.push((word, table[word] ^ 1 << self.rng.below(32)));
+                }
+            }
+            2 => {
+                // A header word a little off.
+                let word = self.rng.below(16) as usize;
+                let value = match self.rng.below(6) {
+                    0 => table[word].wrapping_add(1),
+                    1 => table[word].wrapping_sub(1),
+                    2 => 0,
+                    3 => u32::MAX,
+                    4 => u32::MAX - 1,
+                    _ => self.rng.below(12) as u32,
+                };
+                edits.push((word, value));
+            }
+            3 => {
+                // Next handle near its end, or too low; handles out of order.
+                match self.rng.below(4) {
+                    0 => {
+                        edits.push((5, u32::MAX - self.rng.below(3) as u32));
+                        let then = [
+                            Call::Create,
+                            Call::Create,
+                            Call::Commit { handle: 0 },
+                            Call::Create,
+                        ]
+                        .map(|c| (c, u64::MAX));
+                        return Input::Damaged {
+                            edits,
+                            then: then.to_vec(),
+                        };
+                    }
+                    1 => edits.push((
+                        5,
+                        state
+                            .domains
+                            .last()
+                            .map_or(1, |d| d.handle + self.rng.below(2) as u32),
+                    )),
+                    2 => edits.extend([(8, table[9]), (9, table[8])]),
+                    _ => {
+                        let at = 8 + self.rng.below(8) as usize;
+                        edits.push((at, table[8 + self.rng.below(8) as usize]));
+                    }
+                }
+            }
+            4..=6 => {
+                // One field of an entry, or an entry written by hand; others stay right.
+                let place = 16 + 2 * self.rng.below(e as u64) as usize;
+                let used: Vec<usize> = (16..entries_end)
+                    .step_by(2)
+                    .filter(|at| table[*at] != 0)
+                    .collect();
+                let place = if used.is_empty() || self.rng.chance(200) {
+                    place
+                } else {
+                    *self.rng.pick(&used)
+                };
+                let (first, second) = (table[place], table[place + 1]);
+                let other = if used.is_empty() {
+                    place
+                } else {
+                    *self.rng.pick(&used)
+                };
+                match self.rng.below(12) {
+                    0 => edits.push((
+                        place,
+                        first & 0x0FFF_FFFF | (self.rng.below(16) as u32) << 28,
+                    )),
+                    1 => edits.push((place, first ^ 1 << 27)),
+                    2 => edits.push((place, first ^ 1 << 26)),
+                    3 => edits.extend([(place, first | 1 << 26), (place + 1, 0)]),
+                    4 => edits.push((
+                        place,
+                        first & 0xFFFF_0000 | self.rng.below(m as u64 + 2) as u32 & 0xFFFF,
+                    )),
+                    5 => edits.push((place, first ^ 1 << self.rng.between(16, 25))),
+                    6 => edits.push((place + 1, self.rng.below(b as u64 + 2) as u32)),
+                    7 => edits.push((place + 1, table[other + 1])),
+                    8 => edits.push((place, table[other])),
+                    9 => edits.push((place + 1, second.wrapping_add(1))),
+                    10 => edits.extend([
+                        (place, 0),
+                        (place + 1, if self.rng.chance(500) { 0 } else { second }),
+                    ]),
+                    _ => {
+                        let word = (self.rng.between(1, 8) as u32) << 28
+                            | (self.rng.below(2) as u32) << 27
+                            | (self.rng.below(2) as u32) << 26
+                            | self.rng.below(m as u64) as u32;
+                        let body = if word >> 26 & 1 == 1 {
+                            0
+                        } else {
+                            self.rng.below(b as u64) as u32
+                        };
+                        edits.extend([(place, word), (place + 1, body)]);
+                    }
+                }
+            }
+            _ => self.pending(table, entries_end, &mut edits),
+        }
+        let mut then = Vec::new();
+        for _ in 0..self.rng.between(1, 4) {
+            let call = if self.rng.chance(400) {
+                Call::Open
+            } else {
+                self.probe(&state)
+            };
+            let budget = if self.rng.chance(300) {
+                self.rng.below(40)
+            } else {
+                u64::MAX
+            };
+            then.push((call, budget));
+        }
+        Input::Damaged { edits, then }
+    }
+
+    /// Pairs pending: some words of a right table move into pairs, and what stands raw is garbled;
+    /// at times one thing about them is wrong.
+    fn pending(&mut self, table: &[u32], entries_end: usize, edits: &mut Vec<(usize, u32)>) {
+        let allowed: Vec<usize> = (4..6).chain(8..entries_end).collect();
+        let share = *self.rng.pick(&[20, 100, 500, 1000]);
+        let mut named: Vec<usize> = allowed
+            .iter()
+            .copied()
+            .filter(|_| self.rng.chance(share))
+            .collect();
+        if named.is_empty() {
+            named.push(*self.rng.pick(&allowed));
+        }
+        // A pair of an entry moves a cell elsewhere: pairs that mean another state than the one
+        // that stands.
+        let shift = self.rng.chance(300);
+        let mut pairs: Vec<(u32, u32)> = named.iter().map(|w| (*w as u32, table[*w])).collect();
+        if shift {
+            let at = self.rng.below(pairs.len() as u64) as usize;
+            pairs[at].1 = match self.rng.below(3) {
+                0 => pairs[at].1 ^ 1 << self.rng.below(32),
+                1 => 0,
+                _ => pairs[at].1.wrapping_add(1),
+            };
+        }
+        match self.rng.below(4) {
+            0 => edits.extend(named.iter().map(|w| (*w, self.rng.draw() as u32))),
+            1 => edits.extend(named.iter().map(|w| (*w, 0))),
+            _ => {}
+        }
+        let mut count = pairs.len() as u32;
+        if self.rng.chance(450) {
+            let at = self.rng.below(pairs.len() as u64) as usize;
+            match self.rng.below(6) {
+                0 => pairs[at].0 = *self.rng.pick(&[0, 1, 3, 6, 7]),
+                1 => pairs[at].0 = entries_end as u32 + self.rng.below(2) as u32,
+                2 => pairs[at].0 = u32::MAX - self.rng.below(3) as u32,
+                3 => {
+                    let other = self.rng.below(pairs.len() as u64) as usize;
+                    pairs.swap(at, other);
+                }
+                4 => {
+                    count = *self.rng.pick(&[
+                        count + 1,
+                        allowed.len() as u32,
+                        allowed.len() as u32 + 1,
+                        u32::MAX,
+                        1 << 31,
+                    ])
+                }
+                _ => {
+                    let name = pairs[at].0;
+                    let other = self.rng.below(pairs.len() as u64) as usize;
+                    pairs[other].0 = name;
+                }
+            }
+        }
+        for (i, (word, value)) in pairs.iter().enumerate() {
+            edits.push((entries_end + 2 * i, *word));
+            edits.push((entries_end + 2 * i + 1, *value));
+        }
+        edits.push((6, count));
+    }
+
+    /// Buffers of other lengths: nearly right ones, and those that other sizes would have.
+    fn lengths(&mut self) -> Input {
+        let right = self.habits.sizes.lengths();
+        let mut lengths = right;
+        let place = self.rng.below(3);
+        let choice = self.rng.below(8);
+        let change = |rng: &mut Rng, len: usize, unit: usize, most: usize| match choice {
+            0 => 0,
+            1 => len + 1,
+            2 => len - 1,
+            3 => len + unit,
+            4 => len.saturating_sub(unit),
+            5 => most,
+            6 => most + unit,
+            _ => rng.below(len as u64 + 100) as usize,
+        };
+        match place {
+            0 => lengths.memory = change(&mut self.rng, right.memory, 64, 64 * 300),
+            1 => lengths.bodies = change(&mut self.rng, right.bodies, 64, 64 * 4096),
+            _ => {
+                lengths.table = match choice {
+                    7 => *self.rng.pick(&[35, 36, 37, 41, 42, 24_612, 24_613]),
+                    6 => 36 + 6 * 4097,
+                    5 => 36 + 6 * 4096,
+                    _ => change(&mut self.rng, right.table, 6, 0),
+                }
+            }
+        }
+        // The largest memory is 4 MB: seldom, and one byte or one cell past it.
+        if self.rng.chance(5) {
+            lengths = Lengths {
+                memory: 64 * 65_536 + self.rng.below(65) as usize,
+                ..right
+            };
+        }
+        Input::Lengths {
+            lengths,
+            call: self.wild_call(),
+        }
+    }
+}

@@ -1,0 +1,206 @@
+//! Many sessions, one after the other, with progress.
+
+use crate::check::{Checker, Tally};
+use crate::generate::Generator;
+use crate::session::Session;
+use crate::shrink::{Shrunk, shrink};
+use crate::store::Store;
+use domain_model::{Call, Fault, Model};
+use std::fmt::Write;
+use std::time::{Duration, Instant};
+
+/// How long to go on.
+#[derive(Clone, Copy, Debug)]
+pub enum Until {
+    Sessions(u64),
+    Time(Duration),
+}
+
+/// What to run.
+#[derive(Clone, Copy, Debug)]
+pub struct Plan {
+    pub seed: u64,
+    pub until: Until,
+    /// An error to switch on in the model.
+    pub fault: Option<Fault>,
+    /// Shows a line each second or so.
+    pub progress: bool,
+    pub shrink_for: Duration,
+    /// Compares nothing but the notebook's zero counts.
+    pub counts_only: bool,
+    /// Names each session before it begins: where a signal may end the program, nothing can be told
+    /// afterwards.
+    pub announce: bool,
+}
+
+impl Plan {
+    /// A quiet run of so many sessions.
+    pub fn sessions(seed: u64, sessions: u64) -> Plan {
+        Plan {
+            seed,
+            until: Until::Sessions(sessions),
+            fault: None,
+            progress: false,
+            shrink_for: Duration::from_secs(30),
+            counts_only: false,
+            announce: false,
+        }
+    }
+}
+
+/// A failure, made short.
+pub struct Failure {
+    /// Seed of the session: with it as the run's seed, the session is the first one.
+    pub seed: u64,
+    /// Which session of the run it was, from 1.
+    pub session: u64,
+    pub inputs: usize,
+    pub shrunk: Shrunk,
+}
+
+/// The seed of session `at` of a run, from 0: the first one has the run's own seed, so that any
+/// session can be the first of another run.
+pub fn seed_of(seed: u64, at: u64) -> u64 {
+    if at == 0 {
+        seed
+    } else {
+        crate::rng::Rng::new(seed ^ at.wrapping_mul(0xD605_BBB5_8C8A_BBC9)).draw()
+    }
+}
+
+/// Plays one session as it is chosen. Gives it back with the place where it failed.
+fn one(checker: &mut Checker, seed: u64) -> Result<(), (Session, usize, crate::check::Mismatch)> {
+    let mut generator = Generator::new(seed);
+    let sizes = generator.habits.sizes;
+    let mut session = Session {
+        sizes,
+        fill: generator.fill(),
+        inputs: Vec::new(),
+    };
+    let mut line = session.start(checker);
+    // The choice looks at a right model, whatever error is switched on in the one compared with.
+    for at in 0..generator.habits.inputs {
+        let input = generator.next(&line, Model::default());
+        session.inputs.push(input.clone());
+        if let Err(mismatch) = input.play(checker, &mut line) {
+            return Err((session, at, mismatch));
+        }
+    }
+    Ok(())
+}
+
+/// Runs sessions until the end or the first failure.
+pub fn run(store: &dyn Store, plan: Plan) -> (Tally, Option<Failure>) {
+    let model = Model { fault: plan.fault };
+    let mut checker = Checker {
+        counts_only: plan.counts_only,
+        ..Checker::new(store, model)
+    };
+    let start = Instant::now();
+    let mut shown = start;
+    let mut at = 0;
+    loop {
+        let over = match plan.until {
+            Until::Sessions(n) => at >= n,
+            Until::Time(time) => start.elapsed() >= time,
+        };
+        if over {
+            break;
+        }
+        let seed = seed_of(plan.seed, at);
+        at += 1;
+        checker.tally.sessions += 1;
+        if plan.announce {
+            println!("session {at}: --seed {seed} --sessions 1");
+        }
+        if let Err((session, place, mismatch)) = one(&mut checker, seed) {
+            let inputs = session.inputs.len();
+            let shrunk = shrink(&checker, &session, place, mismatch, plan.shrink_for);
+            return (
+                checker.tally,
+                Some(Failure {
+                    seed,
+                    session: at,
+                    inputs,
+                    shrunk,
+                }),
+            );
+        }
+        if plan.progress && shown.elapsed() >= Duration::from_secs(2) {
+            shown = Instant::now();
+            println!(
+                "{:6.0} s  {}",
+                start.elapsed().as_secs_f64(),
+                short(&checker.tally)
+            );
+        }
+    }
+    (checker.tally, None)
+}
+
+/// One line of numbers.
+pub fn short(tally: &Tally) -> String {
+    format!(
+        "{} sessions, {} calls, {} cuts, {} stopped openings, {} damaged tables, {} zero counts taken",
+        tally.sessions,
+        tally.calls(),
+        tally.cuts,
+        tally.stopped_openings,
+        tally.damaged,
+        tally.counts
+    )
+}
+
+/// All numbers: which answers came how often, and how deep the states were.
+pub fn long(tally: &Tally) -> String {
+    let mut text = String::new();
+    writeln!(text, "{}", short(tally)).unwrap();
+    writeln!(
+        text,
+        "{} calls cut at every step or at their joints, {} program writes, {} damaged tables were good after all, {} calls with other lengths",
+        tally.whole, tally.writes, tally.damaged_good, tally.lengths
+    )
+    .unwrap();
+    writeln!(
+        text,
+        "most domains live {}, most entries {}, longest way to a copy {}, bytes looked at by zero counts {}",
+        tally.deepest, tally.entries, tally.chain, tally.looked_at
+    )
+    .unwrap();
+    writeln!(
+        text,
+        "restores that ended domains {}, that went outwards {}; advances over via parent {}; commits that raised {}, that moved {}",
+        tally.ending_restores, tally.outward_restores, tally.turning_advances, tally.raising_commits, tally.moving_commits
+    )
+    .unwrap();
+    for (name, answers) in Call::NAMES.iter().zip(&tally.answers) {
+        write!(text, "{name:8} done {}", answers[0]).unwrap();
+        if answers[18] > 0 {
+            write!(text, ", stopped {}", answers[18]).unwrap();
+        }
+        for (number, times) in answers.iter().enumerate().skip(1).take(17) {
+            if *times > 0 {
+                write!(text, ", {number}: {times}").unwrap();
+            }
+        }
+        text.push('\n');
+    }
+    text
+}
+
+impl Failure {
+    /// The failing session, short, and how to run it again.
+    pub fn tell(&self) -> String {
+        format!(
+            "session {} failed after {} inputs; the same options and --seed {} --sessions 1 bring it back\nmade short with {} tries:\n{}at input {}: {}\n  {}\n",
+            self.session,
+            self.inputs,
+            self.seed,
+            self.shrunk.tries,
+            self.shrunk.session,
+            self.shrunk.at + 1,
+            self.shrunk.mismatch.call,
+            self.shrunk.mismatch.what
+        )
+    }
+}

@@ -1,0 +1,384 @@
+//! Makes a failing session short: drops inputs, takes out cuts and damage, lowers numbers.
+
+use crate::check::{Checker, Mismatch};
+use crate::session::{Input, Session};
+use domain_model::{Call, Sizes};
+use std::time::{Duration, Instant};
+
+/// A failing session made short, with the place of the failure and what differs there.
+pub struct Shrunk {
+    pub session: Session,
+    pub at: usize,
+    pub mismatch: Mismatch,
+    pub tries: u64,
+}
+
+struct Shrinker<'a> {
+    like: &'a Checker<'a>,
+    best: Shrunk,
+    until: Instant,
+}
+
+/// Shrinks a session that fails with a checker like this one.
+pub fn shrink(
+    like: &Checker,
+    session: &Session,
+    at: usize,
+    mismatch: Mismatch,
+    time: Duration,
+) -> Shrunk {
+    let best = Shrunk {
+        session: session.clone(),
+        at,
+        mismatch,
+        tries: 0,
+    };
+    let mut shrinker = Shrinker {
+        like,
+        best,
+        until: Instant::now() + time,
+    };
+    // Nothing after the failure matters.
+    let mut cut_off = shrinker.best.session.clone();
+    cut_off.inputs.truncate(at + 1);
+    shrinker.fails(cut_off);
+    loop {
+        let before = shrinker.best.session.clone();
+        shrinker.drop_inputs();
+        shrinker.lower_inputs();
+        shrinker.lower_cells();
+        shrinker.lower_sizes();
+        if shrinker.best.session == before || Instant::now() > shrinker.until {
+            return shrinker.best;
+        }
+    }
+}
+
+impl Shrinker<'_> {
+    /// Plays a smaller session; keeps it if it still fails.
+    fn fails(&mut self, session: Session) -> bool {
+        if session == self.best.session || Instant::now() > self.until {
+            return false;
+        }
+        self.best.tries += 1;
+        let mut checker = Checker {
+            counts_only: self.like.counts_only,
+            ..Checker::new(self.like.store, self.like.model)
+        };
+        match session.play(&mut checker) {
+            Ok(()) => false,
+            Err((at, mismatch)) => {
+                let mut session = session;
+                session.inputs.truncate(at + 1);
+                self.best = Shrunk {
+                    session,
+                    at,
+                    mismatch,
+                    tries: self.best.tries,
+                };
+                true
+            }
+        }
+    }
+
+    fn drop_inputs(&mut self) {
+        let mut run = self.best.session.inputs.len().next_power_of_two() / 2;
+        while run > 0 {
+            let mut from = 0;
+            while from < self.best.session.inputs.len() {
+                let mut session = self.best.session.clone();
+                let to = (from + run).min(session.inputs.len());
+                session.inputs.drain(from..to);
+                if !self.fails(session) {
+                    from += run;
+                }
+            }
+            run /= 2;
+        }
+    }
+
+    fn lower_inputs(&mut self) {
+        let mut at = 0;
+        while at < self.best.session.inputs.len() {
+            // Each simpler form is tried until none of them fails any more.
+            let mut again = true;
+            while again {
+                again = false;
+                let Some(input) = self.best.session.inputs.get(at).cloned() else {
+                    break;
+                };
+                for simpler in simpler(&input) {
+                    let mut session = self.best.session.clone();
+                    session.inputs[at] = simpler;
+                    if self.fails(session) {
+                        again = true;
+                        break;
+                    }
+                }
+            }
+            at += 1;
+        }
+    }
+
+    /// Lowers the numbers of all cells together: a write and an add of the same cell have to move
+    /// both.
+    fn lower_cells(&mut self) {
+        for by in [32, 8, 2, 1] {
+            loop {
+                let mut session = self.best.session.clone();
+                let moved = session
+                    .inputs
+                    .iter_mut()
+                    .all(|input| move_cells(input, by).is_some());
+                if !moved || !self.fails(session) {
+                    break;
+                }
+            }
+        }
+    }
+
+    fn lower_sizes(&mut self) {
+        let lower = |n: u32| {
+            [1, n / 2, n.saturating_sub(1)]
+                .into_iter()
+                .filter(move |v| *v >= 1 && *v < n)
+        };
+        let mut again = true;
+        while again {
+            again = false;
+            let Sizes { m, e, b } = self.best.session.sizes;
+            let sizes = lower(m)
+                .map(|m| Sizes { m, e, b })
+                .chain(lower(e).map(|e| Sizes { m, e, b }))
+                .chain(lower(b).map(|b| Sizes { m, e, b }));
+            for sizes in sizes.collect::<Vec<Sizes>>() {
+                let session = Session {
+                    sizes,
+                    ..self.best.session.clone()
+                };
+                if self.fails(session) {
+                    again = true;
+                    break;
+                }
+            }
+        }
+        let session = Session {
+            fill: 0,
+            ..self.best.session.clone()
+        };
+        self.fails(session);
+    }
+}
+
+/// Moves the cells that an input names; None if one of them would fall below 0.
+fn move_cells(input: &mut Input, by: u32) -> Option<()> {
+    match input {
+        Input::Write { at, .. } => *at = at.checked_sub(64 * by as usize)?,
+        Input::Call { call, .. } => match call {
+            Call::Add { first, .. } | Call::Delete { first, .. } => {
+                *first = first.checked_sub(by)?
+            }
+            Call::Look { cell, .. } => *cell = cell.checked_sub(by)?,
+            _ => {}
+        },
+        Input::Damaged { .. } | Input::Lengths { .. } => {}
+    }
+    Some(())
+}
+
+fn lower(n: u32) -> Vec<u32> {
+    let mut list = vec![0, 1, n / 2, n.saturating_sub(1)];
+    list.retain(|v| *v < n);
+    list.dedup();
+    list
+}
+
+fn simpler_call(call: &Call) -> Vec<Call> {
+    let mut list = Vec::new();
+    match *call {
+        Call::Add {
+            handle,
+            first,
+            count,
+            kind,
+            label,
+        } => {
+            list.extend(lower(count).into_iter().map(|count| Call::Add {
+                handle,
+                first,
+                count,
+                kind,
+                label,
+            }));
+            list.extend(lower(first).into_iter().map(|first| Call::Add {
+                handle,
+                first,
+                count,
+                kind,
+                label,
+            }));
+            list.extend(lower(handle).into_iter().map(|handle| Call::Add {
+                handle,
+                first,
+                count,
+                kind,
+                label,
+            }));
+            list.extend(lower(kind).into_iter().map(|kind| Call::Add {
+                handle,
+                first,
+                count,
+                kind,
+                label,
+            }));
+        }
+        Call::Delete {
+            handle,
+            first,
+            count,
+        } => {
+            list.extend(lower(count).into_iter().map(|count| Call::Delete {
+                handle,
+                first,
+                count,
+            }));
+            list.extend(lower(first).into_iter().map(|first| Call::Delete {
+                handle,
+                first,
+                count,
+            }));
+            list.extend(lower(handle).into_iter().map(|handle| Call::Delete {
+                handle,
+                first,
+                count,
+            }));
+        }
+        Call::Commit { handle } => list.extend(
+            lower(handle)
+                .into_iter()
+                .map(|handle| Call::Commit { handle }),
+        ),
+        Call::Advance { handle } => list.extend(
+            lower(handle)
+                .into_iter()
+                .map(|handle| Call::Advance { handle }),
+        ),
+        Call::Restore { handle } => list.extend(
+            lower(handle)
+                .into_iter()
+                .map(|handle| Call::Restore { handle }),
+        ),
+        Call::Look { handle, cell } => {
+            list.extend(
+                lower(handle)
+                    .into_iter()
+                    .map(|handle| Call::Look { handle, cell }),
+            );
+            list.extend(
+                lower(cell)
+                    .into_iter()
+                    .map(|cell| Call::Look { handle, cell }),
+            );
+        }
+        Call::Make | Call::Open | Call::Create | Call::List => {}
+    }
+    list
+}
+
+/// Forms of an input that say less.
+fn simpler(input: &Input) -> Vec<Input> {
+    let mut list = Vec::new();
+    match input {
+        Input::Write { at, bytes } => {
+            if bytes.len() != 64 || at % 64 != 0 || bytes.iter().any(|b| *b != bytes[0]) {
+                list.push(Input::Write {
+                    at: at / 64 * 64,
+                    bytes: vec![bytes[0]; 64],
+                });
+            }
+            if bytes[0] > 1 && bytes.len() == 64 {
+                list.push(Input::Write {
+                    at: *at,
+                    bytes: vec![1; 64],
+                });
+            }
+            if at % 64 == 0 {
+                list.extend(lower((at / 64) as u32).into_iter().map(|c| Input::Write {
+                    at: 64 * c as usize,
+                    bytes: bytes.clone(),
+                }));
+            }
+        }
+        Input::Call {
+            call,
+            budget,
+            openings,
+            every_cut,
+        } => {
+            let with =
+                |call: &Call, budget: u64, openings: &[u64], every_cut: Option<u64>| Input::Call {
+                    call: call.clone(),
+                    budget,
+                    openings: openings.to_vec(),
+                    every_cut,
+                };
+            if every_cut.is_some() {
+                list.push(with(call, *budget, openings, None));
+            }
+            if *budget != u64::MAX {
+                list.push(with(call, u64::MAX, &[], *every_cut));
+                for lowered in [0, budget / 2, budget.saturating_sub(1)] {
+                    if lowered < *budget {
+                        list.push(with(call, lowered, openings, *every_cut));
+                    }
+                }
+            }
+            for drop in 0..openings.len() {
+                let mut fewer = openings.clone();
+                fewer.remove(drop);
+                list.push(with(call, *budget, &fewer, *every_cut));
+            }
+            list.extend(
+                simpler_call(call)
+                    .iter()
+                    .map(|c| with(c, *budget, openings, *every_cut)),
+            );
+        }
+        Input::Damaged { edits, then } => {
+            for drop in 0..edits.len() {
+                let mut fewer = edits.clone();
+                fewer.remove(drop);
+                list.push(Input::Damaged {
+                    edits: fewer,
+                    then: then.clone(),
+                });
+            }
+            for drop in 0..then.len() {
+                let mut fewer = then.clone();
+                fewer.remove(drop);
+                list.push(Input::Damaged {
+                    edits: edits.clone(),
+                    then: fewer,
+                });
+            }
+            for (at, (call, budget)) in then.iter().enumerate() {
+                let mut replace = |call: Call, budget: u64| {
+                    let mut then = then.clone();
+                    then[at] = (call, budget);
+                    list.push(Input::Damaged {
+                        edits: edits.clone(),
+                        then,
+                    });
+                };
+                if *budget != u64::MAX {
+                    replace(call.clone(), u64::MAX);
+                }
+                for simple in simpler_call(call) {
+                    replace(simple, *budget);
+                }
+            }
+        }
+        Input::Lengths { .. } => {}
+    }
+    list
+}

@@ -1,0 +1,288 @@
+//! Document 01's edges on the lent buffers, and fixed cases at both ends of the sizes.
+
+use crate::{agreed, fail, library};
+use domain_model::edges::{Line as Edge, scripts};
+use domain_model::{Call, Lengths, Model, Sizes};
+use domain_sessions::buffers::Buffers;
+use domain_sessions::check::{Checker, Line};
+use domain_sessions::session::{Input, Session};
+use domain_sessions::store::{StandIn, Store};
+
+/// The stand-in goes first, to show that a script itself is right; the account is the library's.
+fn both(script: impl Fn(&mut Checker)) {
+    for (store, counts) in [
+        (Box::new(StandIn { fault: None }) as Box<dyn Store>, false),
+        (library(), true),
+    ] {
+        let mut checker = Checker::new(&*store, Model::default());
+        script(&mut checker);
+        if counts {
+            agreed(&checker.tally);
+        }
+    }
+}
+
+fn made(checker: &mut Checker, sizes: Sizes) -> Line {
+    let mut line = Line::new(Buffers::any(sizes.lengths(), 5), checker.model);
+    line.buffers.memory.get_mut().fill(0);
+    done(checker, &mut line, &Call::Make);
+    line
+}
+
+fn done(checker: &mut Checker, line: &mut Line, call: &Call) {
+    let reply = checker
+        .call(line, call, u64::MAX)
+        .unwrap_or_else(|m| fail(m));
+    assert_eq!(reply.code, 0, "{call}");
+}
+
+#[test]
+fn every_edge() {
+    both(|checker| {
+        for script in scripts() {
+            let name = script.name;
+            let mut line = made(checker, script.sizes);
+            for edge in &script.lines {
+                match edge {
+                    Edge::Fill(cell, byte) => {
+                        line.buffers.memory.get_mut()[64 * *cell as usize..][..64].fill(*byte)
+                    }
+                    Edge::Call(call, answer) => {
+                        checker
+                            .every_cut(&line, call, 3)
+                            .unwrap_or_else(|m| panic!("{name}: {}: {}", m.call, m.what));
+                        let reply = checker
+                            .call(&mut line, call, u64::MAX)
+                            .unwrap_or_else(|m| panic!("{name}: {}: {}", m.call, m.what));
+                        assert_eq!(reply.code, *answer, "{name}: {call}");
+                    }
+                    Edge::CreateGives(handle) => {
+                        let reply = checker
+                            .call(&mut line, &Call::Create, u64::MAX)
+                            .unwrap_or_else(|m| panic!("{name}: {}: {}", m.call, m.what));
+                        assert_eq!((reply.code, reply.handle), (0, *handle), "{name}");
+                    }
+                    Edge::See(cell, byte) => assert_eq!(
+                        line.buffers.memory.get()[64 * *cell as usize..][..64],
+                        [*byte; 64],
+                        "{name}"
+                    ),
+                    Edge::Live(n) => {
+                        let reply = checker
+                            .call(&mut line, &Call::List, u64::MAX)
+                            .unwrap_or_else(|m| panic!("{name}: {}", m.what));
+                        assert_eq!(reply.count as usize, *n, "{name}");
+                    }
+                    Edge::Set(word, value) => {
+                        line.buffers.table.get_mut()[*word] = *value;
+                        line = Line::new(line.buffers.clone(), checker.model);
+                    }
+                }
+            }
+        }
+    });
+}
+
+/// Every call on every length that is nearly right.
+#[test]
+fn lengths() {
+    let calls = [
+        Call::Make,
+        Call::Open,
+        Call::Create,
+        Call::Add {
+            handle: 0,
+            first: 0,
+            count: 1,
+            kind: 0,
+            label: 1,
+        },
+        Call::Delete {
+            handle: 0,
+            first: 0,
+            count: 1,
+        },
+        Call::Commit { handle: 0 },
+        Call::Advance { handle: 0 },
+        Call::Restore { handle: 0 },
+        Call::List,
+        Call::Look { handle: 0, cell: 0 },
+    ];
+    both(|checker| {
+        let line = made(checker, Sizes { m: 2, e: 1, b: 1 });
+        let right = line.buffers.lengths();
+        let mut list = vec![right];
+        list.extend([0, 1, 63, 65, 127, 129, 192].map(|memory| Lengths { memory, ..right }));
+        list.extend(
+            [0, 1, 63, 65, 128, 64 * 4096, 64 * 4096 + 1, 64 * 4097]
+                .map(|bodies| Lengths { bodies, ..right }),
+        );
+        list.extend(
+            [0, 1, 6, 15, 35, 36, 37, 41, 43, 48, 24_612, 24_613, 24_618]
+                .map(|table| Lengths { table, ..right }),
+        );
+        list.extend([64 * 65_536, 64 * 65_537].map(|memory| Lengths { memory, ..right }));
+        for lengths in list {
+            // Four megabytes for each call are for one call only.
+            let few = if lengths.memory > 1 << 20 {
+                2
+            } else {
+                calls.len()
+            };
+            for call in &calls[..few] {
+                let mut other = Line::new(line.buffers.resized(lengths), checker.model);
+                let reply = checker
+                    .call(&mut other, call, u64::MAX)
+                    .unwrap_or_else(|m| panic!("{lengths:?}: {}: {}", m.call, m.what));
+                if lengths.sizes().is_none() {
+                    assert_eq!(reply.code, 1, "{lengths:?}: {call}");
+                }
+            }
+        }
+    });
+}
+
+/// The largest store: nearly all entries and bodies in use, some calls cut at their joints.
+#[test]
+fn the_largest_store() {
+    let cut = |call| Input::Call {
+        call,
+        budget: u64::MAX,
+        openings: vec![],
+        every_cut: Some(11),
+    };
+    let plain = |call| Input::Call {
+        call,
+        budget: u64::MAX,
+        openings: vec![],
+        every_cut: None,
+    };
+    let stopped = |call, budget| Input::Call {
+        call,
+        budget,
+        openings: vec![3, 700],
+        every_cut: None,
+    };
+    let add = |first, count, kind, label| Call::Add {
+        handle: 0,
+        first,
+        count,
+        kind,
+        label,
+    };
+    let write = |at: usize, byte| Input::Write {
+        at,
+        bytes: vec![byte; 5000],
+    };
+    let session = Session {
+        sizes: Sizes {
+            m: 65_536,
+            e: 4_096,
+            b: 4_096,
+        },
+        fill: 77,
+        inputs: vec![
+            plain(Call::Make),
+            plain(Call::Create),
+            plain(add(0, 4097, 0, 1)),
+            plain(add(65_000, 537, 0, 1)),
+            cut(add(65_000, 536, 0, 1)),
+            plain(add(100, 1500, 0, 0)),
+            plain(Call::Create),
+            plain(add(65_000, 500, 1, 1)),
+            stopped(add(0, 1560, 0, 0), 64 * 1560 + 7000),
+            plain(add(0, 1560, 0, 0)),
+            plain(add(2000, 1, 0, 0)),
+            plain(add(65_535, 1, 1, 1)),
+            write(64 * 65_100 + 3, 9),
+            plain(Call::Advance { handle: 2 }),
+            plain(Call::Advance { handle: 2 }),
+            plain(Call::Delete {
+                handle: 2,
+                first: 1000,
+                count: 560,
+            }),
+            stopped(Call::Advance { handle: 2 }, 64 * 500 + 2 * 1000 + 1),
+            cut(Call::Advance { handle: 2 }),
+            write(64 * 65_300 + 40, 8),
+            plain(Call::Look {
+                handle: 1,
+                cell: 65_535,
+            }),
+            plain(Call::Restore { handle: 2 }),
+            plain(Call::Commit { handle: 2 }),
+            plain(Call::Create),
+            plain(add(65_200, 300, 1, 1)),
+            write(64 * 65_250, 7),
+            cut(Call::Restore { handle: 1 }),
+            stopped(Call::Commit { handle: 0 }, 9000),
+        ],
+    };
+    let store = library();
+    let mut checker = Checker::new(&*store, Model::default());
+    if let Err((at, m)) = session.play(&mut checker) {
+        panic!("input {}: {}: {}", at + 1, m.call, m.what);
+    }
+    assert!(
+        checker.tally.entries > 3500,
+        "most entries {}",
+        checker.tally.entries
+    );
+    // One add past memory, three without a free entry, one advance without free bodies; all else
+    // was done or stopped.
+    let refused: Vec<(u32, u64)> = (1..=17)
+        .map(|n| (n, checker.tally.answered(n)))
+        .filter(|(_, times)| *times > 0)
+        .collect();
+    let probes = (3, checker.tally.answered(3));
+    assert_eq!(
+        refused
+            .into_iter()
+            .filter(|r| *r != probes)
+            .collect::<Vec<_>>(),
+        [(8, 1), (16, 3), (17, 1)]
+    );
+    agreed(&checker.tally);
+}
+
+/// Only what the questions ask is asked: a store of the smallest sizes, every call cut at every
+/// step.
+#[test]
+fn the_smallest_store() {
+    both(|checker| {
+        let mut line = made(checker, Sizes { m: 1, e: 1, b: 1 });
+        for call in [
+            Call::Create,
+            Call::Add {
+                handle: 1,
+                first: 0,
+                count: 1,
+                kind: 0,
+                label: 0,
+            },
+            Call::Add {
+                handle: 1,
+                first: 0,
+                count: 1,
+                kind: 1,
+                label: 1,
+            },
+            Call::Create,
+            Call::Restore { handle: 2 },
+            Call::Commit { handle: 2 },
+            Call::Delete {
+                handle: 1,
+                first: 0,
+                count: 1,
+            },
+            Call::Advance { handle: 1 },
+            Call::Restore { handle: 1 },
+            Call::Commit { handle: 1 },
+        ] {
+            checker
+                .every_cut(&line, &call, 1)
+                .unwrap_or_else(|m| fail(m));
+            done(checker, &mut line, &call);
+        }
+    });
+}

@@ -1,0 +1,153 @@
+//! A right store with one small thing done to the buffers after a call: the comparison has to see
+//! each of them.
+
+use crate::found;
+use domain_model::Call;
+use domain_sessions::buffers::Buffers;
+use domain_sessions::run::{Plan, run};
+use domain_sessions::store::{Reply, STOPPED, StandIn, Store};
+use std::time::Duration;
+
+/// What is done after a call.
+type Meddle = fn(&mut Buffers, &Call, &mut Reply);
+
+struct Meddler {
+    meddle: Meddle,
+}
+
+impl Store for Meddler {
+    fn call(&self, buffers: &mut Buffers, call: &Call, budget: u64) -> Reply {
+        let mut reply = StandIn { fault: None }.call(buffers, call, budget);
+        (self.meddle)(buffers, call, &mut reply);
+        reply
+    }
+}
+
+fn flip<T: Copy>(at: &mut [T], place: usize, change: impl Fn(T) -> T) {
+    if let Some(value) = at.get_mut(place) {
+        *value = change(*value);
+    }
+}
+
+/// A store one element past a buffer, as C code could make it.
+fn past<T: Copy>(buffer: &mut [T], change: impl Fn(T) -> T) {
+    // The guards lie in the same allocation, so the place is there.
+    unsafe {
+        let place = buffer.as_mut_ptr().add(buffer.len());
+        *place = change(*place);
+    }
+}
+
+/// A store one element before a buffer.
+fn before<T: Copy>(buffer: &mut [T], change: impl Fn(T) -> T) {
+    // The guards lie in the same allocation, so the place is there.
+    unsafe {
+        let place = buffer.as_mut_ptr().sub(1);
+        *place = change(*place);
+    }
+}
+
+#[test]
+fn each_small_thing_is_seen() {
+    let list: [(&str, Meddle); 16] = [
+        ("one byte past memory", |b, c, _| {
+            if matches!(c, Call::Restore { .. }) {
+                past(b.memory.get_mut(), |v| v ^ 1)
+            }
+        }),
+        ("one byte before memory", |b, c, _| {
+            if matches!(c, Call::Restore { .. }) {
+                before(b.memory.get_mut(), |v| v ^ 1)
+            }
+        }),
+        ("one byte past the bodies", |b, c, _| {
+            if matches!(c, Call::Advance { .. }) {
+                past(b.bodies.get_mut(), |v| v ^ 1)
+            }
+        }),
+        ("one byte before the bodies", |b, c, _| {
+            if matches!(c, Call::Advance { .. }) {
+                before(b.bodies.get_mut(), |v| v ^ 1)
+            }
+        }),
+        ("one word past the table", |b, c, _| {
+            if *c == Call::Make {
+                past(b.table.get_mut(), |v| v ^ 1)
+            }
+        }),
+        ("one word before the table", |b, c, _| {
+            if *c == Call::Open {
+                before(b.table.get_mut(), |v| v ^ 1)
+            }
+        }),
+        ("a spare pair in a refused call", |b, _, r| {
+            let last = b.table.get().len() - 1;
+            if r.code == 17 {
+                flip(b.table.get_mut(), last, |v| v ^ 1);
+            }
+        }),
+        ("a body byte in a refused call", |b, _, r| {
+            if r.code == 12 {
+                flip(b.bodies.get_mut(), 0, |v| v ^ 1)
+            }
+        }),
+        ("a memory byte in a look", |b, c, _| {
+            if matches!(c, Call::Look { .. }) {
+                flip(b.memory.get_mut(), 63, |v| v ^ 1)
+            }
+        }),
+        ("a spare pair in a stopped opening", |b, c, r| {
+            let last = b.table.get().len() - 1;
+            if *c == Call::Open && r.code == STOPPED {
+                flip(b.table.get_mut(), last, |v| v ^ 1);
+            }
+        }),
+        ("a body byte in a delete", |b, c, r| {
+            let last = b.bodies.get().len() - 1;
+            if matches!(c, Call::Delete { .. }) && r.code == 0 {
+                flip(b.bodies.get_mut(), last, |v| v ^ 1);
+            }
+        }),
+        ("a stopped create that tells a handle", |_, c, r| {
+            if *c == Call::Create && r.code == STOPPED {
+                r.handle = 1
+            }
+        }),
+        ("steps told by a refused call", |_, _, r| {
+            if r.code == 15 {
+                r.steps = 1
+            }
+        }),
+        ("a handle left over in a list", |_, c, r| {
+            if *c == Call::List && r.code == 0 && r.count < 8 {
+                r.handles[7] = 9
+            }
+        }),
+        ("a place told by a refused look", |_, c, r| {
+            if matches!(c, Call::Look { .. }) && r.code == 5 {
+                r.place = 1
+            }
+        }),
+        ("a store beside an out parameter", |_, c, r| {
+            if matches!(c, Call::Commit { .. }) {
+                r.strayed = true
+            }
+        }),
+    ];
+    for (name, meddle) in list {
+        let plan = Plan {
+            shrink_for: Duration::ZERO,
+            ..Plan::sessions(9, 400)
+        };
+        let (tally, failure) = run(&Meddler { meddle }, plan);
+        let failure =
+            failure.unwrap_or_else(|| panic!("{name}: not seen in {} calls", tally.calls()));
+        println!(
+            "{name}: seen in session {}, call {}: {}",
+            failure.session,
+            tally.calls(),
+            failure.shrunk.mismatch.what
+        );
+    }
+    found(list.len(), list.len(), "stray stores and wrong answers");
+}

@@ -1,0 +1,43 @@
+//! Random sessions with fixed seeds: no difference, and deep enough to mean something.
+
+use crate::{agreed, library};
+use domain_sessions::check::Tally;
+use domain_sessions::run::{Plan, long, run};
+use domain_sessions::store::{StandIn, Store};
+
+fn no_difference(store: &dyn Store, seed: u64, sessions: u64) -> Tally {
+    let (tally, failure) = run(store, Plan::sessions(seed, sessions));
+    if let Some(failure) = failure {
+        panic!("{}", failure.tell());
+    }
+    tally
+}
+
+#[test]
+fn the_store_and_the_model_agree() {
+    let mut tally = no_difference(&*library(), 1, 500);
+    tally.join(&no_difference(&*library(), 2, 500));
+    agreed(&tally);
+    println!("{}", long(&tally));
+    // A run that never gets to a question says nothing about it.
+    for number in (1..=17).filter(|n| *n != 10) {
+        assert!(
+            tally.answered(number) >= 20,
+            "answer {number} came {} times",
+            tally.answered(number)
+        );
+    }
+    assert!(tally.answered(10) >= 3);
+    assert!(tally.deepest == 8 && tally.chain >= 5);
+    assert!(tally.outward_restores >= 50 && tally.ending_restores >= 500);
+    assert!(
+        tally.turning_advances >= 20 && tally.raising_commits >= 20 && tally.moving_commits >= 100
+    );
+    assert!(tally.cuts >= 10_000 && tally.stopped_openings >= 2_000 && tally.counts >= 2_000);
+}
+
+/// The stand-in is compared too: what the tests of switched-on errors say rests on it.
+#[test]
+fn the_stand_in_and_the_model_agree() {
+    no_difference(&StandIn { fault: None }, 3, 200);
+}

@@ -1,0 +1,143 @@
+//! Every state that a small store can reach: every call in it, and every cut of that call.
+//!
+//! Random sessions find what they happen on; here nothing is left to chance. States that differ in
+//! handles only are looked at once.
+
+use crate::{agreed, library};
+use domain_model::{Call, Holding, Kept, Model, Notebook, Sizes};
+use domain_sessions::buffers::Buffers;
+use domain_sessions::check::{Checker, Line, Mismatch};
+use domain_sessions::run::short;
+use domain_sessions::store::Store;
+use std::collections::{BTreeSet, VecDeque};
+
+type Key = (Vec<Vec<(u32, bool, Option<u8>)>>, Vec<u8>);
+
+fn key(line: &Line) -> Key {
+    let state = line.state().expect("a store");
+    let kept = |h: &Holding| match h.kept {
+        Kept::Copy(bytes) => Some(bytes[0]),
+        Kept::ViaParent => None,
+    };
+    let domains = state
+        .domains
+        .iter()
+        .map(|d| {
+            d.cells
+                .iter()
+                .map(|(c, h)| (*c, h.read_write, kept(h)))
+                .collect()
+        })
+        .collect();
+    (
+        domains,
+        line.buffers.memory.get().chunks(64).map(|c| c[0]).collect(),
+    )
+}
+
+fn walk(
+    store: &dyn Store,
+    sizes: Sizes,
+    most_live: usize,
+) -> Result<(usize, Checker<'_>), Mismatch> {
+    let mut checker = Checker::new(store, Model::default());
+    let mut line = Line::new(Buffers::any(sizes.lengths(), 5), checker.model);
+    line.buffers.memory.get_mut().fill(0);
+    checker.call(&mut line, &Call::Make, u64::MAX)?;
+    line.notebook = Some(Notebook::new(None));
+    let mut seen: BTreeSet<Key> = BTreeSet::from([key(&line)]);
+    let mut waiting = VecDeque::from([line]);
+    while let Some(line) = waiting.pop_front() {
+        let live = line.state().expect("a store").domains.clone();
+        let mut calls = vec![
+            Call::Create,
+            Call::Open,
+            Call::List,
+            Call::Commit { handle: 0 },
+            Call::Advance { handle: 0 },
+        ];
+        let ranges: Vec<(u32, u32)> = (0..sizes.m)
+            .flat_map(|first| (1..=sizes.m - first).map(move |count| (first, count)))
+            .collect();
+        for (first, count) in &ranges {
+            for (kind, label) in [(0, 0), (0, 1), (1, 0), (1, 1)] {
+                calls.push(Call::Add {
+                    handle: 0,
+                    first: *first,
+                    count: *count,
+                    kind,
+                    label,
+                });
+            }
+        }
+        for handle in live.iter().map(|d| d.handle).chain([0, 1000]) {
+            calls.push(Call::Restore { handle });
+            for (first, count) in &ranges {
+                calls.push(Call::Delete {
+                    handle,
+                    first: *first,
+                    count: *count,
+                });
+                calls.push(Call::Look {
+                    handle,
+                    cell: *first,
+                });
+            }
+        }
+        for call in calls {
+            if call == Call::Create && live.len() >= most_live {
+                continue;
+            }
+            checker.every_cut(&line, &call, seen.len() as u64)?;
+            let mut after = line.clone();
+            checker.call(&mut after, &call, u64::MAX)?;
+            if seen.insert(key(&after)) {
+                waiting.push_back(after);
+            }
+        }
+        // The program writes one of two bytes.
+        for (cell, byte) in (0..sizes.m as usize).flat_map(|cell| [(cell, 0), (cell, 1)]) {
+            let mut after = line.clone();
+            after.buffers.memory.get_mut()[64 * cell..64 * cell + 64].fill(byte);
+            after.notebook.as_mut().expect("kept").write(64 * cell, 64);
+            if seen.insert(key(&after)) {
+                waiting.push_back(after);
+            }
+        }
+    }
+    Ok((seen.len(), checker))
+}
+
+fn walked(list: &[(Sizes, usize)]) {
+    let store = library();
+    for (sizes, live) in list {
+        match walk(&*store, *sizes, *live) {
+            Ok((states, checker)) => {
+                println!(
+                    "every state with {sizes:?} and {live} domains at most: {states} states, {}",
+                    short(&checker.tally)
+                );
+                agreed(&checker.tally);
+            }
+            Err(m) => panic!("{sizes:?}: {}: {}", m.call, m.what),
+        }
+    }
+}
+
+#[test]
+fn every_state_of_a_small_store() {
+    walked(&[
+        (Sizes { m: 1, e: 1, b: 1 }, 2),
+        (Sizes { m: 1, e: 2, b: 2 }, 3),
+    ]);
+}
+
+/// Minutes: more entries, more domains, and a second cell.
+#[test]
+#[ignore = "takes minutes"]
+fn every_state_of_larger_small_stores() {
+    walked(&[
+        (Sizes { m: 1, e: 4, b: 3 }, 4),
+        (Sizes { m: 2, e: 3, b: 3 }, 2),
+    ]);
+}

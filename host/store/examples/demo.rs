@@ -1,0 +1,175 @@
+//! The sequencer's story, as a table to show in a training: an advance is cut at every single
+//! store, and the restore that follows never puts a scale of zero on a channel.
+
+use std::error::Error;
+use std::process::ExitCode;
+
+use domain_store::{Buffers, CELL, Handle, Kind, Label, Refusal, Store};
+
+/// The channel's cell: its scale in the first four bytes, its phasing behind it, and filling that
+/// differs from byte to byte, so that a mixture of two cells would show.
+fn channel(scale: f32, phasing: f32) -> [u8; CELL] {
+    let mut cell = [0; CELL];
+    for (place, byte) in (0..).zip(&mut cell) {
+        *byte = place ^ scale.to_bits().to_le_bytes()[2];
+    }
+    cell[..4].copy_from_slice(&scale.to_le_bytes());
+    cell[4..8].copy_from_slice(&phasing.to_le_bytes());
+    cell
+}
+
+fn scale_of(cell: &[u8; CELL]) -> f32 {
+    f32::from_le_bytes([cell[0], cell[1], cell[2], cell[3]])
+}
+
+const CHANNEL: u32 = 0;
+
+/// A store whose only domain holds the channel's cell, and the program has written the new scale
+/// over it.
+fn before_the_advance(
+    store: &mut Store,
+    old: &[u8; CELL],
+    new: &[u8; CELL],
+) -> Result<Handle, Refusal> {
+    store.make()?;
+    *store.cell_mut(CHANNEL) = *old;
+    let cycle = store.create()?;
+    store.add(cycle, CHANNEL..CHANNEL + 1, Kind::Copy, Label::ReadWrite)?;
+    *store.cell_mut(CHANNEL) = *new;
+    Ok(cycle)
+}
+
+/// What one cut came to. Cuts that agree in all of it share a row.
+#[derive(Clone, Copy, PartialEq)]
+struct Seen {
+    whole: bool,
+    opening: u64,
+    scale: u32,
+    wrong: usize,
+}
+
+impl Seen {
+    fn opening_did(&self) -> String {
+        match (self.whole, self.opening) {
+            (false, 0) => "nothing: the advance was not made".into(),
+            (false, steps) => format!("finished the advance ({steps} stores)"),
+            (true, _) => "nothing: the advance was made".into(),
+        }
+    }
+}
+
+fn cut_at(budget: u64, old: &[u8; CELL], new: &[u8; CELL]) -> Result<Seen, Box<dyn Error>> {
+    let mut buffers = Buffers::allocate(4, 8, 8)?;
+    let mut store = buffers.store();
+    let cycle = before_the_advance(&mut store, old, new)?;
+    let whole = store.advance_with_budget(cycle, budget)?.is_done();
+    // The program starts again over the same buffers.
+    let opening = store.open()?;
+    // The card lost what it had: the channel reads zero until the restore.
+    store.cell_mut(CHANNEL).fill(0);
+    store.restore(cycle)?;
+    let checkpoint = if whole || opening > 0 { new } else { old };
+    let wrong = store
+        .cell(CHANNEL)
+        .iter()
+        .zip(checkpoint)
+        .filter(|(found, kept)| found != kept)
+        .count();
+    Ok(Seen {
+        whole,
+        opening,
+        scale: scale_of(store.cell(CHANNEL)).to_bits(),
+        wrong,
+    })
+}
+
+fn main() -> Result<ExitCode, Box<dyn Error>> {
+    let (old, new) = (channel(1.0, 0.012), channel(0.8, 0.015));
+
+    // How many stores does the advance make, uncut?
+    let mut buffers = Buffers::allocate(4, 8, 8)?;
+    let mut store = buffers.store();
+    let cycle = before_the_advance(&mut store, &old, &new)?;
+    let need = store.advance(cycle)?;
+
+    println!("THE DOMAIN STORE: AN ADVANCE THAT IS CUT AT EVERY STORE");
+    println!();
+    let (before, after) = (scale_of(&old), scale_of(&new));
+    println!(
+        "A channel's cell has a scale of {before:?}. A domain holds it read-write. The program"
+    );
+    println!(
+        "writes a new scale of {after:?} and advances: from then on the domain goes back to {after:?}."
+    );
+    println!(
+        "The advance makes {need} stores. The card drops out before each of them in turn, and"
+    );
+    println!("after the last: the program starts again, opens the store, finds zeros in the");
+    println!("cell, and restores.");
+    println!();
+    line(
+        "stores made",
+        "",
+        "what opening did",
+        "scale after",
+        "bytes that",
+    );
+    line("before the cut", "cuts", "", "the restore", "are wrong");
+    println!("  {}", "-".repeat(84));
+
+    let cuts = need + 1;
+    let mut zeros = 0;
+    let mut wrong = 0;
+    let mut run: Option<(u64, Seen)> = None;
+    for budget in 0..=need {
+        let seen = cut_at(budget, &old, &new)?;
+        zeros += u64::from(f32::from_bits(seen.scale) == 0.0);
+        wrong += seen.wrong;
+        match run {
+            Some((_, same)) if same == seen => {}
+            _ => {
+                if let Some((first, before)) = run {
+                    row(first, budget - 1, &before);
+                }
+                run = Some((budget, seen));
+            }
+        }
+    }
+    if let Some((first, last)) = run {
+        row(first, need, &last);
+    }
+
+    println!();
+    if zeros > 0 || wrong > 0 {
+        println!("The scale was zero after {zeros} of {cuts} cuts, and {wrong} bytes were wrong:");
+        println!("this library does not do what it promises.");
+        return Ok(ExitCode::FAILURE);
+    }
+    println!("The scale was never zero: {cuts} cuts.");
+    println!("(Zero would be worst on a dark channel: 0 / 0 is NaN, every comparison with NaN is");
+    println!("false, and the caller would label the whole cycle A.)");
+    Ok(ExitCode::SUCCESS)
+}
+
+/// A row for the cuts from `first` to `last`.
+fn row(first: u64, last: u64, seen: &Seen) {
+    let cuts = last - first + 1;
+    let stores = match cuts {
+        1 if seen.whole => format!("{first} (all)"),
+        1 => format!("{first}"),
+        _ => format!("{first} to {last}"),
+    };
+    let scale = format!("{:?}", f32::from_bits(seen.scale));
+    let wrong = seen.wrong.to_string();
+    line(
+        &stores,
+        &cuts.to_string(),
+        &seen.opening_did(),
+        &scale,
+        &wrong,
+    );
+}
+
+fn line(stores: &str, cuts: &str, opening: &str, scale: &str, wrong: &str) {
+    println!("  {stores:<14} {cuts:>4}   {opening:<34} {scale:>13}   {wrong:>11}");
+}

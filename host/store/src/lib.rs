@@ -1,0 +1,128 @@
+//! A store that puts working memory back after a fault.
+//!
+//! A **cell** is 64 bytes of working memory. A **domain** is a stretch of work that can be redone;
+//! domains stand inside each other, and each **holds** cells by keeping their bytes. Going back to
+//! a domain puts the bytes of its cells back as they stood at its **checkpoint**, which is its
+//! creation or its last advance. If the program stops at any single store and is started again over
+//! the same memory, [`Store::open`] finds the call that was interrupted wholly made or not made.
+//! (Only a make that was interrupted may leave no store, and a restore mixed bytes in the cells that
+//! it was putting back.)
+//!
+//! The calls are those of the C library `libdomain_store.a`, whose code is proved; this crate is
+//! the Rust side of it. A call that cannot be carried out is refused with a [`Refusal`], and
+//! changes nothing.
+//!
+//! # Preserve, write, restore
+//!
+//! ```
+//! use domain_store::{Buffers, Kind, Label};
+//!
+//! // Memory of 4 cells; room for 8 held cells and 8 copies.
+//! let mut buffers = Buffers::allocate(4, 8, 8)?;
+//! let mut store = buffers.store();
+//! store.make()?;
+//!
+//! // Cell 0 has a channel's scale.
+//! store.cell_mut(0)[..4].copy_from_slice(&1.0_f32.to_le_bytes());
+//!
+//! // Preserve: a domain for this cycle holds the cell, since the program is about to write it.
+//! let cycle = store.create()?;
+//! store.add(cycle, 0..1, Kind::Copy, Label::ReadWrite)?;
+//!
+//! // Write: the card drops out and leaves a scale of zero.
+//! store.cell_mut(0)[..4].copy_from_slice(&0.0_f32.to_le_bytes());
+//!
+//! // Restore: the scale is back, to the bit.
+//! store.restore(cycle)?;
+//! assert_eq!(store.cell(0)[..4], 1.0_f32.to_le_bytes());
+//!
+//! // The second try goes well, and the cycle's domain ends.
+//! store.commit(cycle)?;
+//! assert!(store.list()?.is_empty());
+//! # Ok::<(), Box<dyn std::error::Error>>(())
+//! ```
+//!
+//! # A program that was stopped
+//!
+//! Whoever gets a store from an earlier run, or after a fault, opens it first. Here the fault is
+//! played by a budget of steps: each step is one store to a buffer.
+//!
+//! ```
+//! use domain_store::{Buffers, Kind, Label, Store};
+//! # let mut buffers = Buffers::allocate(4, 8, 8)?;
+//! # let mut store = buffers.store();
+//! # store.make()?;
+//! # store.cell_mut(0).fill(7);
+//! let cycle = store.create()?;
+//! store.add(cycle, 0..1, Kind::Copy, Label::ReadWrite)?;
+//! store.cell_mut(0).fill(9);
+//!
+//! // The advance needs 72 steps and gets 70: nearly the whole of it.
+//! assert!(store.advance_with_budget(cycle, 70)?.is_stopped());
+//!
+//! // Opening finishes it, so the domain goes back to the new bytes.
+//! store.open()?;
+//! store.cell_mut(0).fill(0);
+//! store.restore(cycle)?;
+//! assert_eq!(store.cell(0), &[9; 64]);
+//! # Ok::<(), Box<dyn std::error::Error>>(())
+//! ```
+//!
+//! # Where the buffers come from
+//!
+//! [`Store`] takes any three slices. [`Buffers`] are allocated for given sizes; [`MappedBuffers`]
+//! stand in a file, so that a store outlives its process.
+//!
+//! # What holds
+//!
+//! The library's proof says, for every contents of the buffers and every argument, what each call
+//! answers and stores, in which order. It does not cover this crate, whose unsafe code is the
+//! boundary to C (`ffi`, `call`) and to the kernel (`map`). Nothing but the calls and the program's
+//! writes through [`Store::memory_mut`] may change a buffer of a store: for slices Rust sees to
+//! that, for a mapped file the program does.
+//!
+//! A call takes no heap, and stack for its marks: up to 360 KB in an advance (measured), less in the
+//! others. A thread of Rust has 2 MiB where nothing else is asked for.
+
+#![deny(missing_docs)]
+#![deny(unsafe_code)]
+
+#[cfg(not(all(target_os = "linux", target_arch = "x86_64")))]
+compile_error!(
+    "the library libdomain_store.a is machine code for x86-64 Linux, and this target is another"
+);
+
+#[allow(unsafe_code)]
+mod call;
+#[allow(unsafe_code)]
+pub mod ffi;
+#[allow(unsafe_code)]
+mod map;
+
+mod buffers;
+mod names;
+mod outcome;
+mod refusal;
+mod store;
+
+pub use buffers::{Buffers, SizeError, Sizes};
+pub use map::MappedBuffers;
+pub use names::{Domain, Handle, Handles, Innermost, Kind, Label};
+pub use outcome::Outcome;
+pub use refusal::Refusal;
+pub use store::{Place, Store};
+
+/// The bytes of a cell.
+pub const CELL: usize = 64;
+
+/// The most cells that memory can have.
+pub const MAX_CELLS: u32 = 65_536;
+
+/// The most entries that a table can have: one for each cell that a domain holds.
+pub const MAX_ENTRIES: u32 = 4_096;
+
+/// The most bodies that there can be: one for each copy that is kept.
+pub const MAX_BODIES: u32 = 4_096;
+
+/// The most domains that live at a time, one inside the other.
+pub const MAX_DOMAINS: usize = 8;

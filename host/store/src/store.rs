@@ -1,0 +1,726 @@
+//! The calls.
+
+use std::fmt;
+use std::ops::Range;
+
+use crate::call::{self, Answer};
+use crate::{CELL, Domain, Handle, Handles, Kind, Label, Outcome, Refusal, ffi};
+
+/// The budget of a call that must not be stopped: no call needs so many steps. It goes over the C
+/// boundary as any other number, so the compiled library makes the same stores in the same order as
+/// for a small one.
+const UNSTOPPED: u64 = u64::MAX;
+
+/// A store over three buffers that are lent to it: memory, bodies and table.
+///
+/// Everything that the store knows stands in the buffers. Whoever lends the same buffers again has
+/// the same store, in another `Store`, another function or another process. The program writes
+/// memory as it likes between the calls ([`memory_mut`](Store::memory_mut),
+/// [`cell_mut`](Store::cell_mut)); bodies and table are the calls' own.
+///
+/// Each call that changes something has two forms. The plain one runs to its end and gives the
+/// number of steps that it took. The one with a budget stops when the budget is used up, as a fault
+/// at that store would stop it, and gives an [`Outcome`]. After a stopped call every other call is
+/// refused as [`Pending`](Refusal::Pending) or finds the stopped call not made;
+/// [`open`](Store::open) comes next in every case.
+///
+/// ```
+/// use domain_store::{Kind, Label, Sizes, Store};
+///
+/// let sizes = Sizes::new(4, 8, 8)?;
+/// let mut memory = vec![7; sizes.memory_len()];
+/// let mut bodies = vec![0; sizes.bodies_len()];
+/// let mut table = vec![0; sizes.table_len()];
+///
+/// let mut store = Store::new(&mut memory, &mut bodies, &mut table);
+/// store.make()?;
+/// let cycle = store.create()?;
+/// store.add(cycle, 0..4, Kind::Copy, Label::ReadWrite)?;
+///
+/// // The store can be given up and taken up again: its state is in the buffers.
+/// memory.fill(9);
+/// let mut store = Store::new(&mut memory, &mut bodies, &mut table);
+/// store.open()?;
+/// store.restore(cycle)?;
+/// assert!(memory.iter().all(|byte| *byte == 7));
+/// # Ok::<(), Box<dyn std::error::Error>>(())
+/// ```
+pub struct Store<'a> {
+    memory: &'a mut [u8],
+    bodies: &'a mut [u8],
+    table: &'a mut [u32],
+}
+
+/// Where the bytes stand that [`Store::look`] shows.
+///
+/// ```
+/// use domain_store::{Buffers, Kind, Label, Place};
+///
+/// let mut buffers = Buffers::allocate(4, 8, 8)?;
+/// let mut store = buffers.store();
+/// store.make()?;
+/// let cycle = store.create()?;
+/// store.add(cycle, 1..2, Kind::Copy, Label::ReadOnly)?;
+/// assert!(matches!(store.look_place(cycle, 1)?, Place::Bodies { .. }));
+/// assert_eq!(store.look_place(cycle, 3)?, Place::Memory { offset: 3 * 64 });
+/// # Ok::<(), Box<dyn std::error::Error>>(())
+/// ```
+#[derive(Clone, Copy, Debug, PartialEq, Eq, Hash)]
+pub enum Place {
+    /// In memory: nobody from the domain inwards holds the cell, so a restore leaves it alone.
+    Memory {
+        /// The first of the 64 bytes, counted from the start of memory.
+        offset: usize,
+    },
+    /// In bodies: a restore puts these bytes back.
+    Bodies {
+        /// The first of the 64 bytes, counted from the start of bodies.
+        offset: usize,
+    },
+}
+
+impl<'a> Store<'a> {
+    /// A store over these buffers. Nothing is called and nothing is checked: slices of wrong
+    /// lengths, or without a store in them, make the calls answer so. [`Sizes`](crate::Sizes) tells
+    /// the right lengths.
+    ///
+    /// ```
+    /// use domain_store::{Refusal, Store};
+    ///
+    /// let (mut memory, mut bodies, mut table) = ([0; 64], [0; 64], [0; 42]);
+    /// let mut store = Store::new(&mut memory, &mut bodies, &mut table);
+    /// assert_eq!(store.open(), Err(Refusal::NoStore));
+    /// assert_eq!(store.make(), Ok(19));
+    ///
+    /// let mut store = Store::new(&mut memory[1..], &mut bodies, &mut table);
+    /// assert_eq!(store.open(), Err(Refusal::Lengths));
+    /// ```
+    pub fn new(memory: &'a mut [u8], bodies: &'a mut [u8], table: &'a mut [u32]) -> Store<'a> {
+        Store {
+            memory,
+            bodies,
+            table,
+        }
+    }
+
+    /// Gives the buffers back: memory, bodies, table.
+    ///
+    /// ```
+    /// # use domain_store::{Buffers, Store};
+    /// let mut buffers = Buffers::allocate(4, 8, 8)?;
+    /// let mut store = buffers.store();
+    /// store.make()?;
+    /// let (memory, bodies, table) = store.into_buffers();
+    /// assert_eq!((memory.len(), bodies.len(), table[0]), (256, 512, 0xCD51_1E01));
+    /// # Ok::<(), Box<dyn std::error::Error>>(())
+    /// ```
+    pub fn into_buffers(self) -> (&'a mut [u8], &'a mut [u8], &'a mut [u32]) {
+        (self.memory, self.bodies, self.table)
+    }
+
+    // ---- memory between calls
+
+    /// The working memory.
+    pub fn memory(&self) -> &[u8] {
+        self.memory
+    }
+
+    /// The working memory, for the program to write between calls.
+    ///
+    /// A restore brings a byte back for sure if, since its domain was created, every write to the
+    /// byte fell while that domain or one inside it held the byte's cell as [`Label::ReadWrite`],
+    /// and the cell was never deleted from any of those. So hold a cell before you write it.
+    ///
+    /// ```
+    /// # use domain_store::Buffers;
+    /// # let mut buffers = Buffers::allocate(4, 8, 8)?;
+    /// # let mut store = buffers.store();
+    /// store.memory_mut()[64..128].fill(9);
+    /// assert_eq!(store.cell(1), &[9; 64]);
+    /// # Ok::<(), Box<dyn std::error::Error>>(())
+    /// ```
+    pub fn memory_mut(&mut self) -> &mut [u8] {
+        self.memory
+    }
+
+    /// The 64 bytes of a cell of memory.
+    ///
+    /// # Panics
+    ///
+    /// Where memory has no such cell, as an index into a slice does.
+    ///
+    /// ```
+    /// # use domain_store::Buffers;
+    /// # let mut buffers = Buffers::allocate(4, 8, 8)?;
+    /// # let mut store = buffers.store();
+    /// store.cell_mut(3)[..4].copy_from_slice(&1.0_f32.to_le_bytes());
+    /// assert_eq!(store.cell(3)[..4], [0, 0, 128, 63]);
+    /// assert_eq!(store.cell(3)[..], store.memory()[3 * 64..4 * 64]);
+    /// # Ok::<(), Box<dyn std::error::Error>>(())
+    /// ```
+    pub fn cell(&self, cell: u32) -> &[u8; CELL] {
+        let first = cell as usize * CELL;
+        as_cell(&self.memory[first..first + CELL])
+    }
+
+    /// The 64 bytes of a cell of memory, to be written. [`memory_mut`](Store::memory_mut) says
+    /// which writes a restore takes back.
+    ///
+    /// # Panics
+    ///
+    /// Where memory has no such cell, as an index into a slice does.
+    pub fn cell_mut(&mut self, cell: u32) -> &mut [u8; CELL] {
+        let first = cell as usize * CELL;
+        (&mut self.memory[first..first + CELL])
+            .try_into()
+            .expect("the part has 64 bytes")
+    }
+
+    /// The bodies, which are the kept bytes. Only the calls write them.
+    pub fn bodies(&self) -> &[u8] {
+        self.bodies
+    }
+
+    /// The table's words. Only the calls write them.
+    pub fn table(&self) -> &[u32] {
+        self.table
+    }
+
+    // ---- make and open
+
+    /// Makes a fresh store, whatever the buffers had before: no domains, next handle 1. Memory
+    /// keeps its bytes.
+    ///
+    /// Gives the steps that it took: 2e + 17 for e entries.
+    ///
+    /// # Errors
+    ///
+    /// [`Lengths`](Refusal::Lengths) is the only refusal.
+    ///
+    /// ```
+    /// # use domain_store::Buffers;
+    /// let mut buffers = Buffers::allocate(4, 8, 8)?;
+    /// let mut store = buffers.store();
+    /// assert_eq!(store.make()?, 33);
+    /// assert!(store.list()?.is_empty());
+    /// # Ok::<(), Box<dyn std::error::Error>>(())
+    /// ```
+    pub fn make(&mut self) -> Result<u64, Refusal> {
+        self.make_with_budget(UNSTOPPED).map(whole)
+    }
+
+    /// As [`make`](Store::make), with a budget. A make that was stopped after at least one step
+    /// leaves no store: [`open`](Store::open) answers [`NoStore`](Refusal::NoStore), and another
+    /// make is due.
+    ///
+    /// ```
+    /// # use domain_store::{Buffers, Outcome, Refusal};
+    /// let mut buffers = Buffers::allocate(4, 8, 8)?;
+    /// let mut store = buffers.store();
+    /// store.make()?;
+    /// assert_eq!(store.make_with_budget(1)?, Outcome::Stopped { steps: 1 });
+    /// assert_eq!(store.open(), Err(Refusal::NoStore));
+    /// # Ok::<(), Box<dyn std::error::Error>>(())
+    /// ```
+    pub fn make_with_budget(&mut self, budget: u64) -> Result<Outcome, Refusal> {
+        outcome(call::make(self.memory, self.bodies, self.table, budget))
+    }
+
+    /// Opens a store: if a stopped call left changes pending, they are put in place. It is the
+    /// first call after a fault, and the first one on a store from another process.
+    ///
+    /// Gives the steps that it took: 0 where nothing was pending, so that whatever was interrupted
+    /// is not made. (A call whose last store was made is made, with nothing pending.)
+    ///
+    /// # Errors
+    ///
+    /// [`Lengths`](Refusal::Lengths), [`NoStore`](Refusal::NoStore), [`Corrupt`](Refusal::Corrupt).
+    ///
+    /// ```
+    /// # use domain_store::Buffers;
+    /// let mut buffers = Buffers::allocate(4, 8, 8)?;
+    /// let mut store = buffers.store();
+    /// store.make()?;
+    /// assert!(store.create_with_budget(6)?.is_stopped());
+    /// assert_eq!(store.open()?, 0); // the create is not made
+    /// assert!(store.list()?.is_empty());
+    ///
+    /// assert!(store.create_with_budget(7)?.is_stopped());
+    /// assert_eq!(store.open()?, 4); // the create is made
+    /// assert_eq!(store.list()?.len(), 1);
+    /// # Ok::<(), Box<dyn std::error::Error>>(())
+    /// ```
+    pub fn open(&mut self) -> Result<u64, Refusal> {
+        self.open_with_budget(UNSTOPPED).map(whole)
+    }
+
+    /// As [`open`](Store::open), with a budget. A stopped opening is followed by another, as often
+    /// as it takes.
+    pub fn open_with_budget(&mut self, budget: u64) -> Result<Outcome, Refusal> {
+        outcome(call::open(self.memory, self.bodies, self.table, budget))
+    }
+
+    // ---- domains
+
+    /// Creates a domain inside the innermost one, or the first domain. It holds nothing yet; its
+    /// checkpoint is now.
+    ///
+    /// Takes 11 steps.
+    ///
+    /// # Errors
+    ///
+    /// [`TooManyDomains`](Refusal::TooManyDomains), [`NoHandleLeft`](Refusal::NoHandleLeft), and
+    /// those of a store that cannot be used ([`Lengths`](Refusal::Lengths) to
+    /// [`Corrupt`](Refusal::Corrupt), as every call).
+    ///
+    /// ```
+    /// # use domain_store::{Buffers, Refusal};
+    /// let mut buffers = Buffers::allocate(4, 8, 8)?;
+    /// let mut store = buffers.store();
+    /// store.make()?;
+    /// let cycle = store.create()?;
+    /// let tile = store.create()?;
+    /// assert!(cycle < tile); // handles rise
+    /// for _ in 2..8 {
+    ///     store.create()?;
+    /// }
+    /// assert_eq!(store.create(), Err(Refusal::TooManyDomains));
+    /// # Ok::<(), Box<dyn std::error::Error>>(())
+    /// ```
+    pub fn create(&mut self) -> Result<Handle, Refusal> {
+        match self.create_with_budget(UNSTOPPED)? {
+            Outcome::Done { value, .. } => Ok(value),
+            Outcome::Stopped { .. } => stopped_without_budget(),
+        }
+    }
+
+    /// As [`create`](Store::create), with a budget. A stopped create tells no handle:
+    /// [`list`](Store::list) does, after the opening, if the domain is there.
+    pub fn create_with_budget(&mut self, budget: u64) -> Result<Outcome<Handle>, Refusal> {
+        let (answer, handle) = call::create(self.memory, self.bodies, self.table, budget);
+        Ok(match outcome(answer)? {
+            Outcome::Done { steps, .. } => Outcome::Done {
+                steps,
+                value: Handle::new(handle).expect("the library created a domain without a handle"),
+            },
+            Outcome::Stopped { steps } => Outcome::Stopped { steps },
+        })
+    }
+
+    /// Holds cells in the innermost domain, which `domain` has to name.
+    ///
+    /// A cell that the domain does not hold yet is held with memory's bytes: as a copy, or via the
+    /// parent, which holds the same bytes. A cell that it holds already keeps its kind and value;
+    /// it becomes read-write if `label` is, and never goes back. All cells are held, or none.
+    ///
+    /// Gives the steps that it took.
+    ///
+    /// # Errors
+    ///
+    /// [`NoSuchDomain`](Refusal::NoSuchDomain), [`NotInnermost`](Refusal::NotInnermost),
+    /// [`Range`](Refusal::Range); for cells that are new, [`NoFreeEntry`](Refusal::NoFreeEntry),
+    /// for new copies [`NoFreeBody`](Refusal::NoFreeBody), via parent
+    /// [`ParentLacksCell`](Refusal::ParentLacksCell) and [`MemoryDiffers`](Refusal::MemoryDiffers);
+    /// and those of every call.
+    ///
+    /// ```
+    /// use domain_store::{Buffers, Innermost, Kind, Label, Refusal};
+    ///
+    /// let mut buffers = Buffers::allocate(4, 8, 8)?;
+    /// let mut store = buffers.store();
+    /// store.make()?;
+    /// let cycle = store.create()?;
+    /// store.add(cycle, 0..2, Kind::Copy, Label::ReadWrite)?;
+    ///
+    /// let tile = store.create()?;
+    /// store.add(tile, 0..1, Kind::ViaParent, Label::ReadWrite)?;
+    /// store.cell_mut(1).fill(9);
+    /// assert_eq!(store.add(Innermost, 1..2, Kind::ViaParent, Label::ReadWrite), Err(Refusal::MemoryDiffers));
+    /// assert_eq!(store.add(Innermost, 2..3, Kind::ViaParent, Label::ReadWrite), Err(Refusal::ParentLacksCell));
+    /// assert_eq!(store.add(cycle, 2..3, Kind::Copy, Label::ReadWrite), Err(Refusal::NotInnermost));
+    /// assert_eq!(store.add(tile, 4..5, Kind::Copy, Label::ReadOnly), Err(Refusal::Range));
+    /// # Ok::<(), Box<dyn std::error::Error>>(())
+    /// ```
+    pub fn add(
+        &mut self,
+        domain: impl Into<Domain>,
+        cells: Range<u32>,
+        kind: Kind,
+        label: Label,
+    ) -> Result<u64, Refusal> {
+        self.add_with_budget(domain, cells, kind, label, UNSTOPPED)
+            .map(whole)
+    }
+
+    /// As [`add`](Store::add), with a budget.
+    pub fn add_with_budget(
+        &mut self,
+        domain: impl Into<Domain>,
+        cells: Range<u32>,
+        kind: Kind,
+        label: Label,
+        budget: u64,
+    ) -> Result<Outcome, Refusal> {
+        let (first, count) = first_and_count(cells);
+        let add = call::Add {
+            handle: domain.into().number(),
+            first,
+            count,
+            kind: kind.number(),
+            label: label.number(),
+        };
+        outcome(call::add(self.memory, self.bodies, self.table, add, budget))
+    }
+
+    /// Frees cells that a domain holds, in that domain only. A restore of it leaves them alone from
+    /// then on, unless a domain inside it holds them.
+    ///
+    /// Gives the steps that it took.
+    ///
+    /// # Errors
+    ///
+    /// [`NoSuchDomain`](Refusal::NoSuchDomain), [`Range`](Refusal::Range),
+    /// [`NotHeld`](Refusal::NotHeld), [`ChildRelies`](Refusal::ChildRelies), and those of every
+    /// call.
+    ///
+    /// ```
+    /// # use domain_store::{Buffers, Kind, Label, Refusal};
+    /// # let mut buffers = Buffers::allocate(4, 8, 8)?;
+    /// # let mut store = buffers.store();
+    /// # store.make()?;
+    /// let cycle = store.create()?;
+    /// store.add(cycle, 0..2, Kind::Copy, Label::ReadOnly)?;
+    /// let tile = store.create()?;
+    /// store.add(tile, 0..1, Kind::ViaParent, Label::ReadOnly)?;
+    ///
+    /// assert_eq!(store.delete(cycle, 0..1), Err(Refusal::ChildRelies));
+    /// assert_eq!(store.delete(cycle, 1..3), Err(Refusal::NotHeld));
+    /// store.delete(cycle, 1..2)?;
+    /// # Ok::<(), Box<dyn std::error::Error>>(())
+    /// ```
+    pub fn delete(&mut self, domain: impl Into<Domain>, cells: Range<u32>) -> Result<u64, Refusal> {
+        self.delete_with_budget(domain, cells, UNSTOPPED).map(whole)
+    }
+
+    /// As [`delete`](Store::delete), with a budget.
+    pub fn delete_with_budget(
+        &mut self,
+        domain: impl Into<Domain>,
+        cells: Range<u32>,
+        budget: u64,
+    ) -> Result<Outcome, Refusal> {
+        let (first, count) = first_and_count(cells);
+        outcome(call::delete(
+            self.memory,
+            self.bodies,
+            self.table,
+            domain.into().number(),
+            first,
+            count,
+            budget,
+        ))
+    }
+
+    /// Ends the innermost domain, which `domain` has to name, and keeps what the program wrote. Its
+    /// cells go to its parent: one that the parent lacks moves there, one that both hold keeps the
+    /// parent's value, and is read-write there if it was in either. Without a parent all are freed.
+    ///
+    /// Gives the steps that it took.
+    ///
+    /// # Errors
+    ///
+    /// [`NoSuchDomain`](Refusal::NoSuchDomain), [`NotInnermost`](Refusal::NotInnermost), and those
+    /// of every call.
+    ///
+    /// ```
+    /// # use domain_store::{Buffers, Kind, Label};
+    /// # let mut buffers = Buffers::allocate(4, 8, 8)?;
+    /// # let mut store = buffers.store();
+    /// # store.make()?;
+    /// store.cell_mut(0).fill(7);
+    /// let cycle = store.create()?;
+    /// let tile = store.create()?;
+    /// store.add(tile, 0..1, Kind::Copy, Label::ReadWrite)?;
+    /// store.cell_mut(0).fill(9);
+    ///
+    /// // The tile is done. The cycle can still go back to before it.
+    /// store.commit(tile)?;
+    /// assert_eq!(store.cell(0), &[9; 64]);
+    /// store.restore(cycle)?;
+    /// assert_eq!(store.cell(0), &[7; 64]);
+    /// # Ok::<(), Box<dyn std::error::Error>>(())
+    /// ```
+    pub fn commit(&mut self, domain: impl Into<Domain>) -> Result<u64, Refusal> {
+        self.commit_with_budget(domain, UNSTOPPED).map(whole)
+    }
+
+    /// As [`commit`](Store::commit), with a budget.
+    pub fn commit_with_budget(
+        &mut self,
+        domain: impl Into<Domain>,
+        budget: u64,
+    ) -> Result<Outcome, Refusal> {
+        outcome(call::commit(
+            self.memory,
+            self.bodies,
+            self.table,
+            domain.into().number(),
+            budget,
+        ))
+    }
+
+    /// Moves the checkpoint of the innermost domain, which `domain` has to name, to now: each of
+    /// its read-write cells is held with memory's bytes, as a copy. Read-only cells keep what they
+    /// were held with.
+    ///
+    /// The new copies take free bodies, one for each read-write cell, and the old ones become free
+    /// at the end: a fault in between finds either all of the old checkpoint or all of the new one.
+    ///
+    /// Gives the steps that it took.
+    ///
+    /// # Errors
+    ///
+    /// [`NoSuchDomain`](Refusal::NoSuchDomain), [`NotInnermost`](Refusal::NotInnermost),
+    /// [`ParentLacksReadWrite`](Refusal::ParentLacksReadWrite),
+    /// [`NoFreeBody`](Refusal::NoFreeBody), and those of every call.
+    ///
+    /// ```
+    /// # use domain_store::{Buffers, Kind, Label};
+    /// # let mut buffers = Buffers::allocate(4, 8, 8)?;
+    /// # let mut store = buffers.store();
+    /// # store.make()?;
+    /// store.cell_mut(0).fill(7);
+    /// let cycle = store.create()?;
+    /// store.add(cycle, 0..1, Kind::Copy, Label::ReadWrite)?;
+    /// store.cell_mut(0).fill(9);
+    /// store.advance(cycle)?;
+    /// store.cell_mut(0).fill(11);
+    /// store.restore(cycle)?;
+    /// assert_eq!(store.cell(0), &[9; 64]);
+    /// # Ok::<(), Box<dyn std::error::Error>>(())
+    /// ```
+    pub fn advance(&mut self, domain: impl Into<Domain>) -> Result<u64, Refusal> {
+        self.advance_with_budget(domain, UNSTOPPED).map(whole)
+    }
+
+    /// As [`advance`](Store::advance), with a budget.
+    ///
+    /// ```
+    /// # use domain_store::{Buffers, Innermost, Kind, Label, Outcome};
+    /// # let mut buffers = Buffers::allocate(4, 8, 8)?;
+    /// # let mut store = buffers.store();
+    /// # store.make()?;
+    /// # store.create()?;
+    /// # store.add(Innermost, 0..1, Kind::Copy, Label::ReadWrite)?;
+    /// match store.advance_with_budget(Innermost, 30)? {
+    ///     Outcome::Done { steps, .. } => println!("took {steps} steps"),
+    ///     Outcome::Stopped { .. } => {
+    ///         store.open()?;
+    ///     }
+    /// }
+    /// # Ok::<(), Box<dyn std::error::Error>>(())
+    /// ```
+    pub fn advance_with_budget(
+        &mut self,
+        domain: impl Into<Domain>,
+        budget: u64,
+    ) -> Result<Outcome, Refusal> {
+        outcome(call::advance(
+            self.memory,
+            self.bodies,
+            self.table,
+            domain.into().number(),
+            budget,
+        ))
+    }
+
+    /// Goes back to the checkpoint of a domain: each cell that the domain or one inside it holds
+    /// gets the value of the outermost of these holders. All other bytes of memory stay. The
+    /// domains inside it end; the named one stays and can be gone back to again.
+    ///
+    /// Gives the steps that it took.
+    ///
+    /// # Errors
+    ///
+    /// [`NoSuchDomain`](Refusal::NoSuchDomain), and those of every call.
+    ///
+    /// ```
+    /// # use domain_store::{Buffers, Kind, Label};
+    /// # let mut buffers = Buffers::allocate(4, 8, 8)?;
+    /// # let mut store = buffers.store();
+    /// # store.make()?;
+    /// store.memory_mut().fill(7);
+    /// let cycle = store.create()?;
+    /// store.add(cycle, 0..1, Kind::Copy, Label::ReadWrite)?;
+    /// store.cell_mut(0).fill(9);
+    /// let tile = store.create()?;
+    /// store.add(tile, 0..2, Kind::Copy, Label::ReadWrite)?;
+    /// store.cell_mut(1).fill(9);
+    ///
+    /// store.restore(cycle)?;
+    /// assert!(store.memory().iter().all(|byte| *byte == 7));
+    /// assert_eq!(*store.list()?, [cycle]);
+    /// # Ok::<(), Box<dyn std::error::Error>>(())
+    /// ```
+    pub fn restore(&mut self, domain: impl Into<Domain>) -> Result<u64, Refusal> {
+        self.restore_with_budget(domain, UNSTOPPED).map(whole)
+    }
+
+    /// As [`restore`](Store::restore), with a budget. Stopped, it may leave old and new bytes mixed
+    /// in the cells that it puts back, and nowhere else: open the store and restore the same domain
+    /// again, or one around it. Until then the domains inside it may still live, but going back to
+    /// one of them promises nothing.
+    ///
+    /// ```
+    /// # use domain_store::{Buffers, Kind, Label};
+    /// # let mut buffers = Buffers::allocate(4, 8, 8)?;
+    /// # let mut store = buffers.store();
+    /// # store.make()?;
+    /// store.cell_mut(0).fill(7);
+    /// let cycle = store.create()?;
+    /// store.add(cycle, 0..1, Kind::Copy, Label::ReadWrite)?;
+    /// store.cell_mut(0).fill(9);
+    ///
+    /// assert!(store.restore_with_budget(cycle, 10)?.is_stopped());
+    /// assert_eq!(store.cell(0)[8..12], [7, 7, 9, 9]);
+    /// store.open()?;
+    /// store.restore(cycle)?;
+    /// assert_eq!(store.cell(0), &[7; 64]);
+    /// # Ok::<(), Box<dyn std::error::Error>>(())
+    /// ```
+    pub fn restore_with_budget(
+        &mut self,
+        domain: impl Into<Domain>,
+        budget: u64,
+    ) -> Result<Outcome, Refusal> {
+        outcome(call::restore(
+            self.memory,
+            self.bodies,
+            self.table,
+            domain.into().number(),
+            budget,
+        ))
+    }
+
+    // ---- readings
+
+    /// The handles of the live domains, outermost first.
+    ///
+    /// # Errors
+    ///
+    /// Those of every call: [`Lengths`](Refusal::Lengths), [`NoStore`](Refusal::NoStore),
+    /// [`Pending`](Refusal::Pending), [`Corrupt`](Refusal::Corrupt).
+    pub fn list(&self) -> Result<Handles, Refusal> {
+        let (number, words, live) = call::list(self.memory, self.bodies, self.table);
+        match number {
+            ffi::DONE => Ok(Handles::from_words(words, live)),
+            number => Err(refusal(number)),
+        }
+    }
+
+    /// The 64 bytes that a restore of the domain would leave in a cell: a part of bodies, or of
+    /// memory where nobody from that domain inwards holds the cell. Nothing is changed.
+    ///
+    /// # Errors
+    ///
+    /// [`NoSuchDomain`](Refusal::NoSuchDomain), [`Range`](Refusal::Range), and those of every call.
+    ///
+    /// ```
+    /// # use domain_store::{Buffers, Kind, Label, Refusal};
+    /// # let mut buffers = Buffers::allocate(4, 8, 8)?;
+    /// # let mut store = buffers.store();
+    /// # store.make()?;
+    /// store.cell_mut(0).fill(7);
+    /// let cycle = store.create()?;
+    /// store.add(cycle, 0..1, Kind::Copy, Label::ReadWrite)?;
+    /// store.cell_mut(0).fill(9);
+    /// store.cell_mut(1).fill(9);
+    /// assert_eq!(store.look(cycle, 0)?, &[7; 64]);
+    /// assert_eq!(store.look(cycle, 1)?, &[9; 64]); // nobody holds it
+    /// assert_eq!(store.look(cycle, 4), Err(Refusal::Range));
+    /// # Ok::<(), Box<dyn std::error::Error>>(())
+    /// ```
+    pub fn look(&self, domain: impl Into<Domain>, cell: u32) -> Result<&[u8; CELL], Refusal> {
+        Ok(match self.look_place(domain, cell)? {
+            Place::Memory { offset } => as_cell(&self.memory[offset..offset + CELL]),
+            Place::Bodies { offset } => as_cell(&self.bodies[offset..offset + CELL]),
+        })
+    }
+
+    /// Where the bytes stand that [`look`](Store::look) shows, with the same refusals. It also
+    /// tells whether the cell is held at all.
+    pub fn look_place(&self, domain: impl Into<Domain>, cell: u32) -> Result<Place, Refusal> {
+        let (number, place, offset) = call::look(
+            self.memory,
+            self.bodies,
+            self.table,
+            domain.into().number(),
+            cell,
+        );
+        if number != ffi::DONE {
+            return Err(refusal(number));
+        }
+        let offset = usize::try_from(offset).expect("the library told an offset inside a buffer");
+        match place {
+            ffi::IN_MEMORY => Ok(Place::Memory { offset }),
+            ffi::IN_BODIES => Ok(Place::Bodies { offset }),
+            other => panic!(
+                "the library told the place {other}, which is neither memory nor bodies: \
+                 library and crate do not match"
+            ),
+        }
+    }
+}
+
+impl fmt::Debug for Store<'_> {
+    fn fmt(&self, f: &mut fmt::Formatter<'_>) -> fmt::Result {
+        f.debug_struct("Store")
+            .field("memory_len", &self.memory.len())
+            .field("bodies_len", &self.bodies.len())
+            .field("table_len", &self.table.len())
+            .finish()
+    }
+}
+
+fn as_cell(part: &[u8]) -> &[u8; CELL] {
+    part.try_into().expect("the part has 64 bytes")
+}
+
+/// A range as the C functions take it. An empty or reversed one has no cells, which they refuse.
+fn first_and_count(cells: Range<u32>) -> (u32, u32) {
+    (cells.start, cells.end.saturating_sub(cells.start))
+}
+
+fn refusal(number: u32) -> Refusal {
+    Refusal::from_number(number).unwrap_or_else(|| {
+        panic!(
+            "the library answered {number}, which this crate does not know: \
+             library and crate do not match"
+        )
+    })
+}
+
+fn outcome(answer: Answer) -> Result<Outcome, Refusal> {
+    match answer.number {
+        ffi::DONE => Ok(Outcome::Done {
+            steps: answer.steps,
+            value: (),
+        }),
+        ffi::STOPPED => Ok(Outcome::Stopped {
+            steps: answer.steps,
+        }),
+        number => Err(refusal(number)),
+    }
+}
+
+/// The steps of a call that cannot have been stopped.
+fn whole(outcome: Outcome) -> u64 {
+    match outcome {
+        Outcome::Done { steps, .. } => steps,
+        Outcome::Stopped { .. } => stopped_without_budget(),
+    }
+}
+
+fn stopped_without_budget() -> ! {
+    unreachable!("the library stopped a call that had {UNSTOPPED} steps, and none needs so many")
+}

@@ -1,0 +1,523 @@
+//! The wrapper hands every argument and answer on as it is: the edges of the calls, through the
+//! safe interface.
+
+use domain_store::{
+    Buffers, Domain, Handle, Innermost, Kind, Label, Outcome, Place, Refusal, Store, ffi,
+};
+
+fn fresh() -> Buffers {
+    sized(4, 8, 8)
+}
+
+fn sized(m: u32, e: u32, b: u32) -> Buffers {
+    let mut buffers = Buffers::allocate(m, e, b).unwrap();
+    buffers.store().make().unwrap();
+    buffers
+}
+
+fn is_filled(store: &Store, cell: u32, byte: u8) -> bool {
+    store.cell(cell).iter().all(|found| *found == byte)
+}
+
+#[test]
+fn a_copy_comes_back() {
+    let mut buffers = fresh();
+    let mut store = buffers.store();
+    store.cell_mut(0).fill(7);
+    let one = store.create().unwrap();
+    assert_eq!(
+        store.add(one, 0..1, Kind::Copy, Label::ReadWrite),
+        Ok(64 + 3 * 2 + 2)
+    );
+    store.cell_mut(0).fill(9);
+    // Nobody inside ends, so a restore stores the bytes alone.
+    assert_eq!(store.restore(one), Ok(64));
+    assert!(is_filled(&store, 0, 7));
+}
+
+#[test]
+fn an_advance_needs_the_cell_in_the_parent() {
+    let mut buffers = fresh();
+    let mut store = buffers.store();
+    store.create().unwrap();
+    let two = store.create().unwrap();
+    store.add(two, 0..1, Kind::Copy, Label::ReadWrite).unwrap();
+    assert_eq!(store.advance(two), Err(Refusal::ParentLacksReadWrite));
+}
+
+#[test]
+fn a_commit_raises_the_label() {
+    let mut buffers = fresh();
+    let mut store = buffers.store();
+    store.cell_mut(0).fill(7);
+    let one = store.create().unwrap();
+    store.add(one, 0..1, Kind::Copy, Label::ReadOnly).unwrap();
+    let two = store.create().unwrap();
+    store.add(two, 0..1, Kind::Copy, Label::ReadWrite).unwrap();
+    store.cell_mut(0).fill(9);
+    store.commit(two).unwrap();
+    store.advance(one).unwrap();
+    store.cell_mut(0).fill(11);
+    store.restore(one).unwrap();
+    assert!(is_filled(&store, 0, 9));
+}
+
+#[test]
+fn via_parent_needs_the_parents_bytes() {
+    let mut buffers = fresh();
+    let mut store = buffers.store();
+    store.cell_mut(0).fill(7);
+    let one = store.create().unwrap();
+    store.add(one, 0..1, Kind::Copy, Label::ReadWrite).unwrap();
+    store.cell_mut(0).fill(9);
+    let two = store.create().unwrap();
+    assert_eq!(
+        store.add(two, 0..1, Kind::ViaParent, Label::ReadWrite),
+        Err(Refusal::MemoryDiffers)
+    );
+}
+
+#[test]
+fn a_second_add_keeps_the_first_value() {
+    let mut buffers = fresh();
+    let mut store = buffers.store();
+    store.cell_mut(0).fill(7);
+    let one = store.create().unwrap();
+    store.add(one, 0..1, Kind::Copy, Label::ReadWrite).unwrap();
+    let two = store.create().unwrap();
+    store
+        .add(two, 0..1, Kind::ViaParent, Label::ReadWrite)
+        .unwrap();
+    store.cell_mut(0).fill(9);
+    assert_eq!(store.add(two, 0..1, Kind::Copy, Label::ReadWrite), Ok(0));
+    store.restore(two).unwrap();
+    assert!(is_filled(&store, 0, 7));
+}
+
+#[test]
+fn the_oldest_value_wins() {
+    let mut buffers = fresh();
+    let mut store = buffers.store();
+    store.cell_mut(0).fill(7);
+    let one = store.create().unwrap();
+    store.add(one, 0..1, Kind::Copy, Label::ReadWrite).unwrap();
+    store.cell_mut(0).fill(9);
+    let two = store.create().unwrap();
+    store.add(two, 0..1, Kind::Copy, Label::ReadWrite).unwrap();
+    store.restore(one).unwrap();
+    assert!(is_filled(&store, 0, 7));
+    assert_eq!(*store.list().unwrap(), [one]);
+    assert_eq!(store.restore(two), Err(Refusal::NoSuchDomain));
+}
+
+#[test]
+fn a_cell_that_the_child_relies_on_stays() {
+    let mut buffers = fresh();
+    let mut store = buffers.store();
+    let one = store.create().unwrap();
+    store.add(one, 0..1, Kind::Copy, Label::ReadWrite).unwrap();
+    let two = store.create().unwrap();
+    store
+        .add(two, 0..1, Kind::ViaParent, Label::ReadOnly)
+        .unwrap();
+    assert_eq!(store.delete(one, 0..1), Err(Refusal::ChildRelies));
+    store.delete(two, 0..1).unwrap();
+    store.delete(one, 0..1).unwrap();
+    assert_eq!(store.delete(one, 0..1), Err(Refusal::NotHeld));
+}
+
+#[test]
+fn room_is_counted() {
+    let mut buffers = sized(4, 8, 1);
+    let mut store = buffers.store();
+    let one = store.create().unwrap();
+    store.add(one, 0..1, Kind::Copy, Label::ReadWrite).unwrap();
+    assert_eq!(store.advance(one), Err(Refusal::NoFreeBody));
+    let mut buffers = sized(4, 8, 2);
+    let mut store = buffers.store();
+    let one = store.create().unwrap();
+    store.add(one, 0..1, Kind::Copy, Label::ReadWrite).unwrap();
+    assert_eq!(store.advance(one), Ok(72));
+    let mut buffers = sized(4, 1, 8);
+    let mut store = buffers.store();
+    let one = store.create().unwrap();
+    store.add(one, 0..1, Kind::Copy, Label::ReadWrite).unwrap();
+    assert_eq!(
+        store.add(one, 0..2, Kind::Copy, Label::ReadWrite),
+        Err(Refusal::NoFreeEntry)
+    );
+    assert_eq!(store.add(one, 0..1, Kind::Copy, Label::ReadWrite), Ok(0));
+}
+
+#[test]
+fn eight_domains_and_no_more() {
+    let mut buffers = fresh();
+    let mut store = buffers.store();
+    let mut made = Vec::new();
+    for number in 1..=8 {
+        made.push(store.create().unwrap());
+        assert_eq!(made.last().unwrap().get(), number);
+    }
+    assert_eq!(store.create(), Err(Refusal::TooManyDomains));
+    assert_eq!(store.list().unwrap().to_vec(), made);
+    assert_eq!(store.list().unwrap().into_iter().collect::<Vec<_>>(), made);
+}
+
+#[test]
+fn ranges_are_handed_on() {
+    let mut buffers = fresh();
+    let mut store = buffers.store();
+    let one = store.create().unwrap();
+    let mut add = |cells| store.add(one, cells, Kind::Copy, Label::ReadOnly);
+    assert!(add(3..4).is_ok());
+    assert_eq!(add(4..5), Err(Refusal::Range));
+    assert_eq!(add(2..2), Err(Refusal::Range));
+    #[allow(clippy::reversed_empty_ranges)]
+    let reversed = 3..1;
+    assert_eq!(add(reversed), Err(Refusal::Range));
+    assert_eq!(add(0..u32::MAX), Err(Refusal::Range));
+    assert_eq!(add(u32::MAX - 1..u32::MAX), Err(Refusal::Range));
+    assert!(add(0..4).is_ok());
+}
+
+#[test]
+fn nobody_is_innermost_in_an_empty_store() {
+    let mut buffers = fresh();
+    let mut store = buffers.store();
+    let one = store.create().unwrap();
+    store.commit(one).unwrap();
+    assert_eq!(store.restore(Innermost), Err(Refusal::NoSuchDomain));
+    assert_eq!(store.commit(one), Err(Refusal::NoSuchDomain));
+    // A handle is given out once.
+    assert_eq!(store.create().unwrap().get(), 2);
+}
+
+#[test]
+fn innermost_is_the_last_created() {
+    let mut buffers = fresh();
+    let mut store = buffers.store();
+    let one = store.create().unwrap();
+    store
+        .add(Innermost, 0..1, Kind::Copy, Label::ReadOnly)
+        .unwrap();
+    let two = store.create().unwrap();
+    assert_eq!(
+        store.add(Domain::from(one), 1..2, Kind::Copy, Label::ReadOnly),
+        Err(Refusal::NotInnermost)
+    );
+    assert_eq!(store.advance(one), Err(Refusal::NotInnermost));
+    assert_eq!(store.commit(one), Err(Refusal::NotInnermost));
+    store.commit(Innermost).unwrap();
+    assert_eq!(store.look(two, 0), Err(Refusal::NoSuchDomain));
+    store.commit(Innermost).unwrap();
+    assert!(store.list().unwrap().is_empty());
+}
+
+#[test]
+fn a_look_shows_what_a_restore_leaves() {
+    let mut buffers = fresh();
+    let mut store = buffers.store();
+    store.cell_mut(2).fill(7);
+    let one = store.create().unwrap();
+    let two = store.create().unwrap();
+    store.add(two, 2..3, Kind::Copy, Label::ReadWrite).unwrap();
+    store.cell_mut(2).fill(9);
+    assert_eq!(store.look(one, 2), Ok(&[7; 64]));
+    let Place::Bodies { offset } = store.look_place(one, 2).unwrap() else {
+        panic!("the cell is held")
+    };
+    assert_eq!(store.bodies()[offset..offset + 64], [7; 64]);
+    assert_eq!(store.look_place(one, 1), Ok(Place::Memory { offset: 64 }));
+    assert_eq!(store.look(one, 4), Err(Refusal::Range));
+    assert_eq!(
+        store.look(Handle::new(77).unwrap(), 4),
+        Err(Refusal::NoSuchDomain)
+    );
+}
+
+#[test]
+fn every_cut_of_an_advance_is_old_or_new() {
+    let mut outcomes = [0, 0];
+    for budget in 0..=72 {
+        let mut buffers = fresh();
+        let mut store = buffers.store();
+        store.cell_mut(0).fill(7);
+        let one = store.create().unwrap();
+        store.add(one, 0..1, Kind::Copy, Label::ReadWrite).unwrap();
+        store.cell_mut(0).fill(9);
+        let outcome = store.advance_with_budget(one, budget).unwrap();
+        if budget < 72 {
+            assert_eq!(outcome, Outcome::Stopped { steps: budget });
+        } else {
+            assert_eq!(
+                outcome,
+                Outcome::Done {
+                    steps: 72,
+                    value: ()
+                }
+            );
+        }
+        if (69..72).contains(&budget) {
+            assert_eq!(store.list(), Err(Refusal::Pending));
+            assert_eq!(store.restore(one), Err(Refusal::Pending));
+        }
+        let steps = store.open().unwrap();
+        assert_eq!(steps, if (69..72).contains(&budget) { 3 } else { 0 });
+        store.cell_mut(0).fill(0);
+        store.restore(one).unwrap();
+        let made = budget >= 69;
+        assert!(
+            is_filled(&store, 0, if made { 9 } else { 7 }),
+            "budget {budget}"
+        );
+        outcomes[usize::from(made)] += 1;
+    }
+    assert_eq!(outcomes, [69, 4]);
+}
+
+#[test]
+fn a_stopped_create_tells_no_handle() {
+    let mut buffers = fresh();
+    let mut store = buffers.store();
+    let outcome = store.create_with_budget(10).unwrap();
+    assert_eq!(
+        (outcome.steps(), outcome.is_stopped(), outcome.done()),
+        (10, true, None)
+    );
+    store.open().unwrap();
+    assert_eq!(store.list().unwrap().last().unwrap().get(), 1);
+    let outcome = store.create_with_budget(11).unwrap();
+    assert_eq!(
+        (
+            outcome.steps(),
+            outcome.is_done(),
+            outcome.done().map(Handle::get)
+        ),
+        (11, true, Some(2))
+    );
+}
+
+#[test]
+fn a_cut_make_leaves_no_store() {
+    let mut buffers = fresh();
+    let mut store = buffers.store();
+    store.create().unwrap();
+    assert_eq!(store.make_with_budget(0), Ok(Outcome::Stopped { steps: 0 }));
+    assert_eq!(store.list().unwrap().len(), 1);
+    for budget in 1..33 {
+        assert_eq!(
+            store.make_with_budget(budget),
+            Ok(Outcome::Stopped { steps: budget })
+        );
+        assert_eq!(store.open(), Err(Refusal::NoStore));
+        assert_eq!(store.list(), Err(Refusal::NoStore));
+    }
+    assert_eq!(
+        store.make_with_budget(33),
+        Ok(Outcome::Done {
+            steps: 33,
+            value: ()
+        })
+    );
+    assert_eq!(store.create().unwrap().get(), 1);
+}
+
+#[test]
+fn wrong_lengths_are_refused_by_every_call() {
+    let one = Handle::new(1).unwrap();
+    for (memory, bodies, table) in [
+        (0, 64, 42),
+        (63, 64, 42),
+        (64, 0, 42),
+        (64, 65, 42),
+        (64, 64, 0),
+        (64, 64, 36),
+        (64, 64, 41),
+        (64, 64, 43),
+    ] {
+        let (mut memory, mut bodies, mut table) =
+            (vec![1; memory], vec![2; bodies], vec![3; table]);
+        let before = (memory.clone(), bodies.clone(), table.clone());
+        let mut store = Store::new(&mut memory, &mut bodies, &mut table);
+        let cells = 0..1;
+        assert_eq!(store.make(), Err(Refusal::Lengths));
+        assert_eq!(store.open(), Err(Refusal::Lengths));
+        assert_eq!(store.create(), Err(Refusal::Lengths));
+        assert_eq!(
+            store.add(one, cells.clone(), Kind::Copy, Label::ReadOnly),
+            Err(Refusal::Lengths)
+        );
+        assert_eq!(store.delete(one, cells), Err(Refusal::Lengths));
+        assert_eq!(store.commit(one), Err(Refusal::Lengths));
+        assert_eq!(store.advance(one), Err(Refusal::Lengths));
+        assert_eq!(store.restore(one), Err(Refusal::Lengths));
+        assert_eq!(store.list(), Err(Refusal::Lengths));
+        assert_eq!(store.look(one, 0), Err(Refusal::Lengths));
+        assert_eq!((memory, bodies, table), before);
+    }
+}
+
+#[test]
+fn a_corrupt_table_is_refused_and_kept() {
+    let mut buffers = fresh();
+    let mut store = buffers.store();
+    store.create().unwrap();
+    let (memory, bodies, table) = store.into_buffers();
+    table[4] = 9;
+    let before = table.to_vec();
+    let mut store = Store::new(memory, bodies, table);
+    assert_eq!(store.open(), Err(Refusal::Corrupt));
+    assert_eq!(store.create(), Err(Refusal::Corrupt));
+    assert_eq!(store.restore(Innermost), Err(Refusal::Corrupt));
+    assert_eq!(store.look(Innermost, 0), Err(Refusal::Corrupt));
+    assert_eq!(store.table(), before);
+}
+
+#[test]
+fn the_largest_store_works() {
+    let mut buffers = sized(65_536, 4_096, 4_096);
+    let mut store = buffers.store();
+    store.memory_mut().fill(7);
+    let one = store.create().unwrap();
+    store
+        .add(one, 61_440..65_536, Kind::Copy, Label::ReadWrite)
+        .unwrap();
+    store.memory_mut()[61_440 * 64..].fill(9);
+    assert_eq!(store.advance(one), Err(Refusal::NoFreeBody));
+    assert_eq!(store.restore(one), Ok(64 * 4_096));
+    assert!(store.memory().iter().all(|byte| *byte == 7));
+}
+
+#[test]
+fn the_raw_functions_set_their_out_parameters() {
+    let (memory, bodies, mut table) = ([0_u8; 64], [0_u8; 64], [5_u32; 42]);
+    let (mut steps, mut handle, mut handles, mut count) = (77, 77, [77; 8], 77);
+    // SAFETY: the arrays are as long as is said, and nothing overlaps.
+    unsafe {
+        let t = table.as_mut_ptr();
+        assert_eq!(
+            ffi::ds_create(
+                memory.as_ptr(),
+                64,
+                bodies.as_ptr(),
+                64,
+                t,
+                42,
+                u64::MAX,
+                &mut steps,
+                &mut handle
+            ),
+            2
+        );
+        assert_eq!((steps, handle), (0, 0));
+        assert_eq!(
+            ffi::ds_list(
+                memory.as_ptr(),
+                64,
+                bodies.as_ptr(),
+                64,
+                t,
+                42,
+                handles.as_mut_ptr(),
+                &mut count
+            ),
+            2
+        );
+        assert_eq!((handles, count), ([0; 8], 0));
+        let (mut place, mut offset) = (77, 77);
+        assert_eq!(
+            ffi::ds_look(
+                memory.as_ptr(),
+                64,
+                bodies.as_ptr(),
+                64,
+                t,
+                42,
+                0,
+                0,
+                &mut place,
+                &mut offset
+            ),
+            2
+        );
+        assert_eq!((place, offset), (0, 0));
+        // Kind and label reach question 7 only from here.
+        assert_eq!(
+            ffi::ds_make(
+                memory.as_ptr(),
+                64,
+                bodies.as_ptr(),
+                64,
+                t,
+                42,
+                u64::MAX,
+                &mut steps
+            ),
+            0
+        );
+        assert_eq!(steps, 19);
+        assert_eq!(
+            ffi::ds_create(
+                memory.as_ptr(),
+                64,
+                bodies.as_ptr(),
+                64,
+                t,
+                42,
+                u64::MAX,
+                &mut steps,
+                &mut handle
+            ),
+            0
+        );
+        let mut kept = [0_u8; 64];
+        assert_eq!(
+            ffi::ds_add(
+                memory.as_ptr(),
+                64,
+                kept.as_mut_ptr(),
+                64,
+                t,
+                42,
+                handle,
+                0,
+                1,
+                2,
+                0,
+                u64::MAX,
+                &mut steps
+            ),
+            7
+        );
+        assert_eq!(steps, 0);
+        assert_eq!(
+            ffi::ds_add(
+                memory.as_ptr(),
+                64,
+                kept.as_mut_ptr(),
+                64,
+                t,
+                42,
+                handle,
+                0,
+                1,
+                0,
+                2,
+                u64::MAX,
+                &mut steps
+            ),
+            7
+        );
+    }
+}
+
+#[test]
+fn each_refusal_says_what_and_what_to_do() {
+    for refusal in Refusal::ALL {
+        let text = refusal.to_string();
+        assert!(text.ends_with('.') && text.contains(": "), "{text}");
+        assert!(!text.contains("  "), "{text}");
+        assert_eq!(Refusal::from_number(refusal.number()), Some(refusal));
+    }
+    assert_eq!(Refusal::from_number(18), None);
+}
