@@ -1,6 +1,7 @@
 -- The laws of `demands`. Demands has one term of each demand; the others lead to it.
 pub mod Demands
 pub mod Edges
+pub mod Counts
 pub mod Shape
 pub mod Within
 pub mod Seen
