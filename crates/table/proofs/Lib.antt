@@ -4,7 +4,9 @@ pub mod Rule
 pub mod Agree
 pub mod Change
 pub mod Keep
+pub mod Digits
 pub mod Marks
+pub mod Tail
 pub mod Parts
 pub mod Pairs
 pub mod Checks

@@ -1,23 +1,21 @@
--- Laws of marks: what one more entry does to them, for any wanted entries, key and tag; then the passes over the cells of one depth and over
--- the bodies. Assumes nothing.
+-- Laws of marks: what one more entry does to them, for any wanted entries, key and tag; then the passes over the cells and over the bodies. Assumes nothing.
 use Prim.Native.Nat.{ℕ, zero, suc, _+_, _-_, _≤_, _<_}
-use mathlib.Core.Bool.{Bool, true, false, not, _&&_, _||_}
+use mathlib.Core.Bool.{Bool, true, false, not, _&&_}
 use mathlib.Core.List.{List}
 use mathlib.Core.Path.{_≡_, refl, sym, ap, subst, _∙_}
 use mathlib.Core.Logic.{⊎-elim}
 use native.Mathlib.Nat.{not-suc-le-zero, eq-or-lt-of-le, le-of-suc-le-suc}
 use native.Mathlib.Numerals.{add-one}
 use native.Mathlib.Omega.{arith}
-use borrow.Author.Count.{below-none, below-more}
 use borrow.Author.Tests.{eq-eqb, ne-eqb, eqb-true, eqb-false, not-true, not-false}
-use lib.ListN.{length, getD, set, replicate, length-set, length-replicate}
+use lib.ListN.{length, getD, set, replicate, length-replicate}
 use lib.Seq.{getD-set-same, getD-set-other}
 use lib.Dec.{eqb}
-use Rattle.words.specs.Layout.{maxCells}
-use Rattle.words.proofs.Scan.{by-bool, and-split, true≢}
+use Rattle.words.proofs.Scan.{by-bool, and-split, is-false, true≢}
 use Rattle.table.specs.Entry.{word1, word2, depthOf, viaOf, cellOf, parent, findIn}
 use Rattle.table.specs.Rule.{parentOk}
-use Rattle.table.specs.Marks.{Marks, Distinct, zeros, OfDepth, cellIn, markCell, cellFits, Marked, DepthOk, ViaInner, IsCopy, copyWord, markBody, bodyFits}
+use Rattle.table.specs.Marks.{Marks, Distinct, zeros, has, withDepth, cellIn, markAt, markCell, Marked, CellsOnce, Markable, ViaInner, parentTold, IsCopy, copyWord, markBody, bodyFits}
+use Rattle.table.proofs.Digits.{has-none, has-zero, has-here, has-other}
 use Rattle.table.proofs.Entry.{find-some, find-hit}
 use Rattle.table.proofs.Rule.{outer-facts, outer-make}
 
@@ -85,142 +83,101 @@ pub zeros-marks : (Wanted : ℕ → Type 0) (key : ℕ → ℕ) (n : ℕ) → Ma
 zeros-marks Wanted key n = marks-none Wanted key 1 (zeros n) (λ k h. omega (arith, h, zeros-clear n k))
 
 pub zeros-marked : (e : ℕ) (t : List ℕ) (n : ℕ) → Marked e t 0 (zeros n)
-zeros-marked e t n = record { low = λ k. omega (arith, zeros-clear n k); marks = λ l. absurd (not-suc-le-zero l) }
+zeros-marked e t n =
+    record {
+      clear = λ d k low h j l. absurd (not-suc-le-zero l);
+      found = λ d k h. absurd (true≢ h (rw (zeros-clear n k) (has-none d)));
+    }
 
--- ---- the pass of depth d, over marks that the passes of the depths outside left
-module _ (e : ℕ) (t : List ℕ) (d : ℕ) where
-  -- n entries are passed
-  pub record Pass (before : List ℕ) (n : ℕ) (s : List ℕ) : Type 0 where
-    pub long : length s ≡ maxCells
-    pub marks : Marks (OfDepth e t d) (cellIn e t) d n s
-    pub kept : (k : ℕ) → (getD s k 0 ≡ d → ⊥) → getD s k 0 ≡ getD before k 0
-    pub once : Distinct (OfDepth e t d) (cellIn e t) n
-    pub rests : (i : ℕ) → i < n → OfDepth e t d i → parentOk e t i ≡ true
+pub fresh-marks : (e : ℕ) (t : List ℕ) (n : ℕ) (s : List ℕ) → s ≡ zeros n → Markable e t n → Markable e t (length s) × Marked e t 0 s
+fresh-marks e t n s q m = (rw (q, zeros-length n) m, rw q (zeros-marked e t n))
 
-  -- an entry of another depth passes
-  fits-other : (w : ℕ) (s : List ℕ) → eqb (depthOf w) d ≡ false → (cellFits d w s ≡ true) × (markCell d w s ≡ s)
-  unfolding cellFits markCell
-  fits-other w s q = (rw q, rw q)
+-- ---- the pass over the cells
+module _ (e : ℕ) (t : List ℕ) where
+  pub once-none : CellsOnce e t 0
+  once-none i l = absurd (not-suc-le-zero l)
 
-  mark-here : (w : ℕ) (s : List ℕ) → eqb (depthOf w) d ≡ true → markCell d w s ≡ set s (cellOf w) d
-  unfolding markCell
-  mark-here w s q = rw q
+  module _ (n : ℕ) (s : List ℕ) (m : Marked e t n s) where
+    -- an entry that does not fit
+    pub once-not : n < e → has (depthOf (word1 e t n)) (markAt s (word1 e t n)) ≡ true → CellsOnce e t e → ⊥
+    once-not l h once =
+        by-bool (eqb (depthOf (word1 e t n)) 0)
+        (λ z. true≢ h (rw (eqb-true (depthOf (word1 e t n)) 0 z) (has-zero (markAt s (word1 e t n)))))
+        (λ z.
+        let f = m .found (depthOf (word1 e t n)) (cellIn e t n) h in
+        once n l (f .0) (f .1) (omega (arith, eqb-false (depthOf (word1 e t n)) 0 z)) (f .2) (f .3))
 
-  fits-here : (w : ℕ) (s : List ℕ) → eqb (depthOf w) d ≡ true → cellFits d w s ≡ (not (eqb (getD s (cellOf w) 0) d) && (eqb (viaOf w) 0 || eqb (getD s (cellOf w) 0) (parent d)))
-  unfolding cellFits
-  fits-here w s q = rw q
+    -- one that does
+    module _ (free : has (depthOf (word1 e t n)) (markAt s (word1 e t n)) ≡ false) where
+      pub once-more : CellsOnce e t n → CellsOnce e t (n + 1)
+      once-more once i l =
+          split n i l
+          (λ p. subst (λ (x : ℕ). (j : ℕ) → j < x → 1 ≤ depthOf (word1 e t x) → depthOf (word1 e t j) ≡ depthOf (word1 e t x) → cellIn e t j ≡ cellIn e t x → ⊥) (sym p)
+          (λ j k low q r. m .clear (depthOf (word1 e t n)) (cellIn e t n) low free j k q r))
+          (λ p. once i p)
 
-  or-else : (x y : Bool) → (x || y) ≡ true → x ≡ false → y ≡ true
-  or-else true y h q = absurd (true≢ refl q)
-  or-else false y h q = h
+      module _ (fits : cellIn e t n < length s) where
+        mark-here : 1 ≤ depthOf (word1 e t n) → has (depthOf (word1 e t n)) (getD (markCell (word1 e t n) s) (cellIn e t n) 0) ≡ true
+        mark-here low = rw (getD-set-same s (cellIn e t n) (withDepth (depthOf (word1 e t n)) (markAt s (word1 e t n))) 0 fits) (has-here _ _ low free)
 
-  or-neither : (x y : Bool) → (x || y) ≡ false → (x ≡ false) × (y ≡ false)
-  or-neither true y h = absurd (true≢ refl h)
-  or-neither false y h = (refl, h)
+        mark-other : (d k : ℕ) → (d ≡ depthOf (word1 e t n) → k ≡ cellIn e t n → ⊥) → has d (getD (markCell (word1 e t n) s) k 0) ≡ has d (getD s k 0)
+        mark-other d k other =
+            by-bool (eqb k (cellIn e t n))
+            (λ b.
+            let q = eqb-true k (cellIn e t n) b in
+            ap (λ (x : ℕ). has d (getD (markCell (word1 e t n) s) x 0)) q
+            ∙ ap (has d) (getD-set-same s (cellIn e t n) (withDepth (depthOf (word1 e t n)) (markAt s (word1 e t n))) 0 fits)
+            ∙ has-other (depthOf (word1 e t n)) d (markAt s (word1 e t n)) free (λ z. other z q)
+            ∙ ap (λ (x : ℕ). has d (getD s x 0)) (sym q))
+            (λ b. ap (has d) (getD-set-other s (cellIn e t n) k (withDepth (depthOf (word1 e t n)) (markAt s (word1 e t n))) 0 (eqb-false k (cellIn e t n) b)))
 
-  module _ (low : 1 ≤ d) (inner : ViaInner e t) (before : List ℕ) (long : length before ≡ maxCells) (made : Marked e t (d - 1) before) where
-    pub pass-none : Pass before 0 before
-    pass-none =
-        record {
-          long = long;
-          marks = marks-none (OfDepth e t d) (cellIn e t) d before (λ k h. omega (arith, h, made .low k));
-          kept = λ k h. refl;
-          once = distinct-none (OfDepth e t d) (cellIn e t);
-          rests = below-none (λ (i : ℕ). OfDepth e t d i → parentOk e t i ≡ true);
-        }
+        -- is a depth and a cell this entry's?
+        here-or : {C : Type 0} (d k : ℕ) → (d ≡ depthOf (word1 e t n) → k ≡ cellIn e t n → C) → ((d ≡ depthOf (word1 e t n) → k ≡ cellIn e t n → ⊥) → C) → C
+        here-or d k f g =
+            by-bool (eqb d (depthOf (word1 e t n)))
+            (λ a. by-bool (eqb k (cellIn e t n)) (λ b. f (eqb-true _ _ a) (eqb-true _ _ b)) (λ b. g (λ p q. eqb-false _ _ b q)))
+            (λ a. g (λ p q. eqb-false _ _ a p))
 
-    -- the parent holds cell c exactly where the mark is the parent's
-    held : (c : ℕ) → 2 ≤ d → getD before c 0 ≡ d - 1 → findIn e t (d - 1) c < e
-    held c l h =
-        let f = made .marks (omega arith) .found c h in
-        omega (arith, find-some e t (d - 1) c (f .0) (f .1) (f .2) (f .3))
-
-    lacks : (c : ℕ) → 2 ≤ d → (getD before c 0 ≡ d - 1 → ⊥) → findIn e t (d - 1) c < e → ⊥
-    lacks c l h f =
-        let q = find-hit e t (d - 1) c f in
-        made .marks (omega arith) .clear c h (findIn e t (d - 1) c) f (q .0) (q .1)
-
-    module _ (n : ℕ) (s : List ℕ) (l : n < e) (p : Pass before n s) where
-      -- an entry of another depth
-      pass-skip : (depthOf (word1 e t n) ≡ d → ⊥) → Pass before (n + 1) s
-      pass-skip q =
-          record {
-            long = p .long;
-            marks = marks-skip (OfDepth e t d) (cellIn e t) d n s q (p .marks);
-            kept = p .kept;
-            once = distinct-more (OfDepth e t d) (cellIn e t) n (p .once) (λ j k un uj z. q un);
-            rests = below-more (λ (i : ℕ). OfDepth e t d i → parentOk e t i ≡ true) n (p .rests) (λ u. absurd (q u));
-          }
-
-      -- an entry of this depth
-      module _ (here : depthOf (word1 e t n) ≡ d) (fresh : getD s (cellIn e t n) 0 ≡ d → ⊥) where
-        pass-mark : parentOk e t n ≡ true → Pass before (n + 1) (set s (cellIn e t n) d)
-        pass-mark rest =
-            let fits : cellIn e t n < length s = omega (arith, p .long) in
+        pub marked-more : Marked e t (n + 1) (markCell (word1 e t n) s)
+        marked-more =
             record {
-              long = length-set s (cellIn e t n) d ∙ p .long;
-              marks = marks-more (OfDepth e t d) (cellIn e t) d n s here fits (p .marks);
-              kept = λ k h.
-                  by-bool (eqb k (cellIn e t n))
-                  (λ b. absurd (h (subst (λ (x : ℕ). getD (set s (cellIn e t n) d) x 0 ≡ d) (sym (eqb-true k (cellIn e t n) b)) (getD-set-same s (cellIn e t n) d 0 fits))))
-                  (λ b.
-                  let o = getD-set-other s (cellIn e t n) k d 0 (eqb-false k (cellIn e t n) b) in
-                  o ∙ p .kept k (λ z. h (o ∙ z)));
-              once = distinct-more (OfDepth e t d) (cellIn e t) n (p .once) (λ j k un uj z. p .marks .clear (cellIn e t n) fresh j k uj z);
-              rests = below-more (λ (i : ℕ). OfDepth e t d i → parentOk e t i ≡ true) n (p .rests) (λ u. rest);
+              clear = λ d k low h j l q r.
+                  here-or d k
+                  (λ a b. true≢ (rw (a, b) (mark-here (rw a at low))) h)
+                  (λ other.
+                  split n j l
+                  (λ p. other (sym q ∙ ap (λ (x : ℕ). depthOf (word1 e t x)) p) (sym r ∙ ap (cellIn e t) p))
+                  (λ p. m .clear d k low (sym (mark-other d k other) ∙ h) j p q r));
+              found = λ d k h.
+                  here-or d k
+                  (λ a b. (n, omega arith, sym a, sym b))
+                  (λ other. let f = m .found d k (sym (mark-other d k other) ∙ h) in (f .0, omega arith, f .2, f .3));
             }
 
-        -- it rests on the parent where the mark was the parent's, and only there
-        parent-there : (viaOf (word1 e t n) ≡ 0 → ⊥) → getD s (cellIn e t n) 0 ≡ d - 1 → findIn e t (parent (depthOf (word1 e t n))) (cellOf (word1 e t n)) < e
-        parent-there v h =
-            let deep : 2 ≤ d = omega (arith, here, inner n l v) in
-            rw here (held (cellIn e t n) deep (sym (p .kept (cellIn e t n) fresh) ∙ h))
+  -- all entries are marked: the parent's mark tells whether it holds the cell
+  module _ (s : List ℕ) (m : Marked e t e s) (inner : ViaInner e t) where
+    parent-there : (i : ℕ) → i < e → (viaOf (word1 e t i) ≡ 0 → ⊥) → has (parent (depthOf (word1 e t i))) (markAt s (word1 e t i)) ≡ true → parentOk e t i ≡ true
+    parent-there i l v h =
+        let f = m .found (parent (depthOf (word1 e t i))) (cellIn e t i) h in
+        outer-make 0 e 0 t i (λ z. omega (arith, find-some e t (parent (depthOf (word1 e t i))) (cellIn e t i) (f .0) (f .1) (f .2) (f .3), f .1))
 
-        parent-missing : (viaOf (word1 e t n) ≡ 0 → ⊥) → (getD s (cellIn e t n) 0 ≡ d - 1 → ⊥) → parentOk e t n ≡ true → ⊥
-        parent-missing v h ok =
-            let deep : 2 ≤ d = omega (arith, here, inner n l v) in
-            lacks (cellIn e t n) deep (λ z. h (p .kept (cellIn e t n) fresh ∙ z)) (rw here at (outer-facts 0 e 0 t n ok v))
+    parent-missing : (i : ℕ) → i < e → (viaOf (word1 e t i) ≡ 0 → ⊥) → has (parent (depthOf (word1 e t i))) (markAt s (word1 e t i)) ≡ false → parentOk e t i ≡ false
+    parent-missing i l v h =
+        is-false (parentOk e t i) (λ ok.
+        let f = outer-facts 0 e 0 t i ok v in
+        let q = find-hit e t (parent (depthOf (word1 e t i))) (cellIn e t i) f in
+        m .clear (parent (depthOf (word1 e t i))) (cellIn e t i) (omega (arith, inner i l v)) h (findIn e t (parent (depthOf (word1 e t i))) (cellIn e t i)) f (q .0) (q .1))
 
-      pub pass-more : cellFits d (word1 e t n) s ≡ true → Pass before (n + 1) (markCell d (word1 e t n) s)
-      pass-more fits =
-          by-bool (eqb (depthOf (word1 e t n)) d)
-          (λ b.
-          let here = eqb-true (depthOf (word1 e t n)) d b in
-          let f = and-split (not (eqb (getD s (cellIn e t n) 0) d)) (eqb (viaOf (word1 e t n)) 0 || eqb (getD s (cellIn e t n) 0) (parent d)) (sym (fits-here (word1 e t n) s b) ∙ fits) in
-          let fresh = eqb-false (getD s (cellIn e t n) 0) d (not-true _ (f .0)) in
-          subst (Pass before (n + 1)) (sym (mark-here (word1 e t n) s b))
-          (pass-mark here fresh
-          (outer-make 0 e 0 t n (λ v. parent-there here fresh v (eqb-true _ _ (or-else (eqb (viaOf (word1 e t n)) 0) _ (f .1) (ne-eqb _ _ v)))))))
-          (λ b. subst (Pass before (n + 1)) (sym (fits-other (word1 e t n) s b .1)) (pass-skip (eqb-false (depthOf (word1 e t n)) d b)))
-
-      pub pass-stop : cellFits d (word1 e t n) s ≡ false → DepthOk e t d → ⊥
-      pass-stop fits ok =
-          by-bool (eqb (depthOf (word1 e t n)) d)
-          (λ b.
-          let here = eqb-true (depthOf (word1 e t n)) d b in
-          by-bool (eqb (getD s (cellIn e t n) 0) d)
-          (λ y.
-          let f = p .marks .found (cellIn e t n) (eqb-true _ _ y) in
-          ok .once n l (f .0) (f .1) here (f .2) (f .3))
-          (λ y.
-          let fresh = eqb-false (getD s (cellIn e t n) 0) d y in
-          let no : (eqb (viaOf (word1 e t n)) 0 || eqb (getD s (cellIn e t n) 0) (parent d)) ≡ false =
-          ap (λ (x : Bool). not x && (eqb (viaOf (word1 e t n)) 0 || eqb (getD s (cellIn e t n) 0) (parent d))) (sym y) ∙ sym (fits-here (word1 e t n) s b) ∙ fits in
-          let z = or-neither (eqb (viaOf (word1 e t n)) 0) _ no in
-          parent-missing here fresh (eqb-false _ _ (z .0)) (eqb-false _ _ (z .1)) (ok .rests n l here)))
-          (λ b. true≢ (fits-other (word1 e t n) s b .0) fits)
-
-    pub pass-end : (s : List ℕ) → Pass before e s → DepthOk e t d × Marked e t d s
-    pass-end s p = (
-      record { once = p .once; rests = p .rests },
-      record {
-        low = λ k.
-            by-bool (eqb (getD s k 0) d)
-            (λ b. omega (arith, eqb-true (getD s k 0) d b))
-            (λ b. omega (arith, p .kept k (eqb-false (getD s k 0) d b), made .low k));
-        marks = λ z. p .marks;
-      },
-    )
+    pub parent-told : (i : ℕ) → i < e → parentTold (word1 e t i) s ≡ parentOk e t i
+    parent-told i l =
+        by-bool (eqb (viaOf (word1 e t i)) 0)
+        (λ b. rw b (sym (outer-make 0 e 0 t i (λ v. absurd (v (eqb-true _ _ b))))))
+        (λ b.
+        let v = eqb-false _ _ b in
+        rw b
+        (by-bool (has (parent (depthOf (word1 e t i))) (markAt s (word1 e t i)))
+        (λ y. y ∙ sym (parent-there i l v y))
+        (λ y. y ∙ sym (parent-missing i l v y))))
 
 -- ---- the pass over the bodies
 pub copy-word : (e : ℕ) (t : List ℕ) (i : ℕ) → copyWord (word1 e t i) ≡ true → IsCopy e t i
@@ -266,11 +223,3 @@ module _ (e : ℕ) (t : List ℕ) (n : ℕ) (s : List ℕ) (m : Marks (IsCopy e 
         let f = m .found (word2 e t n) (u .1) in
         d n l (f .0) (f .1) (u .0) (f .2) (f .3))),
   )
-
--- ---- the depths, from 1 on
-module _ (P : ℕ → Type 0) where
-  pub depths-none : (d : ℕ) → 1 ≤ d → d < 1 → P d
-  depths-none d low high = absurd (omega arith)
-
-  pub depths-more : (n : ℕ) → ((d : ℕ) → 1 ≤ d → d < n → P d) → P n → (d : ℕ) → 1 ≤ d → d < n + 1 → P d
-  depths-more n h here d low high = split n d high (λ p. subst P (sym p) here) (λ p. h d low p)

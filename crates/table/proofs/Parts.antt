@@ -6,29 +6,29 @@ use mathlib.Core.Path.{_≡_, refl, sym, _∙_}
 use native.Mathlib.Omega.{arith}
 use borrow.Author.Tests.{leb-true, eqb-true, eqb-false}
 use lib.Dec.{leb, eqb}
-use Rattle.words.specs.Layout.{maxLive, maxBodies}
+use Rattle.words.specs.Layout.{maxLive, maxBodies, maxCells}
 use Rattle.words.specs.Scan.{all}
 use Rattle.words.proofs.Scan.{all-at, all-make, and-split, by-bool, is-false, true≢}
-use Rattle.table.specs.Entry.{live, word1, word2, depthOf}
+use Rattle.table.specs.Entry.{live, word1, word2, cellOf}
 use Rattle.table.specs.Rule.{headOk, entryOk, parentOk, apart, ruleOk}
-use Rattle.table.specs.Marks.{Distinct, DepthsOk, ViaInner, IsCopy}
-use Rattle.table.proofs.Rule.{Rule, ok-facts, ok-all, ok-not, parts, entry-used, outer-make, apart-make, via-inner}
+use Rattle.table.specs.Marks.{Distinct, CellsOk, Markable, ViaInner, IsCopy}
+use Rattle.table.proofs.Rule.{Rule, ok-facts, ok-all, ok-not, parts, entry-used, apart-make, via-inner}
 
 module _ (m e b : ℕ) (t : List ℕ) where
   -- ---- a part that fails
   pub no-entries : all e (entryOk m e b t) ≡ false → ruleOk m e b t ≡ false
   no-entries h = is-false (ruleOk m e b t) (λ p. true≢ (parts m e b t p .1) h)
 
-  pub rule-depths : ruleOk m e b t ≡ true → DepthsOk e t
-  rule-depths p d low high =
+  pub rule-cells : ruleOk m e b t ≡ true → CellsOk e t
+  rule-cells p =
       let ok = ok-facts m e b t p in
       record {
-        once = λ i l j k ui uj q. ok .apart-from i l j k (λ z. omega (arith, z, ui)) (λ z. omega (arith, z, uj)) .cells (uj ∙ sym ui) q;
-        rests = λ i l u. all-at e (parentOk e t) (parts m e b t p .2) i l;
+        once = λ i l j k low d c. ok .apart-from i l j k (λ z. omega (arith, z, low)) (λ z. omega (arith, z, low, d)) .cells d c;
+        rests = parts m e b t p .2;
       }
 
-  pub no-depths : (DepthsOk e t → ⊥) → ruleOk m e b t ≡ false
-  no-depths h = is-false (ruleOk m e b t) (λ p. h (rule-depths p))
+  pub no-cells : (CellsOk e t → ⊥) → ruleOk m e b t ≡ false
+  no-cells h = is-false (ruleOk m e b t) (λ p. h (rule-cells p))
 
   pub rule-bodies : Rule m e b t → Distinct (IsCopy e t) (word2 e t) e
   rule-bodies ok i l j k ui uj q = ok .apart-from i l j k (ui .0) (uj .0) .bodies (uj .1) (ui .1) q
@@ -52,23 +52,24 @@ module _ (m e b : ℕ) (t : List ℕ) where
     pub entries-body : b ≤ maxBodies → (i : ℕ) → i < e → IsCopy e t i → word2 e t i < maxBodies
     entries-body s i l u = omega (arith, entry-used m e b t i (all-at e (entryOk m e b t) entries i l) (u .0) .copy (u .1))
 
-    -- ---- all parts hold
-    rests-all : DepthsOk e t → (i : ℕ) → i < e → parentOk e t i ≡ true
-    rests-all depths i l =
+    -- marks for every cell of memory, or for every cell that an entry can name, do
+    pub entries-markable : live t ≤ maxLive → (marks : ℕ) → 0 < marks → ((c : ℕ) → c < m → c < maxCells → c < marks) → Markable e t marks
+    entries-markable small marks any enough i l =
         by-bool (eqb (word1 e t i) 0)
-        (λ z. let free = eqb-true (word1 e t i) 0 z in outer-make m e b t i (λ v. absurd (v (rw free))))
+        (λ z. let free = eqb-true (word1 e t i) 0 z in (omega (arith, free), omega (arith, free)))
         (λ z.
         let u = entry-used m e b t i (all-at e (entryOk m e b t) entries i l) (eqb-false _ _ z) in
-        depths (depthOf (word1 e t i)) (u .low) (u .high) .rests i l refl)
+        (omega (arith, u .high), enough (cellOf (word1 e t i)) (u .cell) (omega arith)))
 
-    pub all-parts : headOk t ≡ true → DepthsOk e t → Distinct (IsCopy e t) (word2 e t) e → ruleOk m e b t ≡ true
-    all-parts head depths single =
-        ok-all m e b t head (all-at e (entryOk m e b t) entries) (rests-all depths)
+    -- ---- all parts hold
+    pub all-parts : headOk t ≡ true → CellsOk e t → Distinct (IsCopy e t) (word2 e t) e → ruleOk m e b t ≡ true
+    all-parts head ok single =
+        ok-all m e b t head (all-at e (entryOk m e b t) entries) (all-at e (parentOk e t) (ok .rests))
         (λ i l. all-make i (λ (j : ℕ). apart e t j i) (λ j k.
         apart-make m e b t i j (λ ui uj.
         let u = entry-used m e b t i (all-at e (entryOk m e b t) entries i l) ui in
         record {
-          cells = λ p q. depths (depthOf (word1 e t i)) (u .low) (u .high) .once i l j k refl p q;
+          cells = λ p q. ok .once i l j k (u .low) p q;
           bodies = λ p q r. single i l j k (ui, q) (uj, p) r;
         })))
 

@@ -1,5 +1,5 @@
 -- The table's rule as facts, and that the computed test and the facts say the same. Assumes nothing.
-use Prim.Native.Nat.{ℕ, zero, suc, _+_, _-_, _*_, _/_, _%_, _≤_, _<_}
+use Prim.Native.Nat.{ℕ, zero, suc, _+_, _-_, _*_, _/_, _%_, _≤_, _<_, min}
 use mathlib.Core.Bool.{Bool, true, false, cond, not, _&&_, _||_}
 use mathlib.Core.List.{List}
 use mathlib.Core.Path.{_≡_, refl, sym, ap, subst, _∙_}
@@ -7,10 +7,10 @@ use native.Mathlib.Omega.{arith}
 use lib.ListN.{getD}
 use lib.Dec.{ltb, leb, eqb}
 use borrow.Author.Tests.{lt-ltb, le-ltb, le-leb, lt-leb, eq-eqb, ne-eqb, ltb-true, ltb-false, leb-true, leb-false, eqb-true, eqb-false}
-use Rattle.words.specs.Layout.{maxLive, pairsAt}
+use Rattle.words.specs.Layout.{maxLive, maxCells, pairsAt}
 use Rattle.words.specs.Journal.{effective}
 use Rattle.words.specs.Scan.{all}
-use Rattle.words.proofs.Scan.{all-at, all-make, and-split, and-join, by-bool, is-false, true≢}
+use Rattle.words.proofs.Scan.{all-at, all-make, and-split, and-join, by-bool, by-le, is-false, true≢}
 use Rattle.table.specs.Entry.{live, nextHandle, word1, word2, depthOf, viaOf, cellOf, unusedOf, parent, findIn, holdsIn}
 use Rattle.table.specs.Rule.{handleOk, headOk, kindOk, entryOk, parentOk, apart, apartBefore, ruleOk, pairsOk, tableOk}
 
@@ -37,11 +37,53 @@ pub record Rule (m e b : ℕ) (t : List ℕ) : Type 0 where
   pub outer : (i : ℕ) → i < e → (viaOf (word1 e t i) ≡ 0 → ⊥) → findIn e t (parent (depthOf (word1 e t i))) (cellOf (word1 e t i)) < e
   pub apart-from : (i : ℕ) → i < e → (j : ℕ) → j < i → (word1 e t i ≡ 0 → ⊥) → (word1 e t j ≡ 0 → ⊥) → Apart e t j i
 
+-- ---- tests with no branch
+pub either : (b x y : Bool) → ((b && x) || (not b && y)) ≡ cond b x y
+either true true y = refl
+either true false y = refl
+either false x y = refl
+
+or-no : (x : Bool) → (x || false) ≡ x
+or-no true = refl
+or-no false = refl
+
+-- the word 0 has depth 0, so that no word passes as free and in use
+pub free-or-used : (w : ℕ) (free used : Bool) → ((eqb w 0 && free) || (leb 1 (depthOf w) && used)) ≡ cond (eqb w 0) free (leb 1 (depthOf w) && used)
+free-or-used w free used =
+    by-bool (eqb w 0)
+    (λ z.
+    let low : leb 1 (depthOf w) ≡ false = lt-leb 1 (depthOf w) (omega (arith, eqb-true w 0 z)) in
+    rw (z, low) (or-no free))
+    (λ z. rw z)
+
+-- the bits below the kind are a cell's number where the unused ones are zero
+pub cell-alone : (w m : ℕ) (rest : Bool) → m ≤ maxCells → (ltb (w % 67_108_864) m && rest) ≡ (eqb (unusedOf w) 0 && (ltb (cellOf w) m && rest))
+cell-alone w m rest l =
+    by-bool (eqb (unusedOf w) 0)
+    (λ z.
+    let none = eqb-true (unusedOf w) 0 z in
+    let same : w % 67_108_864 ≡ cellOf w = omega (arith, none) in
+    rw (z, same))
+    (λ z.
+    let some-bit = eqb-false (unusedOf w) 0 z in
+    rw (z, le-ltb (w % 67_108_864) m (omega (arith, some-bit))))
+
 -- ---- the two agree
 module _ (m e b : ℕ) (t : List ℕ) where
   pub entry-free : (i : ℕ) → entryOk m e b t i ≡ true → word1 e t i ≡ 0 → word2 e t i ≡ 0
   unfolding entryOk
   entry-free i h z = eqb-true _ _ (rw (eq-eqb _ _ z) at h)
+
+  -- an entry names no cell past the most that there are
+  pub entry-least : (i : ℕ) → entryOk (min m maxCells) e b t i ≡ entryOk m e b t i
+  unfolding entryOk
+  entry-least i =
+      let c = cellOf (word1 e t i) in
+      let same : ltb c (min m maxCells) ≡ ltb c m =
+      by-le m c
+      (λ l. le-ltb c (min m maxCells) (omega arith) ∙ sym (le-ltb c m l))
+      (λ l. lt-ltb c (min m maxCells) (omega arith) ∙ sym (lt-ltb c m l)) in
+      rw same
 
   pub entry-used : (i : ℕ) → entryOk m e b t i ≡ true → (word1 e t i ≡ 0 → ⊥) → Used m e b t i
   unfolding entryOk kindOk

@@ -1,11 +1,14 @@
--- Marks made in one pass over the entries. A mark at k equal to `tag` says that some entry passed so far is wanted and has the key k.
-use Prim.Native.Nat.{ℕ, _<_, _≤_}
-use mathlib.Core.Bool.{Bool, true, cond, not, _&&_, _||_}
+-- Marks made in one pass over the entries.
+-- A mark at k equal to `tag` says that some entry passed so far is wanted and has the key k.
+use Prim.Native.Nat.{ℕ, _+_, _*_, _/_, _%_, _^_, _<_, _≤_}
+use mathlib.Core.Bool.{Bool, true, false, cond, not, _&&_, _||_}
 use mathlib.Core.Path.{_≡_}
 use mathlib.Core.List.{List}
 use lib.Dec.{eqb}
 use lib.ListN.{getD, set, replicate}
-use Rattle.table.specs.Entry.{live, word1, word2, depthOf, viaOf, cellOf, parent}
+use Rattle.words.specs.Layout.{maxLive}
+use Rattle.words.specs.Scan.{all}
+use Rattle.table.specs.Entry.{word1, word2, depthOf, viaOf, cellOf, parent}
 use Rattle.table.specs.Rule.{parentOk}
 
 module _ (Wanted : ℕ → Type 0) (key : ℕ → ℕ) (tag : ℕ) where
@@ -17,41 +20,55 @@ module _ (Wanted : ℕ → Type 0) (key : ℕ → ℕ) (tag : ℕ) where
 abbrev pub Distinct : (ℕ → Type 0) → (ℕ → ℕ) → ℕ → Type 0
 Distinct Wanted key n = (i : ℕ) → i < n → (j : ℕ) → j < i → Wanted i → Wanted j → key j ≡ key i → ⊥
 
+-- the entries from the n-th on are free
+abbrev pub FreeFrom : ℕ → List ℕ → ℕ → Type 0
+FreeFrom e t n = (i : ℕ) → n ≤ i → i < e → word1 e t i ≡ 0
+
 unfoldable pub zeros : ℕ → List ℕ
 zeros n = replicate n 0
 
--- ---- the cells, one pass for each depth: the mark of a cell is the deepest depth passed so far that holds it
+-- ---- the cells: the mark of a cell is the set of the depths passed so far that have it, depth d as bit d - 1
 
--- the entries of depth d, by cell
-abbrev pub OfDepth : ℕ → List ℕ → ℕ → ℕ → Type 0
-OfDepth e t d i = depthOf (word1 e t i) ≡ d
+-- does a mark have depth d? It has no depth 0, which free entries have
+abbrev pub has : ℕ → ℕ → Bool
+has d mark = eqb (2 * mark / 2 ^ d % 2) 1
+
+-- a mark with one depth more
+abbrev pub withDepth : ℕ → ℕ → ℕ
+withDepth d mark = mark + 2 ^ d / 2
 
 abbrev pub cellIn : ℕ → List ℕ → ℕ → ℕ
 cellIn e t i = cellOf (word1 e t i)
 
--- the marks after an entry with first word w, in the pass of depth d
-unfoldable pub markCell : ℕ → ℕ → List ℕ → List ℕ
-markCell d w seen = cond (eqb (depthOf w) d) (set seen (cellOf w) d) seen
+-- the mark of the cell of an entry with first word w
+abbrev pub markAt : List ℕ → ℕ → ℕ
+markAt seen w = getD seen (cellOf w) 0
 
--- may that entry stand: depth d has its cell for the first time, and where it is via parent the parent has it too
-unfoldable pub cellFits : ℕ → ℕ → List ℕ → Bool
-cellFits d w seen =
-    cond (eqb (depthOf w) d)
-    (not (eqb (getD seen (cellOf w) 0) d) && (eqb (viaOf w) 0 || eqb (getD seen (cellOf w) 0) (parent d)))
-    true
+-- the marks after that entry
+abbrev pub markCell : ℕ → List ℕ → List ℕ
+markCell w seen = set seen (cellOf w) (withDepth (depthOf w) (markAt seen w))
 
--- the passes of the depths up to d are made
-pub record Marked (e : ℕ) (t : List ℕ) (d : ℕ) (seen : List ℕ) : Type 0 where
-  pub low : (k : ℕ) → getD seen k 0 ≤ d
-  pub marks : 1 ≤ d → Marks (OfDepth e t d) (cellIn e t) d e seen
+-- what the marks of all entries tell of an entry with first word w: it is no via parent entry, or its parent has its cell
+abbrev pub parentTold : ℕ → List ℕ → Bool
+parentTold w seen = eqb (viaOf w) 0 || has (parent (depthOf w)) (markAt seen w)
 
--- depth d has no cell twice, and its via parent entries rest on its parent
-pub record DepthOk (e : ℕ) (t : List ℕ) (d : ℕ) : Type 0 where
-  pub once : Distinct (OfDepth e t d) (cellIn e t) e
-  pub rests : (i : ℕ) → i < e → OfDepth e t d i → parentOk e t i ≡ true
+-- n entries are marked
+pub record Marked (e : ℕ) (t : List ℕ) (n : ℕ) (seen : List ℕ) : Type 0 where
+  pub clear : (d k : ℕ) → 1 ≤ d → has d (getD seen k 0) ≡ false → (j : ℕ) → j < n → depthOf (word1 e t j) ≡ d → cellIn e t j ≡ k → ⊥
+  pub found : (d k : ℕ) → has d (getD seen k 0) ≡ true → (j : ℕ) × (j < n) × (depthOf (word1 e t j) ≡ d) × (cellIn e t j ≡ k)
 
-abbrev pub DepthsOk : ℕ → List ℕ → Type 0
-DepthsOk e t = (d : ℕ) → 1 ≤ d → d ≤ live t → DepthOk e t d
+-- no depth has a cell twice among the first n entries
+abbrev pub CellsOnce : ℕ → List ℕ → ℕ → Type 0
+CellsOnce e t n = (i : ℕ) → i < n → (j : ℕ) → j < i → 1 ≤ depthOf (word1 e t i) → depthOf (word1 e t j) ≡ depthOf (word1 e t i) → cellIn e t j ≡ cellIn e t i → ⊥
+
+-- no depth has a cell twice, and via parent entries rest on their parents
+pub record CellsOk (e : ℕ) (t : List ℕ) : Type 0 where
+  pub once : CellsOnce e t e
+  pub rests : all e (parentOk e t) ≡ true
+
+-- every entry's depth has a bit, and its cell a mark
+abbrev pub Markable : ℕ → List ℕ → ℕ → Type 0
+Markable e t marks = (i : ℕ) → i < e → (depthOf (word1 e t i) ≤ maxLive) × (cellIn e t i < marks)
 
 -- via parent entries are not outermost
 abbrev pub ViaInner : ℕ → List ℕ → Type 0

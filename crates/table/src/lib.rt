@@ -1,7 +1,8 @@
 // The table's rule: questions 1, 2 and 4 of document 01, for a table of any contents.
 //
-// Question 4 takes one pass over the entries for each live depth, with a mark for each cell, and one with a mark for each body, so
-// that it does not compare each entry with each. While pairs are pending it looks at a copy in which they are in place.
+// Question 4 asks every entry by itself. The entries up to the last one in use it then passes twice with a mark for each cell and once with a
+// mark for each body, however many domains are live, so that it does not compare each entry with each. The passes over words and cells take no
+// branch on what an entry holds, which would often be guessed wrong. While pairs are pending it looks at a copy in which they are in place.
 use words::layout::BODIES_AT;
 use words::layout::CELLS_AT;
 use words::layout::LIVE_AT;
@@ -20,12 +21,13 @@ use words::layout::handle_at;
 use words::layout::pairs_at;
 use words::layout::second_at;
 use words::layout::slots_of;
+use words::least;
 use words::remaining;
 use words::wide;
 use words::write_pair;
 ghost use mathlib.Core.Path.{_≡_};
-ghost use mathlib.Core.Bool.{true, false, cond, _&&_};
-ghost use Prim.Native.Nat.{ℕ, _+_, _-_, _*_, _<_, _≤_};
+ghost use mathlib.Core.Bool.{true, false, cond, not, _&&_};
+ghost use Prim.Native.Nat.{ℕ, _+_, _-_, _*_, _<_, _≤_, min};
 ghost use lib.ListN.{length, getD, take};
 ghost use lib.Dec.{ltb, leb, eqb};
 ghost use Rattle.words.specs.Layout.{pairsAt, tableWords, maxSlots, maxBodies, maxCells, maxLive, handleAt};
@@ -33,10 +35,10 @@ ghost use Rattle.words.specs.Scan.{all};
 ghost use Rattle.words.specs.Stores.{stores};
 ghost use Rattle.words.specs.Journal.{nameOk, namesOk, pairs, pairPlans, effective};
 ghost use Rattle.table.specs.Changes.{put, entryStores};
-ghost use Rattle.table.specs.Entry.{live, names, word1, word2, viaOf, depthOf};
+ghost use Rattle.table.specs.Entry.{names, word1, word2, viaOf, depthOf, cellOf, parent};
 ghost use Rattle.table.specs.Checks.{lengthsOk, headerOk};
-ghost use Rattle.table.specs.Rule.{handleOk, headOk, entryOk, pairsOk, ruleOk, tableOk};
-ghost use Rattle.table.specs.Marks.{Marks, Distinct, DepthOk, DepthsOk, Marked, ViaInner, IsCopy, copyWord, markCell, cellFits, markBody, bodyFits, zeros};
+ghost use Rattle.table.specs.Rule.{handleOk, headOk, entryOk, parentOk, pairsOk, ruleOk, tableOk};
+ghost use Rattle.table.specs.Marks.{Marks, Distinct, FreeFrom, has, withDepth, markAt, markCell, Marked, CellsOnce, CellsOk, Markable, ViaInner, parentTold, IsCopy, copyWord, markBody, bodyFits, zeros};
 
 // ---- questions 1 and 2
 
@@ -133,74 +135,109 @@ pub fn head_ok(table: &[u32]) -> bool
 // ---- an entry by itself
 
 // Is the second word of an entry in use right for its kind: a body, or 0 for via parent, which is never outermost?
-fn kind_ok(word: u32, second: u32, bodies: usize) -> bool
+fn kind_ok(word: u32, second: u32, bodies: u32) -> bool
     ensures { λ r. ⌜ r ≡ cond (eqb (viaOf word) 0) (ltb second bodies) (eqb second 0 && leb 2 (depthOf word)) ⌝ }
 {
-    if word / 67108864 % 2 == 0 {
-        return wide(second) < bodies;
-    }
-    (second == 0) & (2 <= word / 268435456)
+    let copy = word / 67108864 % 2 == 0;
+    (copy & (second < bodies)) | (!copy & ((second == 0) & (2 <= word / 268435456)))
 }
 
-// Are the two words of entry i right by themselves?
-fn entry_ok(table: &[u32], cells: usize, slots: usize, bodies: usize, i: usize) -> bool
-    requires { ⌜ (i < slots) × (slots ≤ maxSlots) × (pairsAt slots ≤ length (now table)) ⌝ }
+// Are the two words of entry i right by themselves? The word 0 has depth 0, so that one of the two tests applies. Below the kind, a word that
+// names one of the cells has no other bit.
+fn entry_ok(table: &[u32], cells: u32, slots: usize, bodies: u32, i: usize) -> bool
+    requires { ⌜ (i < slots) × (slots ≤ maxSlots) × (pairsAt slots ≤ length (now table)) × (cells ≤ maxCells) ⌝ }
     ensures { λ r. ⌜ r ≡ entryOk cells slots bodies (now (table .entry)) i ⌝ }
 {
     let word = first_word(table, slots, i);
     let second = second_word(table, slots, i);
-    if word == 0 {
-        return second == 0;
-    }
     let depth = word / 268435456;
-    (1 <= depth)
-        & ((depth <= table[LIVE_AT])
-            & ((word / 65536 % 1024 == 0)
-                & ((wide(word % 65536) < cells) & kind_ok(word, second, bodies))))
+    let free = (word == 0) & (second == 0);
+    free
+        | ((1 <= depth)
+            & ((depth <= table[LIVE_AT])
+                & ((word % 67108864 < cells) & kind_ok(word, second, bodies))))
 }
 
-// Is every entry right by itself?
+// So many cells as a word. More than an entry can name count as that.
+fn cells_word(cells: usize) -> u32
+    ensures { λ r. ⌜ r ≡ min cells maxCells ⌝ }
+{
+    least(cells, MAX_CELLS) as u32
+}
+
+// Is every entry right by itself? All are asked, with no branch.
 fn entries_ok(table: &[u32], cells: usize, slots: usize, bodies: usize) -> bool
-    requires { ⌜ (slots ≤ maxSlots) × (pairsAt slots ≤ length (now table)) ⌝ }
+    requires { ⌜ (slots ≤ maxSlots) × (pairsAt slots ≤ length (now table)) × (bodies ≤ maxBodies) ⌝ }
     ensures { λ r. ⌜ r ≡ all slots (entryOk cells slots bodies (now (table .entry))) ⌝ }
 {
+    let most = cells_word(cells);
+    let mut right = true;
     let mut i: usize = 0;
     while i < slots {
-        if !entry_ok(table, cells, slots, bodies, i) {
-            return false;
-        }
+        right = right & entry_ok(table, most, slots, bodies as u32, i);
         i += 1;
     }
-    true
+    right
+}
+
+// How many entries there are up to the last one in use. Entries are taken from the front, so that a table with room to spare is short.
+fn last_in_use(table: &[u32], slots: usize) -> usize
+    requires { ⌜ (slots ≤ maxSlots) × (pairsAt slots ≤ length (now table)) ⌝ }
+    ensures { λ r. ⌜ (r ≤ slots) × FreeFrom slots (now (table .entry)) r ⌝ }
+{
+    let mut n = slots;
+    while 0 < n {
+        if first_word(table, slots, n - 1) != 0 {
+            return n;
+        }
+        n -= 1;
+    }
+    0
 }
 
 // ---- entries beside each other: the cells
 
-// Marks the cell of an entry of this depth. False where the depth has the cell already, or where a via parent entry's parent lacks it:
-// a parent that holds the cell has marked it in the pass before.
-fn mark_cell(seen: &mut [u8], word: u32, depth: u8) -> bool
-    requires { ⌜ (length (now seen) ≡ maxCells) × (1 ≤ depth) ⌝ }
-    ensures { λ r. ⌜ (r ≡ cellFits depth word (now (seen .entry))) × (now (seen .exit) ≡ markCell depth word (now (seen .entry))) ⌝ }
+// Does a mark have this depth? The shift takes no branch, where scattered depths would be guessed wrong.
+fn has_depth(mark: u8, depth: u32) -> bool
+    requires { ⌜ depth < 16 ⌝ }
+    ensures { λ r. ⌜ r ≡ has depth mark ⌝ }
 {
-    if word / 268435456 != depth as u32 {
-        return true;
-    }
-    let cell = wide(word % 65536);
-    let before = seen[cell];
-    seen[cell] = depth;
-    (before != depth) & ((word / 67108864 % 2 == 0) | (before == depth - 1))
+    ((2 * mark as u32) >> depth) % 2 == 1
 }
 
-// The pass of one depth, after those of the depths outside it.
-fn mark_depth(table: &[u32], slots: usize, depth: u8, seen: &mut [u8]) -> bool
-    requires { ⌜ (slots ≤ maxSlots) × (pairsAt slots ≤ length (now table)) × (length (now seen) ≡ maxCells) × (1 ≤ depth) ⌝ }
-    requires { ⌜ ViaInner slots (now table) × Marked slots (now table) (depth - 1) (now seen) ⌝ }
-    ensures { λ r. ⌜ (r ≡ true → DepthOk slots (now (table .entry)) depth × Marked slots (now (table .entry)) depth (now (seen .exit))) × (r ≡ false → DepthOk slots (now (table .entry)) depth → ⊥) ⌝ }
+// A mark with one depth more.
+fn with_depth(mark: u8, depth: u32) -> u8
+    requires { ⌜ (depth ≤ maxLive) × (has depth mark ≡ false) ⌝ }
+    ensures { λ r. ⌜ r ≡ withDepth depth mark ⌝ }
+{
+    mark + ((1u32 << depth) / 2) as u8
+}
+
+// Marks the cell of an entry. False where the entry's depth has the cell already. A free entry fits and leaves the marks as they are.
+fn mark_cell(seen: &mut [u8], word: u32) -> bool
+    requires { ⌜ (depthOf word ≤ maxLive) × (cellOf word < length (now seen)) ⌝ }
+    ensures { λ r. ⌜ (r ≡ not (has (depthOf word) (markAt (now (seen .entry)) word))) × (r ≡ true → now (seen .exit) ≡ markCell word (now (seen .entry))) ⌝ }
+{
+    let depth = word / 268435456;
+    let cell = wide(word % 65536);
+    let mark = seen[cell];
+    if has_depth(mark, depth) {
+        return false;
+    }
+    seen[cell] = with_depth(mark, depth);
+    true
+}
+
+// Marks the cells of all entries, up to the first that does not fit.
+fn mark_cells(table: &[u32], slots: usize, seen: &mut [u8]) -> bool
+    requires { ⌜ (slots ≤ maxSlots) × (pairsAt slots ≤ length (now table)) ⌝ }
+    requires { ⌜ Markable slots (now table) (length (now seen)) × Marked slots (now table) 0 (now seen) ⌝ }
+    ensures { λ r. ⌜ (r ≡ true → CellsOnce slots (now (table .entry)) slots × Marked slots (now (table .entry)) slots (now (seen .exit))) × (r ≡ false → CellsOnce slots (now (table .entry)) slots → ⊥) ⌝ }
 {
     let mut i: usize = 0;
     while i < slots {
         let word = first_word(table, slots, i);
-        if !mark_cell(seen, word, depth) {
+        if !mark_cell(seen, word) {
             return false;
         }
         i += 1;
@@ -208,20 +245,49 @@ fn mark_depth(table: &[u32], slots: usize, depth: u8, seen: &mut [u8]) -> bool
     true
 }
 
-// The passes of all live depths, the outermost first.
-fn mark_depths(table: &[u32], slots: usize, seen: &mut [u8]) -> bool
-    requires { ⌜ (slots ≤ maxSlots) × (pairsAt slots ≤ length (now table)) × (length (now seen) ≡ maxCells) × (live (now table) ≤ maxLive) ⌝ }
-    requires { ⌜ ViaInner slots (now table) × Marked slots (now table) 0 (now seen) ⌝ }
-    ensures { λ r. ⌜ (r ≡ true → DepthsOk slots (now (table .entry))) × (r ≡ false → DepthsOk slots (now (table .entry)) → ⊥) ⌝ }
+// Does a mark have the depth outside this one: is the bit below its own set?
+fn has_parent(mark: u8, depth: u32) -> bool
+    requires { ⌜ depth < 16 ⌝ }
+    ensures { λ r. ⌜ (1 ≤ depth → r ≡ has (parent depth) mark) ⌝ }
 {
-    let mut depth: u8 = 1;
-    while depth as u32 <= table[LIVE_AT] {
-        if !mark_depth(table, slots, depth, seen) {
-            return false;
-        }
-        depth += 1;
+    ((4 * mark as u32) >> depth) % 2 == 1
+}
+
+// Is an entry not via parent, or has its parent marked its cell?
+fn parent_marked(seen: &[u8], word: u32) -> bool
+    requires { ⌜ (cellOf word < length (now seen)) × ((viaOf word ≡ 0 → ⊥) → 2 ≤ depthOf word) ⌝ }
+    ensures { λ r. ⌜ r ≡ parentTold word (now (seen .entry)) ⌝ }
+{
+    let mark = seen[wide(word % 65536)];
+    (word / 67108864 % 2 == 0) | has_parent(mark, word / 268435456)
+}
+
+// Does every via parent entry rest on its parent? All are asked, with no branch.
+fn parents_ok(table: &[u32], slots: usize, seen: &[u8]) -> bool
+    requires { ⌜ (slots ≤ maxSlots) × (pairsAt slots ≤ length (now table)) ⌝ }
+    requires { ⌜ Markable slots (now table) (length (now seen)) × Marked slots (now table) slots (now seen) × ViaInner slots (now table) ⌝ }
+    ensures { λ r. ⌜ r ≡ all slots (parentOk slots (now (table .entry))) ⌝ }
+{
+    let mut rest = true;
+    let mut i: usize = 0;
+    while i < slots {
+        let word = first_word(table, slots, i);
+        rest = rest & parent_marked(seen, word);
+        i += 1;
     }
-    true
+    rest
+}
+
+// Has no depth a cell twice, and does every via parent entry rest on its parent? With a mark for each cell, none made yet.
+fn marks_ok(table: &[u32], slots: usize, seen: &mut [u8]) -> bool
+    requires { ⌜ (slots ≤ maxSlots) × (pairsAt slots ≤ length (now table)) ⌝ }
+    requires { ⌜ Markable slots (now table) (length (now seen)) × Marked slots (now table) 0 (now seen) × ViaInner slots (now table) ⌝ }
+    ensures { λ r. ⌜ (r ≡ true → CellsOk slots (now (table .entry))) × (r ≡ false → CellsOk slots (now (table .entry)) → ⊥) ⌝ }
+{
+    if !mark_cells(table, slots, seen) {
+        return false;
+    }
+    parents_ok(table, slots, seen)
 }
 
 // No cell is marked. A function of its own, so that the checker does not write the list out.
@@ -231,13 +297,41 @@ fn no_cells() -> [u8; 65536]
     [0u8; 65536]
 }
 
-// Has no depth a cell twice, and does every via parent entry rest on its parent?
-fn cells_ok(table: &[u32], slots: usize) -> bool
-    requires { ⌜ (slots ≤ maxSlots) × (pairsAt slots ≤ length (now table)) × (live (now table) ≤ maxLive) × ViaInner slots (now table) ⌝ }
-    ensures { λ r. ⌜ (r ≡ true → DepthsOk slots (now (table .entry))) × (r ≡ false → DepthsOk slots (now (table .entry)) → ⊥) ⌝ }
+// The same for a small memory, where clearing marks for the largest would take longer than all else.
+fn no_few_cells() -> [u8; 1024]
+    ensures { λ r. ⌜ r ≡ zeros 1024 ⌝ }
+{
+    [0u8; 1024]
+}
+
+// Are the entries' cells right, in a small memory?
+fn few_cells_ok(table: &[u32], slots: usize) -> bool
+    requires { ⌜ (slots ≤ maxSlots) × (pairsAt slots ≤ length (now table)) × Markable slots (now table) 1024 × ViaInner slots (now table) ⌝ }
+    ensures { λ r. ⌜ (r ≡ true → CellsOk slots (now (table .entry))) × (r ≡ false → CellsOk slots (now (table .entry)) → ⊥) ⌝ }
+{
+    let mut seen = no_few_cells();
+    marks_ok(table, slots, &mut seen)
+}
+
+// Are they, in any memory?
+fn many_cells_ok(table: &[u32], slots: usize) -> bool
+    requires { ⌜ (slots ≤ maxSlots) × (pairsAt slots ≤ length (now table)) × Markable slots (now table) 65536 × ViaInner slots (now table) ⌝ }
+    ensures { λ r. ⌜ (r ≡ true → CellsOk slots (now (table .entry))) × (r ≡ false → CellsOk slots (now (table .entry)) → ⊥) ⌝ }
 {
     let mut seen = no_cells();
-    mark_depths(table, slots, &mut seen)
+    marks_ok(table, slots, &mut seen)
+}
+
+// Are they? Entries that are right by themselves name cells of memory.
+fn cells_ok(table: &[u32], cells: usize, slots: usize) -> bool
+    requires { ⌜ (slots ≤ maxSlots) × (pairsAt slots ≤ length (now table)) × ViaInner slots (now table) ⌝ }
+    requires { ⌜ Markable slots (now table) 65536 × (cells ≤ 1024 → Markable slots (now table) 1024) ⌝ }
+    ensures { λ r. ⌜ (r ≡ true → CellsOk slots (now (table .entry))) × (r ≡ false → CellsOk slots (now (table .entry)) → ⊥) ⌝ }
+{
+    if cells <= 1024 {
+        return few_cells_ok(table, slots);
+    }
+    many_cells_ok(table, slots)
 }
 
 // ---- entries beside each other: the bodies
@@ -305,10 +399,11 @@ pub fn rule_ok(table: &[u32], cells: usize, slots: usize, bodies: usize) -> bool
     if !entries_ok(table, cells, slots, bodies) {
         return false;
     }
-    if !cells_ok(table, slots) {
+    let used = last_in_use(table, slots);
+    if !cells_ok(table, cells, used) {
         return false;
     }
-    bodies_ok(table, slots)
+    bodies_ok(table, used)
 }
 
 // ---- pending pairs

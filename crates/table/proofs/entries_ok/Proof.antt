@@ -1,30 +1,34 @@
--- `table::entries_ok` meets its contract. The loop's invariant: every entry passed is right by itself. Assumes nothing.
-use Prim.Native.Nat.{ℕ, _-_, _≤_, _<_}
-use mathlib.Core.Path.{_≡_, sym, _∙_}
-use mathlib.Core.Bool.{true}
+-- `table::entries_ok` meets its contract. The loop's invariant: `right` tells whether every entry passed is right by itself. Assumes nothing.
+use Prim.Native.Nat.{ℕ, _-_, _≤_}
+use mathlib.Core.Path.{_≡_, sym, ap, _∙_}
+use mathlib.Core.Bool.{Bool, _&&_}
 use native.Mathlib.Omega.{arith}
-use borrow.Author.Tests.{not-true, not-false}
 use borrow.Author.Needs.{needs}
-use borrow.Author.Count.{below-none, below-more}
-use Rattle.words.proofs.Scan.{all-make, all-not}
+use borrow.Author.Count.{below-none}
+use Rattle.words.specs.Scan.{all}
+use Rattle.words.proofs.Scan.{all-make, all-next}
 use Rattle.table.specs.Rule.{entryOk}
+use Rattle.table.proofs.Rule.{entry-least}
 use Rattle.table.proofs.entries_ok.Statement.{statement}
 use Rattle.table.proofs.entries_ok.Tie as tie
 
 abbrev Inv-loop : tie.InvT-loop
-Inv-loop table cells slots bodies i₀ i = (i ≤ slots) × ((k : ℕ) → k < i → entryOk cells slots bodies table k ≡ true)
+Inv-loop table cells slots bodies most right₀ i₀ right i = (i ≤ slots) × (right ≡ all i (entryOk cells slots bodies table))
 
 abbrev μ-loop : tie.MeasureT-loop
-μ-loop table cells slots bodies i₀ i = slots - i
+μ-loop table cells slots bodies most right₀ i₀ right i = slots - i
+
+cells-word-requires : tie.Need-cells-word-requires Inv-loop μ-loop
+cells-word-requires c κs = search needs
 
 loop-holds : tie.Need-loop-holds Inv-loop μ-loop
-loop-holds c = (search needs, below-none _)
+loop-holds c = (search needs, sym (all-make 0 _ (below-none _)))
+
+cast-entry-ok : tie.Need-cast-entry-ok Inv-loop μ-loop
+cast-entry-ok c = search needs
 
 entry-ok-requires : tie.Need-entry-ok-requires Inv-loop μ-loop
-entry-ok-requires c κs = search needs
-
-returns : tie.Need-returns Inv-loop μ-loop
-returns c = sym (all-not _ _ _ (c .before .before .loop-test .taken) (sym (c .before .entry-ok .ensures) ∙ not-true _ (c .if1 .taken)))
+entry-ok-requires c κs = (search needs, search needs, search needs, omega (arith, c .before .before .cells-word .ensures))
 
 add-i : tie.Need-add-i Inv-loop μ-loop
 add-i c = search needs
@@ -33,10 +37,19 @@ loop-less : tie.Need-loop-less Inv-loop μ-loop
 loop-less c = search needs
 
 loop-again : tie.Need-loop-again Inv-loop μ-loop
-loop-again c = (search needs, below-more _ _ (c .before .before .before .loop .inv .1) (sym (c .before .entry-ok .ensures) ∙ not-false _ (c .if1 .left)))
+loop-again c =
+    let turn = c .before .before .loop in
+    let a = c .before .before .before .before .before .args in
+    let f = entryOk (a .cells) (a .slots) (a .bodies) (a .table .now) in
+    let here : c .entry-ok .result ≡ f (turn .i) =
+    c .entry-ok .ensures ∙ ap (λ (m : ℕ). entryOk m (a .slots) (a .bodies) (a .table .now) (turn .i)) (c .before .before .before .cells-word .ensures) ∙ entry-least (a .cells) (a .slots) (a .bodies) (a .table .now) (turn .i) in
+    (omega arith, rw (turn .inv .1, here) (all-next (turn .i) f))
 
-returns-2 : tie.Need-returns-2 Inv-loop μ-loop
-returns-2 c = sym (all-make _ _ (λ j l. c .before .loop .inv .1 j (omega arith)))
+returns : tie.Need-returns Inv-loop μ-loop
+returns c =
+    let a = c .before .before .before .before .args in
+    let e : c .before .loop .i ≡ a .slots = omega arith in
+    c .before .loop .inv .1 ∙ ap (λ (n : ℕ). all n (entryOk (a .cells) (a .slots) (a .bodies) (a .table .now))) e
 
 pub entries-ok-spec : {M : Type 1} → statement M
 entries-ok-spec =
@@ -44,10 +57,11 @@ entries-ok-spec =
     (tie.spec
     Inv-loop
     μ-loop
+    cells-word-requires
     loop-holds
+    cast-entry-ok
     entry-ok-requires
-    returns
     add-i
     loop-less
     loop-again
-    returns-2)
+    returns)

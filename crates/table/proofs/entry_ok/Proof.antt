@@ -1,9 +1,9 @@
 -- `table::entry_ok` meets its contract. Assumes nothing.
-use Prim.Native.Nat.{ℕ}
-use mathlib.Core.Path.{_≡_, sym, subst, _∙_}
-use borrow.Author.Tests.{eq-eqb, ne-eqb}
 use borrow.Author.Needs.{needs}
+use lib.Dec.{eqb}
+use Rattle.table.specs.Entry.{word1, word2}
 use Rattle.table.specs.Rule.{entryOk, kindOk}
+use Rattle.table.proofs.Rule.{free-or-used, cell-alone}
 use Rattle.table.proofs.entry_ok.Statement.{statement}
 use Rattle.table.proofs.entry_ok.Tie as tie
 
@@ -13,22 +13,20 @@ first-word-requires c κs = search needs
 second-word-requires : tie.Need-second-word-requires
 second-word-requires c κs = search needs
 
-returns : tie.Need-returns
-unfolding entryOk
-returns c = rw (eq-eqb _ _ (sym (c .before .before .first-word .ensures) ∙ c .if1 .taken), c .before .second-word .ensures)
-
 shared-slice-read-result : tie.Need-shared-slice-read-result
 shared-slice-read-result c = search needs
-
-wide-requires : tie.Need-wide-requires
-wide-requires c κs = search needs
 
 kind-ok-requires : tie.Need-kind-ok-requires
 kind-ok-requires c κs = search needs
 
-returns-2 : tie.Need-returns-2
+returns : tie.Need-returns
 unfolding entryOk kindOk
-returns-2 c = rw (c .kind-ok .ensures, c .before .wide .ensures, c .before .before .before .before .second-word .ensures, ne-eqb _ _ (subst (λ (x : ℕ). x ≡ 0 → ⊥) (c .before .before .before .before .before .first-word .ensures) (c .before .before .before .if1 .left)), c .before .before .before .before .before .first-word .ensures)
+returns c =
+    let start = c .before .before .before .before .before in
+    let a = start .args in
+    let t = a .table .now in
+    rw (c .kind-ok .ensures, c .before .before .second-word .ensures, c .before .before .before .first-word .ensures, cell-alone (word1 (a .slots) t (a .i)) (a .cells) (kindOk (a .slots) (a .bodies) t (a .i)) (start .pre .3))
+    (free-or-used (word1 (a .slots) t (a .i)) (eqb (word2 (a .slots) t (a .i)) 0) _)
 
 pub entry-ok-spec : {M : Type 1} → statement M
 entry-ok-spec =
@@ -36,8 +34,6 @@ entry-ok-spec =
     (tie.spec
     first-word-requires
     second-word-requires
-    returns
     shared-slice-read-result
-    wide-requires
     kind-ok-requires
-    returns-2)
+    returns)

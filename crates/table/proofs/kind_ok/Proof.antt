@@ -1,17 +1,15 @@
 -- `table::kind_ok` meets its contract. Assumes nothing.
-use borrow.Author.Tests.{eq-eqb, ne-eqb}
-use borrow.Author.Needs.{needs}
+use mathlib.Core.Bool.{_&&_}
+use lib.Dec.{ltb, leb, eqb}
+use Rattle.table.specs.Entry.{viaOf, depthOf}
+use Rattle.table.proofs.Rule.{either}
 use Rattle.table.proofs.kind_ok.Statement.{statement}
 use Rattle.table.proofs.kind_ok.Tie as tie
 
-wide-requires : tie.Need-wide-requires
-wide-requires c κs = search needs
-
 returns : tie.Need-returns
-returns c = rw (eq-eqb _ _ (c .before .if1 .taken), c .wide .ensures)
-
-returns-2 : tie.Need-returns-2
-returns-2 c = rw (ne-eqb _ _ (c .if1 .left))
+returns c =
+    let a = c .args in
+    either (eqb (viaOf (a .word)) 0) (ltb (a .second) (a .bodies)) (eqb (a .second) 0 && leb 2 (depthOf (a .word)))
 
 pub kind-ok-spec : {M : Type 1} → statement M
-kind-ok-spec = tie.close (tie.spec wide-requires returns returns-2)
+kind-ok-spec = tie.close (tie.spec returns)

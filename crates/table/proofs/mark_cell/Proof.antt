@@ -1,42 +1,48 @@
 -- `table::mark_cell` meets its contract. Assumes nothing.
-use native.Mathlib.Omega.{arith}
-use borrow.Author.Tests.{eq-eqb, ne-eqb}
+use mathlib.Core.Path.{refl, sym, ap, _∙_}
+use mathlib.Core.Bool.{not}
 use borrow.Author.Needs.{needs}
-use Rattle.table.specs.Marks.{markCell, cellFits}
+use Rattle.words.proofs.Scan.{true≢}
 use Rattle.table.proofs.mark_cell.Statement.{statement}
 use Rattle.table.proofs.mark_cell.Tie as tie
-
-returns : tie.Need-returns
-unfolding markCell cellFits
-returns c = (rw (ne-eqb _ _ (c .if1 .taken)), rw (ne-eqb _ _ (c .if1 .taken)))
 
 wide-requires : tie.Need-wide-requires
 wide-requires c κs = search needs
 
-slice-read-before : tie.Need-slice-read-before
-slice-read-before c = omega (arith, c .before .wide .ensures)
+slice-read-mark : tie.Need-slice-read-mark
+slice-read-mark c = search needs
+
+has-depth-requires : tie.Need-has-depth-requires
+has-depth-requires c κs = search needs
+
+returns : tie.Need-returns
+returns c =
+    let taken = rw (c .before .before .before .wide .ensures) at (sym (c .before .has-depth .ensures) ∙ c .if1 .taken) in
+    (ap not (sym taken), (λ r. absurd (true≢ r refl)))
+
+with-depth-requires : tie.Need-with-depth-requires
+with-depth-requires c κs = (search needs, sym (c .before .has-depth .ensures) ∙ c .if1 .left)
 
 slice-write-seen : tie.Need-slice-write-seen
-slice-write-seen c = omega (arith, c .before .wide .ensures)
-
-sub-result : tie.Need-sub-result
-sub-result c = search needs
+slice-write-seen c = search needs
 
 same-length : tie.Need-same-length
 same-length c = search needs
 
 returns-2 : tie.Need-returns-2
-unfolding markCell cellFits
-returns-2 c = (rw (eq-eqb _ _ (c .before .before .if1 .left), c .before .wide .ensures), rw (eq-eqb _ _ (c .before .before .if1 .left), c .before .wide .ensures))
+returns-2 c =
+    let free = rw (c .before .before .before .before .wide .ensures) at (sym (c .before .before .has-depth .ensures) ∙ c .before .if1 .left) in
+    (ap not (sym free), (λ r. rw (c .with-depth .ensures, c .before .before .before .before .wide .ensures)))
 
 pub mark-cell-spec : {M : Type 1} → statement M
 mark-cell-spec =
     tie.close
     (tie.spec
-    returns
     wide-requires
-    slice-read-before
+    slice-read-mark
+    has-depth-requires
+    returns
+    with-depth-requires
     slice-write-seen
-    sub-result
     same-length
     returns-2)
