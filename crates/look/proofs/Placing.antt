@@ -1,5 +1,5 @@
 -- Where the bytes of a cell stand: the words say it as the model does. And what the code of look cites. Assumes nothing.
-use Prim.Native.Nat.{ℕ, zero, suc, _+_, _≤_, _<_}
+use Prim.Native.Nat.{ℕ, zero, suc, _+_, _-_, _≤_, _<_}
 use mathlib.Core.Bool.{true, false}
 use mathlib.Core.List.{List}
 use mathlib.Core.Path.{_≡_, refl, sym, ap, subst, _∙_}
@@ -9,11 +9,13 @@ use lib.Dec.{ltb}
 use lib.ListN.{length}
 use Rattle.words.specs.Layout.{cellAt, cellsOf, slotsOf, pairsAt, maxSlots, maxLive}
 use Rattle.words.specs.Cells.{cellBytes}
-use Rattle.words.proofs.Scan.{by-bool, is-false}
-use Rattle.table.specs.Entry.{live, word2}
+use Rattle.words.proofs.Scan.{by-bool, by-le, is-false, not-lt}
+use Rattle.table.specs.Entry.{live, word1, word2, viaOf}
 use Rattle.search.specs.Search.{stepsIn, heldFrom, holderIn, sourceIn, bodyFrom}
 use Rattle.search.specs.Domain.{depthNamed}
 use Rattle.search.specs.declared.Holder.the-variants.{At, Nobody}
+use Rattle.search.proofs.Holders.{HolderFacts, holder-facts}
+use Rattle.search.proofs.Value.{source-copy-at, source-via-at, source-zero}
 use Rattle.model.specs.Answer.{done, refused, ask, orElse}
 use Rattle.model.specs.Holdings.{rangeOk}
 use Rattle.model.specs.Restore.{Looked, lookedBy, looked, restoredCell}
@@ -59,21 +61,50 @@ module _ (e : ℕ) (t : List ℕ) (d c : ℕ) where
       (λ p. let q = rw p at h in record { held = p; depth = cc })
       (λ p. let q = rw p at h in let z : _≡_ {A = ℕ} 0 1 = cc in absurd (zero-one z))
 
-  -- the two exits of the code
+  -- where nobody holds the cell
   pub at-memory : (w at : ℕ) → holderIn e t d c ≡ Nobody → w ≡ c → at ≡ cellAt w → Memory at ≡ placeIn e t d c
   at-memory w at h p q = ap Memory (q ∙ ap cellAt p) ∙ sym (place-memory (nobody-held h))
 
-  pub at-bodies : (x i s v w at : ℕ) → holderIn e t d c ≡ At x i → s ≡ sourceIn e t x c → v ≡ word2 e t s → w ≡ v → at ≡ cellAt w → Bodies at ≡ placeIn e t d c
-  at-bodies x i s v w at h p q r l =
-      let f = found-at x i h in
-      let same : s ≡ sourceIn e t (d + stepsIn e t d c) c = p ∙ ap (λ (y : ℕ). sourceIn e t y c) (sym (f .depth)) in
-      ap Bodies (l ∙ ap cellAt (r ∙ q ∙ ap (word2 e t) same)) ∙ sym (place-bodies (f .held))
+  -- where a holder was found: by its own entry, or by the copy further out
+  module _ (fits : heldFrom e t d c ≡ true → sourceIn e t (d + stepsIn e t d c) c < e) (x i : ℕ) (h : holderIn e t d c ≡ At x i) where
+    found : FoundAt x
+    found = found-at x i h
 
-  -- the entry behind the holder is one of the table's
-  pub source-slot : (x i s : ℕ) → (heldFrom e t d c ≡ true → sourceIn e t (d + stepsIn e t d c) c < e) → holderIn e t d c ≡ At x i → s ≡ sourceIn e t x c → s < e
-  source-slot x i s fits h p =
-      let f = found-at x i h in
-      subst (λ (y : ℕ). y < e) (ap (λ (y : ℕ). sourceIn e t y c) (f .depth) ∙ sym p) (fits (f .held))
+    facts : HolderFacts e t d c x i
+    facts = holder-facts e t d c x i h
+
+    source : sourceIn e t x c < e
+    source = subst (λ (y : ℕ). sourceIn e t y c < e) (found .depth) (fits (found .held))
+
+    pub found-entry : i < e
+    found-entry = facts .slot
+
+    -- behind depth 0 there is no copy
+    pub found-deep : 0 < x
+    found-deep =
+        by-le x 0
+        (λ l. absurd (not-lt (sourceIn e t x c) e source (subst (λ (y : ℕ). e ≤ y) (sym (source-zero e t x c l)) (omega arith))))
+        (λ l. l)
+
+    at-bodies : (s v w at : ℕ) → s ≡ sourceIn e t x c → v ≡ word2 e t s → w ≡ v → at ≡ cellAt w → Bodies at ≡ placeIn e t d c
+    at-bodies s v w at p q r l =
+        let same : s ≡ sourceIn e t (d + stepsIn e t d c) c = p ∙ ap (λ (y : ℕ). sourceIn e t y c) (sym (found .depth)) in
+        ap Bodies (l ∙ ap cellAt (r ∙ q ∙ ap (word2 e t) same)) ∙ sym (place-bodies (found .held))
+
+    pub at-copy : (w₁ v w at : ℕ) → w₁ ≡ word1 e t i → viaOf w₁ ≡ 0 → v ≡ word2 e t i → w ≡ v → at ≡ cellAt w → Bodies at ≡ placeIn e t d c
+    at-copy w₁ v w at r z =
+        at-bodies i v w at (sym (source-copy-at e t x c i found-deep (sym (facts .entry)) found-entry (ap viaOf (sym r) ∙ z)))
+
+    module _ (w₁ s : ℕ) (r : w₁ ≡ word1 e t i) (z : viaOf w₁ ≡ 0 → ⊥) (o : s ≡ sourceIn e t (x - 1) c) where
+      out : s ≡ sourceIn e t x c
+      out = o ∙ sym (source-via-at e t x c i found-deep (sym (facts .entry)) found-entry (λ u. z (ap viaOf r ∙ u)))
+
+      -- the entry of that copy is one of the table's
+      pub source-slot : s < e
+      source-slot = subst (λ (y : ℕ). y < e) (sym out) source
+
+      pub at-source : (v w at : ℕ) → v ≡ word2 e t s → w ≡ v → at ≡ cellAt w → Bodies at ≡ placeIn e t d c
+      at-source v w at = at-bodies s v w at out
 
 -- ---- the questions
 

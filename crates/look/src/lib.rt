@@ -5,6 +5,7 @@ use search::find_holder;
 use search::find_source;
 use store::Answer;
 use store::store_check;
+use table::first_word;
 use table::second_word;
 use words::layout::cell_at;
 use words::layout::cells_of;
@@ -52,9 +53,12 @@ fn find_place(table: &[u32], slots: usize, depth: u32, cell: u32) -> Place
 {
     match find_holder(table, slots, depth, cell) {
         Holder::Nobody => Place::Memory(cell_at(wide(cell))),
-        Holder::At(at, _entry) => {
-            // the holder's own entry has no body where it is via parent: the copy at the end of its chain has
-            let source = find_source(table, slots, at, cell);
+        Holder::At(at, entry) => {
+            if first_word(table, slots, entry) / 67108864 % 2 == 0 {
+                return Place::Bodies(cell_at(wide(second_word(table, slots, entry))));
+            }
+            // the holder's own entry has no body where it is via parent: the copy further out has
+            let source = find_source(table, slots, at - 1, cell);
             Place::Bodies(cell_at(wide(second_word(table, slots, source))))
         }
     }

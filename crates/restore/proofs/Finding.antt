@@ -1,28 +1,31 @@
 -- Cells put back, one after another: from the bytes that the holder's body has to the bytes of restore. Assumes nothing.
-use Prim.Native.Nat.{ℕ, _+_, _-_, _≤_, _<_}
+use Prim.Native.Nat.{ℕ, _+_, _-_, _*_, _≤_, _<_}
 use mathlib.Core.Bool.{true}
-use mathlib.Core.List.{List}
+use mathlib.Core.List.{List, []}
 use mathlib.Core.Path.{_≡_, refl, sym, ap, subst, _∙_}
 use native.Mathlib.Omega.{arith}
 use borrow.Rule.Slice.PartMut.{putMid, midOf}
 use lib.ListN.{length, getD, take, drop}
 use lib.Seq.{take-all, getD-take, getD-drop}
-use Rattle.words.specs.Layout.{cellAt, cellsOf, slotsOf, maxLive}
+use Rattle.words.specs.Layout.{cellAt, cellsOf, slotsOf, maxLive, maxCells}
 use Rattle.words.specs.Stores.{Store, _≔_, stores, gather}
 use Rattle.words.specs.Cells.{copyPlan, cellPlan}
 use Rattle.words.proofs.Plans.{stores-none, length-cellPlan, tab-below}
 use Rattle.words.proofs.Cells.{copy-part}
-use Rattle.table.specs.Entry.{live}
+use Rattle.words.proofs.Scan.{by-le, not-lt}
+use Rattle.table.specs.Entry.{live, word1, viaOf}
 use Rattle.table.specs.Rule.{ruleOk}
 use Rattle.table.proofs.Rule.{Rule, ok-facts}
 use Rattle.search.specs.Search.{stepsIn, heldFrom, sourceIn, bodyFrom, holderIn}
 use Rattle.search.specs.declared.Holder.{Holder}
 use Rattle.search.specs.declared.Holder.the-variants.{At, Nobody}
-use Rattle.search.proofs.Value.{Copy, ends-in-copy, body-fits}
+use Rattle.search.proofs.Holders.{HolderFacts, holder-facts}
+use Rattle.search.proofs.Value.{Copy, ends-in-copy, body-fits, source-copy-at, source-via-at, source-zero}
 use Rattle.restore.specs.Restore.{restoreBytes}
 use Rattle.restore.specs.Marks.{markFrom}
-use Rattle.restore.specs.Parts.{backPlan}
-use Rattle.restore.proofs.Marking.{held-there, marked-held, unmarked-lacking}
+use Rattle.restore.specs.Parts.{backPlan, groupPlan}
+use Rattle.restore.proofs.Blocks.{gather-none}
+use Rattle.restore.proofs.Marking.{zero-one, held-there, marked-held, unmarked-lacking}
 
 -- ---- the body of a held cell
 
@@ -57,23 +60,41 @@ lent-bytes bodies body cell =
 
 -- ---- the search for the holder
 
-zero-one : _≡_ {A = ℕ} 0 1 → ⊥
-zero-one z = omega arith
-
 module _ (e : ℕ) (t : List ℕ) (d c : ℕ) (held : heldFrom e t d c ≡ true) where
   -- somebody is found
   pub holder-some : (h : Holder) → h ≡ holderIn e t d c → h ≡ Nobody → ⊥
   unfolding holderIn
   holder-some h q n = let p = rw held at q in let z : _≡_ {A = ℕ} 0 1 = cc in zero-one z
 
-  -- at the depth where the search ends
-  pub holder-depth : (h : Holder) (x i : ℕ) → h ≡ holderIn e t d c → h ≡ At x i → x ≡ d + stepsIn e t d c
-  unfolding holderIn
-  holder-depth h x i q n = let p = rw held at q in cc
+-- at the depth where the search ends, by the entry that it found there: a copy is its own source, and the source of a via parent entry is
+-- that of the next depth out
+module _ (e : ℕ) (t : List ℕ) (d c : ℕ) (held : heldFrom e t d c ≡ true) (fits : sourceIn e t (d + stepsIn e t d c) c < e) (h : Holder) (x i : ℕ)
+    (q : h ≡ holderIn e t d c) (n : h ≡ At x i) where
+  facts : HolderFacts e t d c x i
+  facts = holder-facts e t d c x i (sym q ∙ n)
 
-  -- and the entry behind what it holds there
-  pub holder-source : (h : Holder) (x i r : ℕ) → h ≡ holderIn e t d c → h ≡ At x i → r ≡ sourceIn e t x c → r ≡ sourceIn e t (d + stepsIn e t d c) c
-  holder-source h x i r q n s = s ∙ ap (λ (y : ℕ). sourceIn e t y c) (holder-depth h x i q n)
+  depth : x ≡ d + stepsIn e t d c
+  unfolding holderIn
+  depth = let p = rw held at q in cc
+
+  there : sourceIn e t x c ≡ sourceIn e t (d + stepsIn e t d c) c
+  there = ap (λ (y : ℕ). sourceIn e t y c) depth
+
+  pub holder-slot : i < e
+  holder-slot = facts .slot
+
+  -- behind depth 0 there is no copy
+  pub holder-deep : 0 < x
+  holder-deep =
+      by-le x 0
+      (λ l. absurd (not-lt (sourceIn e t (d + stepsIn e t d c) c) e fits (subst (λ (y : ℕ). e ≤ y) (sym (source-zero e t x c l) ∙ there) (omega arith))))
+      (λ l. l)
+
+  pub source-own : (w : ℕ) → w ≡ word1 e t i → viaOf w ≡ 0 → i ≡ sourceIn e t (d + stepsIn e t d c) c
+  source-own w r v = sym (source-copy-at e t x c i holder-deep (sym (facts .entry)) holder-slot (ap viaOf (sym r) ∙ v)) ∙ there
+
+  pub source-out : (w s : ℕ) → w ≡ word1 e t i → (viaOf w ≡ 0 → ⊥) → s ≡ sourceIn e t (x - 1) c → s ≡ sourceIn e t (d + stepsIn e t d c) c
+  source-out w s r v z = z ∙ sym (source-via-at e t x c i holder-deep (sym (facts .entry)) holder-slot (λ u. v (ap viaOf r ∙ u))) ∙ there
 
 -- ---- a cell, with or without a mark
 
@@ -111,6 +132,20 @@ module _ (m e : ℕ) (t : List ℕ) (d c mark : ℕ) (bodies memory : List ℕ) 
           sym (length-cellPlan bodies (bodyFrom e t d c) c),
           (omega arith, h ∙ ap (λ (ps : List Store). stores (take k ps) memory) same),
         )
+
+-- ---- a group of cells
+
+-- one whose cells have no mark has nothing to be put back
+pub put-group-none : (m e : ℕ) (t : List ℕ) (d : ℕ) (marks bodies memory : List ℕ) (from n k : ℕ) → ruleOk m e (cellsOf (length bodies)) t ≡ true → 1 ≤ d
+    → from + n ≤ maxCells → ((c : ℕ) → c < maxCells → getD marks c 0 ≡ markFrom e t d c) → ((j : ℕ) → j < n → getD marks (from + j) 0 ≡ 0)
+    → (0 ≡ length (groupPlan e t d bodies from n)) × ((_≤_ 0 (64 * n)) × (memory ≡ stores (take k (groupPlan e t d bodies from n)) memory))
+put-group-none m e t d marks bodies memory from n k ok low fits says clear =
+    let nothing : groupPlan e t d bodies from n ≡ [] =
+    gather-none n (λ j. backPlan e t d bodies (from + j))
+    (λ j l.
+    rw (unmarked-lacking m e (cellsOf (length bodies)) t (ok-facts m e (cellsOf (length bodies)) t ok) d (from + j) low (getD marks (from + j) 0)
+    (says (from + j) (omega arith)) (clear j l))) in
+    rw nothing (refl, (omega arith, stores-none k memory))
 
 -- ---- all cells
 

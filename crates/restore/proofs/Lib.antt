@@ -1,5 +1,6 @@
 -- The laws of `restore`.
 pub mod Plan
+pub mod Blocks
 pub mod Putting
 pub mod Ending
 pub mod Counting

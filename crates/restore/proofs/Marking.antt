@@ -1,9 +1,9 @@
 -- One pass over the entries that marks the cells to be put back; in a table that is right, a cell has the mark exactly if somebody from the
 -- depth inwards holds it. Assumes nothing.
-use Prim.Native.Nat.{ℕ, suc, _+_, _-_, _≤_, _<_}
+use Prim.Native.Nat.{ℕ, suc, _+_, _-_, _≤_, _<_, _/_, _%_}
 use mathlib.Core.Bool.{Bool, true, false, cond}
 use mathlib.Core.List.{List}
-use mathlib.Core.Path.{_≡_, refl, sym, subst, _∙_}
+use mathlib.Core.Path.{_≡_, refl, sym, ap, subst, _∙_}
 use native.Mathlib.Omega.{arith}
 use borrow.Author.Tests.{eq-eqb, eqb-true, eqb-false, lt-ltb, le-leb, ltb-true, ltb-false, leb-true}
 use lib.Dec.{ltb, leb, eqb}
@@ -16,7 +16,10 @@ use Rattle.table.specs.Entry.{live, word1, depthOf, cellOf, findIn, holdsIn}
 use Rattle.table.proofs.Entry.{find-hit, find-some, holds-true, holds-found}
 use Rattle.table.proofs.Rule.{Rule}
 use Rattle.search.specs.Search.{stepsIn, heldFrom}
-use Rattle.restore.specs.Marks.{namesFrom, markFrom}
+use Rattle.restore.specs.Marks.{namesFrom, markFrom, groupOf, maxGroups, Grouped}
+
+pub zero-one : _≡_ {A = ℕ} 0 1 → ⊥
+zero-one z = omega arith
 
 -- a scan finds something below its bound where there is something
 pub first-below : (n : ℕ) (f : ℕ → Bool) (k : ℕ) → k < n → f k ≡ true → first n f < n
@@ -74,6 +77,41 @@ passed-more e t d i s long h c b =
     let other = getD-set-other s (cellOf w) c 1 0 (λ z. eqb-false (cellOf w) c q (sym z)) in
     rw (p, other) (tells-other e t d c i (getD s c 0) (rw (p, q)) (h c b))))
     (λ p. rw p (tells-other e t d c i (getD s c 0) (rw p) (h c b)))
+
+-- ---- the groups
+
+-- a mark for a cell and one for its group
+grouped-more : (marks groups : List ℕ) (d w : ℕ) → length marks ≡ maxCells → length groups ≡ maxGroups → Grouped marks groups
+    → Grouped (cond (leb d (depthOf w)) (set marks (cellOf w) 1) marks) (cond (leb d (depthOf w)) (set groups (groupOf (cellOf w)) 1) groups)
+grouped-more marks groups d w long wide h =
+    by-bool (leb d (depthOf w))
+    (λ p. rw p (λ c b z.
+    by-bool (eqb (groupOf (cellOf w)) (groupOf c))
+    (λ q.
+    let fits : groupOf (cellOf w) < length groups = omega (arith, wide) in
+    let same : getD (set groups (groupOf (cellOf w)) 1) (groupOf c) 0 ≡ 1 =
+    subst (λ (x : ℕ). getD (set groups (groupOf (cellOf w)) 1) x 0 ≡ 1) (eqb-true _ _ q) (getD-set-same groups (groupOf (cellOf w)) 1 0 fits) in
+    absurd (zero-one (sym z ∙ same)))
+    (λ q.
+    let apart = eqb-false (groupOf (cellOf w)) (groupOf c) q in
+    getD-set-other marks (cellOf w) c 1 0 (λ e. apart (ap groupOf (sym e)))
+    ∙ h c b (sym (getD-set-other groups (groupOf (cellOf w)) (groupOf c) 1 0 (λ e. apart (sym e))) ∙ z))))
+    (λ p. rw p h)
+
+-- the same of the marks that the code leaves
+pub grouped-turn : (marks groups marks₂ groups₂ : List ℕ) (d w : ℕ) → length marks ≡ maxCells → length groups ≡ maxGroups → Grouped marks groups
+    → marks₂ ≡ cond (leb d (depthOf w)) (set marks (cellOf w) 1) marks → groups₂ ≡ cond (leb d (depthOf w)) (set groups (groupOf (cellOf w)) 1) groups
+    → Grouped marks₂ groups₂
+grouped-turn marks groups marks₂ groups₂ d w long wide h p q =
+    subst (λ (x : List ℕ). Grouped x groups₂) (sym p)
+    (subst (Grouped (cond (leb d (depthOf w)) (set marks (cellOf w) 1) marks)) (sym q) (grouped-more marks groups d w long wide h))
+
+-- the cells of a group without a mark have none
+pub group-clear : (marks groups : List ℕ) (from n : ℕ) → Grouped marks groups → from % 64 ≡ 0 → n ≤ 64 → from + n ≤ maxCells → getD groups (from / 64) 0 ≡ 0
+    → (j : ℕ) → j < n → getD marks (from + j) 0 ≡ 0
+group-clear marks groups from n h starts small fits z j l =
+    let same : groupOf (from + j) ≡ from / 64 = omega arith in
+    h (from + j) (omega arith) (ap (λ (x : ℕ). getD groups x 0) same ∙ z)
 
 -- ---- a mark, and somebody who holds the cell
 
@@ -133,8 +171,5 @@ module _ (m e b : ℕ) (t : List ℕ) (ok : Rule m e b t) (d c : ℕ) (low : 1 �
   pub unmarked-lacking : (x : ℕ) → x ≡ markFrom e t d c → x ≡ 0 → heldFrom e t d c ≡ false
   unmarked-lacking x q z =
       by-bool (heldFrom e t d c)
-      (λ h. absurd (one (sym z ∙ q ∙ mark-is-held ∙ rw h)))
+      (λ h. absurd (zero-one (sym z ∙ q ∙ mark-is-held ∙ rw h)))
       (λ h. h)
-    where
-      one : _≡_ {A = ℕ} 0 1 → ⊥
-      one q = omega arith

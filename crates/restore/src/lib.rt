@@ -1,8 +1,9 @@
 // Restore: it puts back each cell held by the named domain or one inside it, with the value of the outermost of these holders, and then ends
 // the domains inside.
 //
-// One pass over the entries marks the cells to be put back; then the cells are walked in their order, with one search for the holder of each
-// marked cell. Memory is whole before any word of the table changes.
+// One pass over the entries marks the cells to be put back, and the groups of 64 cells that these lie in; then the cells are walked in their
+// order, past the groups without a mark, with one search for the holder of each marked cell. Memory is whole before any word of the table
+// changes.
 use search::Holder;
 use search::find_domain;
 use search::find_holder;
@@ -27,7 +28,7 @@ use words::wide;
 use words::write_pair;
 ghost use mathlib.Core.Path.{_≡_};
 ghost use mathlib.Core.Bool.{true, cond};
-ghost use Prim.Native.Nat.{ℕ, _+_, _-_, _*_, _≤_, _<_};
+ghost use Prim.Native.Nat.{ℕ, _+_, _-_, _*_, _≤_, _<_, min};
 ghost use lib.ListN.{length, take, getD, set};
 ghost use lib.Dec.{leb};
 ghost use Rattle.words.specs.Layout.{cellAt, cellsOf, pairsAt, slotsOf, tableWords, maxSlots, maxLive, maxCells};
@@ -36,13 +37,14 @@ ghost use Rattle.words.specs.Journal.{pairPlans, journal, journalSteps};
 ghost use Rattle.words.specs.Cells.{cellPlan};
 ghost use Rattle.table.specs.Entry.{live, depthOf, cellOf};
 ghost use Rattle.table.specs.Changes.{entryStores, entryChanges};
+ghost use Rattle.table.specs.Marks.{zeros};
 ghost use Rattle.table.specs.Rule.{ruleOk};
 ghost use Rattle.search.specs.Search.{stepsIn, heldFrom, sourceIn, bodyFrom};
 ghost use Rattle.store.specs.Outcome.{buffers, report, leaves, outcome};
 ghost use Rattle.store.specs.Means.{seen};
 ghost use Rattle.restore.specs.Restore.{restoreCheck, restoreBytes, restoreChange, restoreWords, restoreCall, restoreMeans};
-ghost use Rattle.restore.specs.Marks.{markFrom};
-ghost use Rattle.restore.specs.Parts.{backPlan, headWords, endingWords};
+ghost use Rattle.restore.specs.Marks.{markFrom, maxGroups, groupOf, Grouped};
+ghost use Rattle.restore.specs.Parts.{backPlan, groupPlan, headWords, endingWords};
 
 // The questions put to restore: 0, or the number of the first no.
 fn restore_check(memory: usize, bodies: usize, table: &[u32], handle: u32) -> u32
@@ -60,28 +62,39 @@ fn restore_check(memory: usize, bodies: usize, table: &[u32], handle: u32) -> u3
 
 // ---- memory
 
-// Marks the cell of an entry with this first word, if it is of this depth or deeper.
-fn mark_deep(marks: &mut [u8], word: u32, depth: u32)
-    requires { ⌜ length (now marks) ≡ maxCells ⌝ }
-    ensures { λ _. ⌜ now (marks .exit) ≡ cond (leb depth (depthOf word)) (set (now (marks .entry)) (cellOf word) 1) (now (marks .entry)) ⌝ }
+// Marks the cell of an entry with this first word, and the cell's group, if it is of this depth or deeper.
+fn mark_deep(marks: &mut [u8], groups: &mut [u8], word: u32, depth: u32)
+    requires { ⌜ (length (now marks) ≡ maxCells) × (length (now groups) ≡ maxGroups) ⌝ }
+    ensures cells { λ _. ⌜ now (marks .exit) ≡ cond (leb depth (depthOf word)) (set (now (marks .entry)) (cellOf word) 1) (now (marks .entry)) ⌝ }
+    ensures groups { λ _. ⌜ now (groups .exit) ≡ cond (leb depth (depthOf word)) (set (now (groups .entry)) (groupOf (cellOf word)) 1) (now (groups .entry)) ⌝ }
 {
     if word / 268435456 < depth {
         return;
     }
-    marks[wide(word % 65536)] = 1;
+    let cell = wide(word % 65536);
+    marks[cell] = 1;
+    groups[cell / 64] = 1;
 }
 
-// Marks each cell that an entry of this depth or deeper names.
-fn mark_from(table: &[u32], slots: usize, depth: u32, marks: &mut [u8])
-    requires { ⌜ (slots ≤ maxSlots) × (pairsAt slots ≤ length (now table)) × (length (now marks) ≡ maxCells) ⌝ }
+// Marks each cell that an entry of this depth or deeper names, and the groups of these cells.
+fn mark_from(table: &[u32], slots: usize, depth: u32, marks: &mut [u8], groups: &mut [u8])
+    requires { ⌜ (slots ≤ maxSlots) × (pairsAt slots ≤ length (now table)) × (length (now marks) ≡ maxCells) × (length (now groups) ≡ maxGroups) ⌝ }
     requires { ⌜ ((c : ℕ) → getD (now marks) c 0 ≡ 0) ⌝ }
-    ensures { λ _. ⌜ ((c : ℕ) → c < maxCells → getD (now (marks .exit)) c 0 ≡ markFrom slots (now (table .entry)) depth c) ⌝ }
+    ensures cells { λ _. ⌜ ((c : ℕ) → c < maxCells → getD (now (marks .exit)) c 0 ≡ markFrom slots (now (table .entry)) depth c) ⌝ }
+    ensures groups { λ _. ⌜ Grouped (now (marks .exit)) (now (groups .exit)) ⌝ }
 {
     let mut i: usize = 0;
     while i < slots {
-        mark_deep(marks, first_word(table, slots, i), depth);
+        mark_deep(marks, groups, first_word(table, slots, i), depth);
         i += 1;
     }
+}
+
+// No group is marked. A function of its own, so that the checker does not write the list out.
+fn no_groups() -> [u8; 1024]
+    ensures { λ r. ⌜ r ≡ zeros 1024 ⌝ }
+{
+    [0u8; 1024]
 }
 
 // The body behind what the first holder of a held cell, from this depth inwards, holds of it.
@@ -92,7 +105,14 @@ fn find_body(table: &[u32], slots: usize, depth: u32, cell: u32) -> usize
 {
     match find_holder(table, slots, depth, cell) {
         Holder::Nobody => 0,
-        Holder::At(at, _) => wide(second_word(table, slots, find_source(table, slots, at, cell))),
+        Holder::At(at, entry) => {
+            if first_word(table, slots, entry) / 67108864 % 2 == 0 {
+                return wide(second_word(table, slots, entry));
+            }
+            // the holder's own entry has no body where it is via parent: the copy further out has
+            let source = find_source(table, slots, at - 1, cell);
+            wide(second_word(table, slots, source))
+        }
     }
 }
 
@@ -130,27 +150,33 @@ fn put_marked(
     64
 }
 
-// Puts back every marked cell, in the order of the cells, and gives how many bytes that is uncut.
-fn put_back(
+// Puts back the marked ones of n cells from `from` on, in their order, and gives how many bytes that is uncut: none where their group has no
+// mark.
+fn put_group(
     memory: &mut [u8],
     bodies: &[u8],
     table: &[u32],
     slots: usize,
     depth: u32,
     marks: &[u8],
+    mark: u8,
+    from: usize,
+    n: usize,
     budget: usize,
 ) -> usize
-    requires { ⌜ (slots ≤ maxSlots) × (pairsAt slots ≤ length (now table)) × (1 ≤ depth) × (cellsOf (length (now memory)) ≤ maxCells) × (length (now marks) ≡ maxCells) ⌝ }
-    requires { ⌜ ruleOk (cellsOf (length (now memory))) slots (cellsOf (length (now bodies))) (now table) ≡ true ⌝ }
-    requires { ⌜ ((c : ℕ) → c < maxCells → getD (now marks) c 0 ≡ markFrom slots (now table) depth c) ⌝ }
-    ensures made { λ r. ⌜ r ≡ length (gather (cellsOf (length (now (memory .entry)))) (backPlan slots (now (table .entry)) depth (now (bodies .entry)))) ⌝ }
-    ensures few { λ r. ⌜ r ≤ 64 * maxCells ⌝ }
-    ensures bytes { λ _. ⌜ now (memory .exit) ≡ stores (take budget (gather (cellsOf (length (now (memory .entry)))) (backPlan slots (now (table .entry)) depth (now (bodies .entry))))) (now (memory .entry)) ⌝ }
+    requires { ⌜ (slots ≤ maxSlots) × (pairsAt slots ≤ length (now table)) × (1 ≤ depth) × (cellsOf (length (now memory)) ≤ maxCells) × (length (now marks) ≡ maxCells) × (from + n ≤ cellsOf (length (now memory))) ⌝ }
+    requires { ⌜ (ruleOk (cellsOf (length (now memory))) slots (cellsOf (length (now bodies))) (now table) ≡ true) × ((c : ℕ) → c < maxCells → getD (now marks) c 0 ≡ markFrom slots (now table) depth c) × (mark ≡ 0 → (j : ℕ) → j < n → getD (now marks) (from + j) 0 ≡ 0) ⌝ }
+    ensures made { λ r. ⌜ r ≡ length (groupPlan slots (now (table .entry)) depth (now (bodies .entry)) from n) ⌝ }
+    ensures few { λ r. ⌜ r ≤ 64 * n ⌝ }
+    ensures bytes { λ _. ⌜ now (memory .exit) ≡ stores (take budget (groupPlan slots (now (table .entry)) depth (now (bodies .entry)) from n)) (now (memory .entry)) ⌝ }
 {
-    let cells = cells_of(memory.len());
+    if mark == 0 {
+        return 0;
+    }
     let mut bytes: usize = 0;
-    let mut cell: usize = 0;
-    while cell < cells {
+    let mut j: usize = 0;
+    while j < n {
+        let cell = from + j;
         bytes += put_marked(
             memory,
             bodies,
@@ -161,7 +187,57 @@ fn put_back(
             marks[cell],
             remaining(budget, bytes),
         );
-        cell += 1;
+        j += 1;
+    }
+    bytes
+}
+
+// How many cells of memory the group that begins at this cell has: 64, or fewer at the end.
+fn group_size(from: usize, cells: usize) -> usize
+    requires { ⌜ from ≤ cells ⌝ }
+    ensures { λ r. ⌜ r ≡ min 64 (cells - from) ⌝ }
+{
+    let n = cells - from;
+    if n < 64 { n } else { 64 }
+}
+
+// Puts back every marked cell, in the order of the cells, and gives how many bytes that is uncut.
+fn put_back(
+    memory: &mut [u8],
+    bodies: &[u8],
+    table: &[u32],
+    slots: usize,
+    depth: u32,
+    marks: &[u8],
+    groups: &[u8],
+    budget: usize,
+) -> usize
+    requires { ⌜ (slots ≤ maxSlots) × (pairsAt slots ≤ length (now table)) × (1 ≤ depth) × (cellsOf (length (now memory)) ≤ maxCells) × (length (now marks) ≡ maxCells) × (length (now groups) ≡ maxGroups) ⌝ }
+    requires { ⌜ ruleOk (cellsOf (length (now memory))) slots (cellsOf (length (now bodies))) (now table) ≡ true ⌝ }
+    requires { ⌜ ((c : ℕ) → c < maxCells → getD (now marks) c 0 ≡ markFrom slots (now table) depth c) ⌝ }
+    requires { ⌜ Grouped (now marks) (now groups) ⌝ }
+    ensures made { λ r. ⌜ r ≡ length (gather (cellsOf (length (now (memory .entry)))) (backPlan slots (now (table .entry)) depth (now (bodies .entry)))) ⌝ }
+    ensures few { λ r. ⌜ r ≤ 64 * maxCells ⌝ }
+    ensures bytes { λ _. ⌜ now (memory .exit) ≡ stores (take budget (gather (cellsOf (length (now (memory .entry)))) (backPlan slots (now (table .entry)) depth (now (bodies .entry))))) (now (memory .entry)) ⌝ }
+{
+    let cells = cells_of(memory.len());
+    let mut bytes: usize = 0;
+    let mut cell: usize = 0;
+    while cell < cells {
+        let n = group_size(cell, cells);
+        bytes += put_group(
+            memory,
+            bodies,
+            table,
+            slots,
+            depth,
+            marks,
+            groups[cell / 64],
+            cell,
+            n,
+            remaining(budget, bytes),
+        );
+        cell += n;
     }
     bytes
 }
@@ -182,8 +258,9 @@ fn restore_memory(
 {
     let slots = slots_of(table.len());
     let mut marks = no_marks();
-    mark_from(table, slots, depth, &mut marks);
-    put_back(memory, bodies, table, slots, depth, &marks, budget)
+    let mut groups = no_groups();
+    mark_from(table, slots, depth, &mut marks, &mut groups);
+    put_back(memory, bodies, table, slots, depth, &marks, &groups, budget)
 }
 
 // ---- the table
