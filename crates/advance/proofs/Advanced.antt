@@ -41,11 +41,11 @@ use Rattle.store.proofs.Means.{seenOf, by-check, t-long, store-standing}
 use Rattle.store.proofs.Changes.{Spares, change-performed, change-seen, change-unmade, change-reopened}
 use Rattle.store.proofs.Pending.{pendingAfter, afterPending, performed-pending, call-pending}
 use Rattle.advance.specs.Advance.{advances, advanceCheck, bodyFor, advanceChange, advanceWords, advanceBytes, advanceCall, advanceMeans}
-use Rattle.advance.specs.Notes.{cellsCheck}
 use Rattle.store.proofs.Raw.{raw-rule, raw-state, raw-next, raw-after, front-copy, front-second}
 use Rattle.advance.proofs.Copying.{Outside, plan, cell-kept, copies-length, copies-outside, copies-stored}
 use Rattle.advance.proofs.Turning.{changeWith, Choice, advances-cell, words-count, turned-rule, turned-state}
 use Rattle.advance.proofs.Choosing.{chosen}
+use Rattle.advance.proofs.Noting.{cellsCheck}
 
 -- stores that keep out of every body in use spare them
 each-spares : (e : ℕ) (t : List ℕ) (ps : List Store) → ((i : ℕ) → Copy e t i → Each (Outside (word2 e t i)) ps) → Each (Spares e t) ps

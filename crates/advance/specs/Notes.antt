@@ -1,27 +1,42 @@
 -- What the parts of advance's code pass on to each other: marks of cells and bodies, and for each cell a note of the body that it gets.
-use Prim.Native.Nat.{ℕ, _+_, _-_, _*_}
-use mathlib.Core.Bool.{Bool, cond, not, _&&_, _||_}
+use Prim.Native.Nat.{ℕ, _+_, _-_, _*_, _/_, _<_}
+use mathlib.Core.Bool.{Bool, true, cond, not, _&&_, _||_}
+use mathlib.Core.Path.{_≡_}
 use mathlib.Core.List.{List, []}
 use lib.Dec.{leb, eqb}
 use lib.ListN.{getD}
+use Rattle.words.specs.Layout.{maxCells}
 use Rattle.words.specs.Scan.{all, count, nth}
 use Rattle.words.specs.Cells.{cellPlan}
 use Rattle.words.specs.Stores.{Store}
-use Rattle.table.specs.Entry.{live, parent, holdsIn, depthOf, cellOf, writableOf, viaOf}
+use Rattle.table.specs.Entry.{live, word1, parent, holdsIn, depthOf, cellOf, writableOf, viaOf}
+use Rattle.table.specs.Marks.{Marks}
 use Rattle.table.specs.Changes.{Change, keep, put}
 use Rattle.search.specs.Free.{copies}
 use Rattle.model.specs.Answer.{ask}
-use Rattle.advance.specs.Advance.{advances}
 
--- questions 15 and 17, for m cells, e entry slots and b bodies
-abbrev pub cellsCheck : (m e b : ℕ) → List ℕ → ℕ
-cellsCheck m e b t =
-    ask (leb (live t) 1 || all m (λ c. not (advances e t c) || holdsIn e t (parent (live t)) c)) 15
-    (ask (leb (copies e t + count m (advances e t)) b) 17 0)
+-- an entry with first word w advances where n domains are live: it is innermost and read-write
+abbrev pub turns : (n w : ℕ) → Bool
+turns n w = eqb (depthOf w) n && eqb (writableOf w) 1
 
--- the mark of a cell that is held read-write: 2 for a copy, 4 for via parent
+-- questions 15 and 17, asked of e entries, for b bodies
+abbrev pub entriesCheck : (e b : ℕ) → List ℕ → ℕ
+entriesCheck e b t =
+    ask (leb (live t) 1 || all e (λ i. not (turns (live t) (word1 e t i)) || holdsIn e t (parent (live t)) (cellOf (word1 e t i)))) 15
+    (ask (leb (copies e t + count e (λ i. turns (live t) (word1 e t i))) b) 17 0)
+
+-- the cells of the first k entries that advance have the mark 1, the others 0, where n domains are live
+pub record CellMarks (e : ℕ) (t : List ℕ) (n k : ℕ) (notes : List ℕ) : Type 0 where
+  pub marks : Marks (λ i. turns n (word1 e t i) ≡ true) (λ i. cellOf (word1 e t i)) 1 k notes
+  pub other : (c : ℕ) → (getD notes c 0 ≡ 1 → ⊥) → getD notes c 0 ≡ 0
+
+-- no cell has a mark in a group of 16 cells without one
+abbrev pub Grouped : (groups notes : List ℕ) → Type 0
+Grouped groups notes = (c : ℕ) → c < maxCells → getD groups (c / 16) 0 ≡ 0 → getD notes c 0 ≡ 0
+
+-- a cell is marked to get a body
 abbrev pub writes : ℕ → Bool
-writes x = eqb x 2 || eqb x 4
+writes x = not (eqb x 0)
 
 abbrev pub writesAt : List ℕ → ℕ → Bool
 writesAt marks c = writes (getD marks c 0)

@@ -1,8 +1,9 @@
 // Advance: every read-write cell of the innermost domain gets memory's bytes, as a copy in a body that was free.
 //
 // A body in use is never written, so that a cut leaves the old copies whole. Which body each cell gets is settled first, in notes; then the
-// bytes are stored, in the order of the cells; then the entries get their words by the journal. Each of these is one pass over the
-// cells or over the entries.
+// bytes are stored, in the order of the cells; then the entries get their words by the journal. The questions are asked of the entries and not
+// of the cells, and the passes in the order of the cells leave out every group of 16 cells in which none advances: there may be 65,536 cells,
+// but no more than 4,096 entries.
 use search::copies_used;
 use search::find_domain;
 use search::mark_held;
@@ -24,7 +25,7 @@ use words::remaining;
 use words::wide;
 ghost use mathlib.Core.Path.{_≡_};
 ghost use mathlib.Core.Bool.{true, cond, not, _||_};
-ghost use Prim.Native.Nat.{ℕ, _+_, _-_, _*_, _≤_, _<_};
+ghost use Prim.Native.Nat.{ℕ, _+_, _-_, _*_, _/_, _≤_, _<_};
 ghost use lib.ListN.{length, take, getD, set};
 ghost use lib.Dec.{leb, eqb};
 ghost use Rattle.words.specs.Layout.{cellAt, cellsOf, pairsAt, tableWords, maxSlots, maxCells, maxBodies};
@@ -35,35 +36,40 @@ ghost use Rattle.table.specs.Entry.{live, word1, parent, holdsIn, depthOf, writ
 ghost use Rattle.table.specs.Marks.{zeros};
 ghost use Rattle.table.specs.Changes.{entryStores, entryChanges};
 ghost use Rattle.table.specs.Rule.{ruleOk};
-ghost use Rattle.search.specs.Domain.{markIn};
 ghost use Rattle.search.specs.Free.{copies, unmarkedFrom};
 ghost use Rattle.store.specs.Outcome.{buffers, report, leaves, outcome};
 ghost use Rattle.store.specs.Means.{seen};
 ghost use Rattle.advance.specs.Advance.{advances, advanceCheck, bodyFor, advanceCall, advanceMeans};
-ghost use Rattle.advance.specs.Notes.{cellsCheck, writes, writesAt, unmarked, noteOf, notePlan, noteChange};
+ghost use Rattle.advance.specs.Notes.{turns, entriesCheck, CellMarks, Grouped, writesAt, unmarked, noteOf, notePlan, noteChange};
 
 // ---- the questions: 0, or the number of the first no
 
-// Is every cell that is marked read-write by the innermost domain marked by its parent too?
-fn all_covered(marks: &[u8], outer: &[u8], cells: usize) -> bool
-    requires { ⌜ (cells ≤ length (now marks)) × (cells ≤ length (now outer)) ⌝ }
-    ensures { λ r. ⌜ r ≡ all cells (λ c. not (writesAt (now (marks .entry)) c) || not (eqb (getD (now (outer .entry)) c 0) 0)) ⌝ }
+// Does an entry with this first word advance: is it innermost and read-write?
+fn turns_word(word: u32, live: u32) -> bool
+    ensures { λ r. ⌜ r ≡ turns live word ⌝ }
+{
+    (word / 268435456 == live) & (word / 134217728 % 2 == 1)
+}
+
+// Is the cell of every innermost read-write entry marked by the parent too?
+fn all_covered(table: &[u32], slots: usize, live: u32, outer: &[u8]) -> bool
+    requires { ⌜ (slots ≤ maxSlots) × (pairsAt slots ≤ length (now table)) × (length (now outer) ≡ maxCells) ⌝ }
+    ensures { λ r. ⌜ r ≡ all slots (λ i. not (turns live (word1 slots (now (table .entry)) i)) || not (eqb (getD (now (outer .entry)) (cellOf (word1 slots (now (table .entry)) i)) 0) 0)) ⌝ }
 {
     let mut good = true;
-    let mut c: usize = 0;
-    while c < cells {
-        let mark = marks[c];
-        good = good & (!((mark == 2) | (mark == 4)) | (outer[c] != 0));
-        c += 1;
+    let mut i: usize = 0;
+    while i < slots {
+        let word = first_word(table, slots, i);
+        good = good & (!turns_word(word, live) | (outer[wide(word % 65536)] != 0));
+        i += 1;
     }
     good
 }
 
-// Question 15. A domain with none around it is not asked.
-fn parent_covers(table: &[u32], slots: usize, cells: usize, marks: &[u8]) -> bool
-    requires { ⌜ (slots ≤ maxSlots) × (pairsAt slots ≤ length (now table)) × (cells ≤ maxCells) × (length (now marks) ≡ maxCells) ⌝ }
-    requires { ⌜ ((c : ℕ) → c < maxCells → getD (now marks) c 0 ≡ markIn slots (now table) (live (now table)) c) ⌝ }
-    ensures { λ r. ⌜ r ≡ (leb (live (now (table .entry))) 1 || all cells (λ c. not (advances slots (now (table .entry)) c) || holdsIn slots (now (table .entry)) (parent (live (now (table .entry)))) c)) ⌝ }
+// Question 15, asked of the entries. A domain with none around it is not asked.
+fn parent_covers(table: &[u32], slots: usize) -> bool
+    requires { ⌜ (slots ≤ maxSlots) × (pairsAt slots ≤ length (now table)) ⌝ }
+    ensures { λ r. ⌜ r ≡ (leb (live (now (table .entry))) 1 || all slots (λ i. not (turns (live (now (table .entry))) (word1 slots (now (table .entry)) i)) || holdsIn slots (now (table .entry)) (parent (live (now (table .entry)))) (cellOf (word1 slots (now (table .entry)) i)))) ⌝ }
 {
     let live = table[LIVE_AT];
     if live <= 1 {
@@ -71,37 +77,34 @@ fn parent_covers(table: &[u32], slots: usize, cells: usize, marks: &[u8]) -> boo
     }
     let mut outer = no_marks();
     mark_held(table, slots, live - 1, &mut outer);
-    all_covered(marks, &outer, cells)
+    all_covered(table, slots, live, &outer)
 }
 
-// How many cells are marked read-write.
-fn count_writable(marks: &[u8], cells: usize) -> usize
-    requires { ⌜ cells ≤ length (now marks) ⌝ }
-    ensures { λ r. ⌜ r ≡ count cells (writesAt (now (marks .entry))) ⌝ }
+// How many entries advance.
+fn count_turning(table: &[u32], slots: usize, live: u32) -> usize
+    requires { ⌜ (slots ≤ maxSlots) × (pairsAt slots ≤ length (now table)) ⌝ }
+    ensures { λ r. ⌜ r ≡ count slots (λ i. turns live (word1 slots (now (table .entry)) i)) ⌝ }
 {
     let mut n: usize = 0;
-    let mut c: usize = 0;
-    while c < cells {
-        let mark = marks[c];
-        if (mark == 2) | (mark == 4) {
+    let mut i: usize = 0;
+    while i < slots {
+        if turns_word(first_word(table, slots, i), live) {
             n += 1;
         }
-        c += 1;
+        i += 1;
     }
     n
 }
 
-// Questions 15 and 17.
-fn cells_check(table: &[u32], slots: usize, cells: usize, bodies: usize) -> u32
-    requires { ⌜ (slots ≤ maxSlots) × (pairsAt slots ≤ length (now table)) × (cells ≤ maxCells) ⌝ }
-    ensures { λ r. ⌜ r ≡ cellsCheck cells slots bodies (now (table .entry)) ⌝ }
+// Questions 15 and 17, asked of the entries: a right table has as many innermost read-write entries as such cells.
+fn entries_check(table: &[u32], slots: usize, bodies: usize) -> u32
+    requires { ⌜ (slots ≤ maxSlots) × (pairsAt slots ≤ length (now table)) ⌝ }
+    ensures { λ r. ⌜ r ≡ entriesCheck slots bodies (now (table .entry)) ⌝ }
 {
-    let mut marks = no_marks();
-    mark_held(table, slots, table[LIVE_AT], &mut marks);
-    if !parent_covers(table, slots, cells, &marks) {
+    if !parent_covers(table, slots) {
         return 15;
     }
-    if bodies < copies_used(table, slots) + count_writable(&marks, cells) {
+    if bodies < copies_used(table, slots) + count_turning(table, slots, table[LIVE_AT]) {
         return 17;
     }
     0
@@ -122,7 +125,7 @@ fn advance_check(memory: usize, bodies: usize, table: &[u32], handle: u32) -> u3
     if depth != table[LIVE_AT] {
         return 6;
     }
-    cells_check(table, slots_of(table.len()), memory / 64, bodies / 64)
+    entries_check(table, slots_of(table.len()), bodies / 64)
 }
 
 // ---- the notes: which body each cell gets
@@ -134,20 +137,60 @@ fn no_notes() -> [u16; 65536]
     [0u16; 65536]
 }
 
-// Notes a body for a cell that is marked read-write: the lowest from `at` on that is free. Returns where the next search begins.
-fn note_body(
-    notes: &mut [u16],
-    cell: usize,
-    mark: u8,
-    used: &[u8],
-    bodies: usize,
-    at: usize,
-) -> usize
-    requires { ⌜ (cell < length (now notes)) × (bodies ≤ length (now used)) × (bodies ≤ maxBodies) × (at ≤ bodies) × (writes mark ≡ true → unmarkedFrom bodies (now used) at < bodies) ⌝ }
-    ensures { λ r. ⌜ (r ≡ cond (writes mark) (unmarkedFrom bodies (now (used .entry)) at + 1) at) × (now (notes .exit) ≡ cond (writes mark) (set (now (notes .entry)) cell (unmarkedFrom bodies (now (used .entry)) at + 1)) (now (notes .entry))) ⌝ }
+// No group of 16 cells has a mark.
+fn no_groups() -> [u8; 4096]
+    ensures { λ r. ⌜ r ≡ zeros 4096 ⌝ }
 {
-    let writable = (mark == 2) | (mark == 4);
-    if !writable {
+    [0u8; 4096]
+}
+
+// Marks the cell of an entry that advances, and the group of 16 cells that it is in.
+fn mark_turning(notes: &mut [u16], groups: &mut [u8], word: u32, live: u32)
+    requires { ⌜ (length (now notes) ≡ maxCells) × (length (now groups) ≡ 4096) ⌝ }
+    ensures { λ _. ⌜ (now (notes .exit) ≡ cond (turns live word) (set (now (notes .entry)) (cellOf word) 1) (now (notes .entry))) × (now (groups .exit) ≡ cond (turns live word) (set (now (groups .entry)) (cellOf word / 16) 1) (now (groups .entry))) ⌝ }
+{
+    if !turns_word(word, live) {
+        return;
+    }
+    let cell = wide(word % 65536);
+    notes[cell] = 1;
+    groups[cell / 16] = 1;
+}
+
+// Marks the cells of all entries that advance, and their groups.
+fn mark_cells(table: &[u32], slots: usize, live: u32, notes: &mut [u16], groups: &mut [u8])
+    requires { ⌜ (slots ≤ maxSlots) × (pairsAt slots ≤ length (now table)) × (length (now notes) ≡ maxCells) × (length (now groups) ≡ 4096) ⌝ }
+    requires { ⌜ ((c : ℕ) → getD (now notes) c 0 ≡ 0) ⌝ }
+    ensures { λ _. ⌜ CellMarks slots (now (table .entry)) live slots (now (notes .exit)) × Grouped (now (groups .exit)) (now (notes .exit)) ⌝ }
+{
+    let mut i: usize = 0;
+    while i < slots {
+        mark_turning(notes, groups, first_word(table, slots, i), live);
+        i += 1;
+    }
+}
+
+// The first cell from `from` on that is in a marked group, or `cells`.
+fn next_cell(groups: &[u8], from: usize, cells: usize) -> usize
+    requires { ⌜ (from ≤ cells) × (cells ≤ maxCells) × (length (now groups) ≡ 4096) ⌝ }
+    ensures { λ r. ⌜ (from ≤ r) × (r ≤ cells) × ((k : ℕ) → from ≤ k → k < r → getD (now (groups .entry)) (k / 16) 0 ≡ 0) ⌝ }
+{
+    let mut c = from;
+    while c < cells {
+        if groups[c / 16] != 0 {
+            return c;
+        }
+        c = 16 * (c / 16) + 16;
+    }
+    cells
+}
+
+// Notes a body for a cell that has a mark: the lowest from `at` on that is free. Returns where the next search begins.
+fn note_body(notes: &mut [u16], cell: usize, used: &[u8], bodies: usize, at: usize) -> usize
+    requires { ⌜ (cell < length (now notes)) × (bodies ≤ length (now used)) × (bodies ≤ maxBodies) × (at ≤ bodies) × (writesAt (now notes) cell ≡ true → unmarkedFrom bodies (now used) at < bodies) ⌝ }
+    ensures { λ r. ⌜ (r ≡ cond (writesAt (now (notes .entry)) cell) (unmarkedFrom bodies (now (used .entry)) at + 1) at) × (now (notes .exit) ≡ cond (writesAt (now (notes .entry)) cell) (set (now (notes .entry)) cell (unmarkedFrom bodies (now (used .entry)) at + 1)) (now (notes .entry))) ⌝ }
+{
+    if notes[cell] == 0 {
         return at;
     }
     let body = next_free_body(used, bodies, at);
@@ -155,31 +198,37 @@ fn note_body(
     body + 1
 }
 
-// Notes a body of its own for each cell that is marked read-write, in the order of the cells, of the bodies that have no mark.
-fn note_bodies(notes: &mut [u16], marks: &[u8], used: &[u8], cells: usize, bodies: usize)
-    requires { ⌜ (cells ≤ length (now notes)) × (cells ≤ length (now marks)) × (bodies ≤ length (now used)) × (bodies ≤ maxBodies) × (count cells (writesAt (now marks)) ≤ count bodies (unmarked (now used))) ⌝ }
-    requires { ⌜ ((c : ℕ) → getD (now notes) c 0 ≡ 0) ⌝ }
-    ensures { λ _. ⌜ ((c : ℕ) → c < cells → getD (now (notes .exit)) c 0 ≡ noteOf bodies (now (marks .entry)) (now (used .entry)) c) ⌝ }
+// Notes a body of its own for each cell that has a mark, in the order of the cells, of the bodies that have no mark.
+fn note_bodies(notes: &mut [u16], groups: &[u8], used: &[u8], cells: usize, bodies: usize)
+    requires { ⌜ (cells ≤ maxCells) × (length (now notes) ≡ maxCells) × (length (now groups) ≡ 4096) × (bodies ≤ length (now used)) × (bodies ≤ maxBodies) × (count cells (writesAt (now notes)) ≤ count bodies (unmarked (now used))) ⌝ }
+    requires { ⌜ Grouped (now groups) (now notes) ⌝ }
+    ensures { λ _. ⌜ ((c : ℕ) → c < cells → getD (now (notes .exit)) c 0 ≡ noteOf bodies (now (notes .entry)) (now (used .entry)) c) ⌝ }
 {
     let mut at: usize = 0;
-    let mut c: usize = 0;
+    let mut c = next_cell(groups, 0, cells);
     while c < cells {
-        at = note_body(notes, c, marks[c], used, bodies, at);
-        c += 1;
+        at = note_body(notes, c, used, bodies, at);
+        c = next_cell(groups, c + 1, cells);
     }
 }
 
 // The notes of a table that passed the questions.
-fn note_places(table: &[u32], slots: usize, cells: usize, bodies: usize, notes: &mut [u16])
-    requires { ⌜ (slots ≤ maxSlots) × (pairsAt slots ≤ length (now table)) × (cells ≤ maxCells) × (bodies ≤ maxBodies) × (length (now notes) ≡ maxCells) × ((c : ℕ) → getD (now notes) c 0 ≡ 0) ⌝ }
+fn note_places(
+    table: &[u32],
+    slots: usize,
+    cells: usize,
+    bodies: usize,
+    notes: &mut [u16],
+    groups: &mut [u8],
+)
+    requires { ⌜ (slots ≤ maxSlots) × (pairsAt slots ≤ length (now table)) × (cells ≤ maxCells) × (bodies ≤ maxBodies) × (length (now notes) ≡ maxCells) × ((c : ℕ) → getD (now notes) c 0 ≡ 0) × (length (now groups) ≡ 4096) ⌝ }
     requires { ⌜ (ruleOk cells slots bodies (now table) ≡ true) × (copies slots (now table) + count cells (advances slots (now table)) ≤ bodies) ⌝ }
-    ensures { λ _. ⌜ ((c : ℕ) → c < cells → getD (now (notes .exit)) c 0 ≡ cond (advances slots (now (table .entry)) c) (bodyFor slots bodies (now (table .entry)) c + 1) 0) ⌝ }
+    ensures { λ _. ⌜ ((c : ℕ) → c < cells → getD (now (notes .exit)) c 0 ≡ cond (advances slots (now (table .entry)) c) (bodyFor slots bodies (now (table .entry)) c + 1) 0) × ((c : ℕ) → c < cells → getD (now (groups .exit)) (c / 16) 0 ≡ 0 → getD (now (notes .exit)) c 0 ≡ 0) ⌝ }
 {
-    let mut marks = no_marks();
-    mark_held(table, slots, table[LIVE_AT], &mut marks);
+    mark_cells(table, slots, table[LIVE_AT], notes, groups);
     let mut used = no_bodies();
     mark_bodies(table, slots, &mut used);
-    note_bodies(notes, &marks, &used, cells, bodies);
+    note_bodies(notes, groups, &used, cells, bodies);
 }
 
 // ---- the bytes
@@ -197,16 +246,23 @@ fn copy_noted(memory: &[u8], cell: usize, note: u16, bodies: &mut [u8], budget: 
 }
 
 // Copies each cell that has a note, in the order of the cells. Returns how many bytes that is uncut.
-fn copy_cells(memory: &[u8], cells: usize, notes: &[u16], bodies: &mut [u8], budget: usize) -> usize
-    requires { ⌜ (cells ≤ maxCells) × (length (now memory) ≡ cellAt cells) × (length (now notes) ≡ maxCells) ⌝ }
-    requires { ⌜ ((c : ℕ) → c < cells → getD (now notes) c 0 ≤ cellsOf (length (now bodies))) ⌝ }
+fn copy_cells(
+    memory: &[u8],
+    cells: usize,
+    notes: &[u16],
+    groups: &[u8],
+    bodies: &mut [u8],
+    budget: usize,
+) -> usize
+    requires { ⌜ (cells ≤ maxCells) × (length (now memory) ≡ cellAt cells) × (length (now notes) ≡ maxCells) × (length (now groups) ≡ 4096) ⌝ }
+    requires { ⌜ ((c : ℕ) → c < cells → getD (now notes) c 0 ≤ cellsOf (length (now bodies))) × ((c : ℕ) → c < cells → getD (now groups) (c / 16) 0 ≡ 0 → getD (now notes) c 0 ≡ 0) ⌝ }
     ensures { λ r. ⌜ (r ≡ length (gather cells (λ c. notePlan (now (memory .entry)) c (getD (now (notes .entry)) c 0)))) × (r ≤ 64 * maxCells) × (now (bodies .exit) ≡ stores (take budget (gather cells (λ c. notePlan (now (memory .entry)) c (getD (now (notes .entry)) c 0)))) (now (bodies .entry))) ⌝ }
 {
     let mut made: usize = 0;
-    let mut c: usize = 0;
+    let mut c = next_cell(groups, 0, cells);
     while c < cells {
         made += copy_noted(memory, c, notes[c], bodies, remaining(budget, made));
-        c += 1;
+        c = next_cell(groups, c + 1, cells);
     }
     made
 }
@@ -229,8 +285,7 @@ fn write_noted(
     ensures { λ r. ⌜ (r ≡ length (entryStores slots i (noteChange live (λ c. getD (now (notes .entry)) c 0) (word1 slots (now (table .entry)) i)))) × (r ≤ 2) × (now (table .exit) ≡ stores (take (budget - 2 * p) (pairPlans (pairsAt slots + 2 * p) (entryStores slots i (noteChange live (λ c. getD (now (notes .entry)) c 0) (word1 slots (now (table .entry)) i))))) (now (table .entry))) ⌝ }
 {
     let word = first_word(table, slots, i);
-    let advances = (word / 268435456 == live) & (word / 134217728 % 2 == 1);
-    if !advances {
+    if !turns_word(word, live) {
         return 0;
     }
     let body = notes[wide(word % 65536)] - 1;
@@ -294,8 +349,16 @@ pub fn advance(
     let cells = memory.len() / 64;
     let slots = slots_of(table.len());
     let mut notes = no_notes();
-    note_places(table, slots, cells, bodies.len() / 64, &mut notes);
-    let bytes = copy_cells(memory, cells, &notes, bodies, budget);
+    let mut groups = no_groups();
+    note_places(
+        table,
+        slots,
+        cells,
+        bodies.len() / 64,
+        &mut notes,
+        &mut groups,
+    );
+    let bytes = copy_cells(memory, cells, &notes, &groups, bodies, budget);
     let words = advance_words(table, slots, &notes, remaining(budget, bytes));
     answer_of(bytes + words, 0, budget)
 }

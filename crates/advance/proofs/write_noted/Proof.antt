@@ -4,28 +4,32 @@ use mathlib.Core.Path.{_≡_, sym, ap, subst, _∙_}
 use mathlib.Core.Bool.{true, false, _&&_}
 use native.Mathlib.Omega.{arith}
 use borrow.Author.Tests.{not-true, not-false, eqb-true}
-use borrow.Author.Needs.{needs}
 use lib.Dec.{eqb}
 use lib.ListN.{getD}
 use Rattle.words.specs.Layout.{pairsAt}
 use Rattle.words.proofs.Scan.{and-split}
 use Rattle.table.specs.Entry.{word1, depthOf, writableOf, cellOf}
+use Rattle.advance.specs.Notes.{turns}
 use Rattle.advance.proofs.Noting.{entry-stays, entry-turns}
+use borrow.Author.Needs.{needs}
 use Rattle.advance.proofs.write_noted.Statement.{statement}
 use Rattle.advance.proofs.write_noted.Tie as tie
 
 first-word-requires : tie.Need-first-word-requires
 first-word-requires c κs = search needs
 
+turns-word-requires : tie.Need-turns-word-requires
+turns-word-requires c κs = search needs
+
 same-length : tie.Need-same-length
 same-length c = search needs
 
 returns : tie.Need-returns
 returns c =
-    let a = c .before .before .before .before .before .args in
+    let a = c .before .before .before .before .before .before .args in
     let w = word1 (a .slots) (a .table .now) (a .i) in
     let n : (eqb (depthOf w) (a .live) && eqb (writableOf w) 1) ≡ false =
-    ap (λ (x : ℕ). eqb (depthOf x) (a .live) && eqb (writableOf x) 1) (sym (c .before .first-word .ensures)) ∙ not-true _ (c .if1 .taken) in
+    ap (turns (a .live)) (sym (c .before .before .first-word .ensures)) ∙ sym (c .before .turns-word .ensures) ∙ not-true _ (c .if1 .taken) in
     entry-stays (a .slots) (a .i) (a .live) (pairsAt (a .slots) + 2 * a .p) (a .budget - 2 * a .p) (λ k. getD (a .notes .now) k 0) (a .table .now) w n
 
 wide-requires : tie.Need-wide-requires
@@ -35,17 +39,17 @@ mul-body : tie.Need-mul-body
 mul-body c = search needs
 
 shared-slice-read-body : tie.Need-shared-slice-read-body
-shared-slice-read-body c = omega (arith, c .before .before .before .before .before .before .before .pre .0, c .before .wide .ensures)
+shared-slice-read-body c = omega (arith, c .before .before .before .before .before .before .before .before .pre .0, c .before .wide .ensures)
 
 sub-body : tie.Need-sub-body
 sub-body c =
-    let a = c .before .before .before .before .before .before .before .args in
+    let a = c .before .before .before .before .before .before .before .before .args in
     let w = word1 (a .slots) (a .table .now) (a .i) in
     let y : (eqb (depthOf w) (a .live) && eqb (writableOf w) 1) ≡ true =
-    ap (λ (x : ℕ). eqb (depthOf x) (a .live) && eqb (writableOf x) 1) (sym (c .before .before .before .first-word .ensures)) ∙ not-false _ (c .before .before .if1 .left) in
+    ap (turns (a .live)) (sym (c .before .before .before .before .first-word .ensures)) ∙ sym (c .before .before .before .turns-word .ensures) ∙ not-false _ (c .before .before .if1 .left) in
     let s = and-split (eqb (depthOf w) (a .live)) (eqb (writableOf w) 1) y in
-    let h = c .before .before .before .before .before .before .before .pre .1 (eqb-true _ _ (s .0)) (eqb-true _ _ (s .1)) in
-    let at : c .before .wide .result ≡ cellOf w = c .before .wide .ensures ∙ ap cellOf (c .before .before .before .first-word .ensures) in
+    let h = c .before .before .before .before .before .before .before .before .pre .1 (eqb-true _ _ (s .0)) (eqb-true _ _ (s .1)) in
+    let at : c .before .wide .result ≡ cellOf w = c .before .wide .ensures ∙ ap cellOf (c .before .before .before .before .first-word .ensures) in
     subst (λ (k : ℕ). 1 ≤ getD (a .notes .now) k 0) (sym at) h
 
 mul-copy : tie.Need-mul-copy
@@ -73,18 +77,18 @@ remaining-requires : tie.Need-remaining-requires
 remaining-requires c κs = search needs
 
 write-entry-requires : tie.Need-write-entry-requires
-write-entry-requires c κs = (search needs, search needs, omega (arith, c .before .before .before .before .before .before .before .before .before .before .pre .0, c .before .pairs-at .ensures))
+write-entry-requires c κs = (search needs, search needs, omega (arith, c .before .before .before .before .before .before .before .before .before .before .before .pre .0, c .before .pairs-at .ensures))
 
 same-length-2 : tie.Need-same-length-2
 same-length-2 c = search needs
 
 returns-2 : tie.Need-returns-2
 returns-2 c =
-    let a = c .before .before .before .before .before .before .before .before .before .before .before .before .before .args in
+    let a = c .before .before .before .before .before .before .before .before .before .before .before .before .before .before .args in
     let w = word1 (a .slots) (a .table .now) (a .i) in
     let y : (eqb (depthOf w) (a .live) && eqb (writableOf w) 1) ≡ true =
-    ap (λ (x : ℕ). eqb (depthOf x) (a .live) && eqb (writableOf x) 1) (sym (c .before .before .before .before .before .before .before .before .before .first-word .ensures)) ∙ not-false _ (c .before .before .before .before .before .before .before .before .if1 .left) in
-    let e = rw (c .before .before .before .remaining .ensures, c .before .before .before .before .pairs-at .ensures, c .before .before .before .before .before .before .before .wide .ensures, c .before .before .before .before .before .before .before .before .before .first-word .ensures) at (c .before .before .write-entry .ensures) in
+    ap (turns (a .live)) (sym (c .before .before .before .before .before .before .before .before .before .before .first-word .ensures)) ∙ sym (c .before .before .before .before .before .before .before .before .before .turns-word .ensures) ∙ not-false _ (c .before .before .before .before .before .before .before .before .if1 .left) in
+    let e = rw (c .before .before .before .remaining .ensures, c .before .before .before .before .pairs-at .ensures, c .before .before .before .before .before .before .before .wide .ensures, c .before .before .before .before .before .before .before .before .before .before .first-word .ensures) at (c .before .before .write-entry .ensures) in
     entry-turns (a .slots) (a .i) (a .live) (pairsAt (a .slots) + 2 * a .p) (a .budget - 2 * a .p) (λ k. getD (a .notes .now) k 0) (a .table .now) w y _ e
 
 pub write-noted-spec : {M : Type 1} → statement M
@@ -92,6 +96,7 @@ write-noted-spec =
     tie.close
     (tie.spec
     first-word-requires
+    turns-word-requires
     same-length
     returns
     wide-requires
