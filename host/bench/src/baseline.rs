@@ -1,9 +1,18 @@
 //! The same store without proofs, as a plain systems program: the format, the questions and the journal of document 01.
 //!
-//! It is here to be measured beside the library, so it makes no use of it. The table is checked in one pass with marks for
-//! each cell and each body. Restore and add via parent find each cell's holder by one search over depths and entries, since that is
-//! what the library does. Table words are stored one after another with volatile stores: their order is what a cut relies on, and a
-//! compiler may reorder or drop plain ones.
+//! It is here to be measured beside the library, so it makes no use of it. What it does:
+//!
+//! - The table is checked in one pass over the entries, with a byte of marks for each cell (a bit for each depth) and one for each
+//!   body; a second pass is taken only where an entry is via parent. The same pass counts entries and copies in use.
+//! - Room for marks is on the stack, and only as much of it is cleared as the buffers need: m + B bytes and not 68 KiB.
+//! - Add, advance and commit ask the marks and walk the entries once; advance sorts what it found by cell.
+//! - Restore and add via parent find each cell's holder by one search over depths and entries, by the same nested loops as the
+//!   library: that search is a form that the store's specification names.
+//! - 64 bytes are copied at once where the budget suffices. Table words are stored one after another with volatile stores: their
+//!   order is what a cut relies on, and a compiler may reorder or drop plain ones.
+
+use core::mem::MaybeUninit;
+use core::ops::{Deref, DerefMut};
 
 /// The magic number of a made store.
 pub const MAGIC: u32 = 0xCD51_1E01;
@@ -31,21 +40,67 @@ struct Shape {
     bodies: usize,
 }
 
+/// Room on the stack for so many values. It stands by itself, since the compiler clears all of it if it is a part of something that is
+/// cleared.
+const fn room<T: Copy, const N: usize>() -> [MaybeUninit<T>; N] {
+    [const { MaybeUninit::uninit() }; N]
+}
+
+/// The front part of a room. Only as much is written as a call uses: clearing all of it would cost a small store more than its table
+/// does.
+struct Front<'a, T> {
+    room: &'a mut [MaybeUninit<T>],
+    used: usize,
+}
+
+impl<'a, T: Copy> Front<'a, T> {
+    #[inline]
+    fn new(room: &'a mut [MaybeUninit<T>]) -> Self {
+        Front { room, used: 0 }
+    }
+
+    /// So many values, all the same.
+    #[inline]
+    fn fill(&mut self, used: usize, value: T) {
+        self.room[..used].fill(MaybeUninit::new(value));
+        self.used = used;
+    }
+}
+
+impl<T: Copy> Deref for Front<'_, T> {
+    type Target = [T];
+
+    #[inline]
+    fn deref(&self) -> &[T] {
+        // SAFETY: `fill` wrote so many.
+        unsafe { core::slice::from_raw_parts(self.room.as_ptr().cast(), self.used) }
+    }
+}
+
+impl<T: Copy> DerefMut for Front<'_, T> {
+    #[inline]
+    fn deref_mut(&mut self) -> &mut [T] {
+        // SAFETY: `fill` wrote so many.
+        unsafe { core::slice::from_raw_parts_mut(self.room.as_mut_ptr().cast(), self.used) }
+    }
+}
+
 /// What the pass over the table found out, for the later questions.
-struct Marks {
+struct Marks<'a> {
     /// For each cell, bit d - 1 tells that depth d holds it.
-    holders: [u8; MAX_CELLS],
-    /// One bit for each body in use.
-    used: [u64; MAX_PLACES / 64],
+    holders: Front<'a, u8>,
+    /// For each body, 1 where it is in use. Bytes, since neighbours that share a word would wait for each other's stores.
+    used: Front<'a, u8>,
     entries: usize,
     copies: usize,
 }
 
-impl Marks {
-    fn new() -> Self {
+impl<'a> Marks<'a> {
+    fn new(room: &'a mut [MaybeUninit<u8>; MAX_CELLS + MAX_PLACES]) -> Self {
+        let (cells, bodies) = room.split_at_mut(MAX_CELLS);
         Marks {
-            holders: [0; MAX_CELLS],
-            used: [0; MAX_PLACES / 64],
+            holders: Front::new(cells),
+            used: Front::new(bodies),
             entries: 0,
             copies: 0,
         }
@@ -119,9 +174,11 @@ fn check_words(table: &[u32], shape: Shape, marks: &mut Marks) -> bool {
     if table[8 + live..16].iter().any(|&word| word != 0) {
         return false;
     }
-    let mut via = false;
-    for pair in table[16..16 + 2 * shape.entries].chunks_exact(2) {
-        let (first, second) = (pair[0], pair[1]);
+    marks.holders.fill(shape.cells, 0);
+    marks.used.fill(shape.bodies, 0);
+    let (holders, used) = (&mut *marks.holders, &mut *marks.used);
+    let (mut entries, mut any) = (0, 0);
+    for &[first, second] in table[16..16 + 2 * shape.entries].as_chunks().0 {
         if first == 0 {
             if second != 0 {
                 return false;
@@ -129,37 +186,45 @@ fn check_words(table: &[u32], shape: Shape, marks: &mut Marks) -> bool {
             continue;
         }
         let depth = depth_of(first);
-        let cell = cell_of(first);
-        if depth == 0 || depth > live || first & 0x03FF_0000 != 0 || cell >= shape.cells {
+        if depth == 0 || depth > live || first & 0x03FF_0000 != 0 {
             return false;
         }
-        let bit = 1u8 << (depth - 1);
-        if marks.holders[cell] & bit != 0 {
+        let Some(holders) = holders.get_mut(cell_of(first)) else {
+            return false;
+        };
+        let bit = (1u32 << depth >> 1) as u8;
+        if *holders & bit != 0 {
             return false;
         }
-        marks.holders[cell] |= bit;
-        marks.entries += 1;
+        *holders |= bit;
+        entries += 1;
+        any |= first;
         if first & VIA_PARENT != 0 {
             if depth < 2 || second != 0 {
                 return false;
             }
-            via = true;
         } else {
-            let body = second as usize;
-            if body >= shape.bodies || marks.used[body / 64] >> (body % 64) & 1 == 1 {
+            let Some(used) = used.get_mut(second as usize) else {
+                return false;
+            };
+            if *used != 0 {
                 return false;
             }
-            marks.used[body / 64] |= 1 << (body % 64);
-            marks.copies += 1;
+            *used = 1;
         }
     }
-    if via {
-        for pair in table[16..16 + 2 * shape.entries].chunks_exact(2) {
-            if pair[0] & VIA_PARENT != 0 && !marks.holds(depth_of(pair[0]) - 1, cell_of(pair[0])) {
-                return false;
+    let mut parents = 0;
+    if any & VIA_PARENT != 0 {
+        for &[first, _] in table[16..16 + 2 * shape.entries].as_chunks().0 {
+            if first & VIA_PARENT != 0 {
+                if !marks.holds(depth_of(first) - 1, cell_of(first)) {
+                    return false;
+                }
+                parents += 1;
             }
         }
     }
+    (marks.entries, marks.copies) = (entries, entries - parents);
     true
 }
 
@@ -173,8 +238,10 @@ fn check_pending(table: &[u32], shape: Shape, marks: &mut Marks) -> bool {
         return false;
     }
     let end = 16 + 2 * shape.entries;
-    let mut meant = [0u32; 16 + 2 * MAX_PLACES];
-    meant[..end].copy_from_slice(&table[..end]);
+    let mut meant_room = room::<u32, { 16 + 2 * MAX_PLACES }>();
+    let mut meant = Front::new(&mut meant_room);
+    meant.fill(end, 0);
+    meant.copy_from_slice(&table[..end]);
     let mut last = 0;
     for pair in table[end..end + 2 * pending].chunks_exact(2) {
         let word = pair[0] as usize;
@@ -233,7 +300,9 @@ fn range(first: u32, count: u32, cells: usize) -> Result<core::ops::Range<usize>
     }
 }
 
-/// The entry by which the outermost of the depths `from..=to` that hold the cell holds it.
+/// The entry by which the outermost of the depths `from..=to` that hold the cell holds it. A function of its own in the machine code
+/// too: inlined into a large one its loop has too few registers.
+#[inline(never)]
 fn first_holder(
     table: &[u32],
     entries: usize,
@@ -241,12 +310,19 @@ fn first_holder(
     to: usize,
     cell: usize,
 ) -> Option<usize> {
+    let all = table[16..16 + 2 * entries].as_chunks::<2>().0;
     for depth in from..=to {
         let wanted = (depth as u32) << 28 | cell as u32;
-        for (place, pair) in table[16..16 + 2 * entries].chunks_exact(2).enumerate() {
-            if pair[0] & !(READ_WRITE | VIA_PARENT) == wanted {
-                return Some(place);
+        let is_it = |pair: &[u32; 2]| pair[0] & !(READ_WRITE | VIA_PARENT) == wanted;
+        let (fours, rest) = all.as_chunks::<4>();
+        // Four at a time, or the loop's speed would depend on where in the program it comes to stand.
+        for (group, four) in fours.iter().enumerate() {
+            if is_it(&four[0]) | is_it(&four[1]) | is_it(&four[2]) | is_it(&four[3]) {
+                return four.iter().position(is_it).map(|place| 4 * group + place);
             }
+        }
+        if let Some(place) = rest.iter().position(is_it) {
+            return Some(4 * fours.len() + place);
         }
     }
     None
@@ -267,29 +343,27 @@ fn body_behind(table: &[u32], entries: usize, mut place: usize) -> usize {
 
 /// Free bodies, lowest first.
 struct FreeBodies<'a> {
-    used: &'a [u64; MAX_PLACES / 64],
-    word: usize,
-    free: u64,
+    used: &'a [u8],
+    next: usize,
 }
 
 impl<'a> FreeBodies<'a> {
-    fn new(used: &'a [u64; MAX_PLACES / 64]) -> Self {
-        FreeBodies {
-            used,
-            word: 0,
-            free: !used[0],
-        }
+    fn new(used: &'a [u8]) -> Self {
+        FreeBodies { used, next: 0 }
     }
 
     /// Asked only as often as question 17 allows.
+    #[inline]
     fn take(&mut self) -> usize {
-        while self.free == 0 {
-            self.word += 1;
-            self.free = !self.used[self.word];
+        // Eight at a time over those in use.
+        while self.used[self.next..].first_chunk() == Some(&[1u8; 8]) {
+            self.next += 8;
         }
-        let bit = self.free.trailing_zeros() as usize;
-        self.free &= self.free - 1;
-        64 * self.word + bit
+        while self.used[self.next] != 0 {
+            self.next += 1;
+        }
+        self.next += 1;
+        self.next - 1
     }
 }
 
@@ -439,7 +513,8 @@ pub fn open(buffers: &mut Buffers, budget: u64) -> (u32, u64) {
         Ok(shape) => shape,
         Err(number) => return (number, 0),
     };
-    let mut marks = Marks::new();
+    let mut marks_room = room();
+    let mut marks = Marks::new(&mut marks_room);
     if !check_pending(table, shape, &mut marks) {
         return (4, 0);
     }
@@ -455,7 +530,8 @@ pub fn open(buffers: &mut Buffers, budget: u64) -> (u32, u64) {
 /// The answer, the steps and the new handle (0 unless done).
 pub fn create(buffers: &mut Buffers, budget: u64) -> (u32, u64, u32) {
     let table = &mut *buffers.table;
-    let mut marks = Marks::new();
+    let mut marks_room = room();
+    let mut marks = Marks::new(&mut marks_room);
     let shape = match check(
         buffers.memory.len(),
         buffers.bodies.len(),
@@ -495,7 +571,8 @@ pub fn add(
     budget: u64,
 ) -> (u32, u64) {
     let table = &mut *buffers.table;
-    let mut marks = Marks::new();
+    let mut marks_room = room();
+    let mut marks = Marks::new(&mut marks_room);
     let asked = (|| {
         let shape = check(
             buffers.memory.len(),
@@ -586,7 +663,8 @@ pub fn delete(
     budget: u64,
 ) -> (u32, u64) {
     let table = &mut *buffers.table;
-    let mut marks = Marks::new();
+    let mut marks_room = room();
+    let mut marks = Marks::new(&mut marks_room);
     let asked = (|| {
         let shape = check(
             buffers.memory.len(),
@@ -630,7 +708,8 @@ pub fn delete(
 
 pub fn commit(buffers: &mut Buffers, handle: u32, budget: u64) -> (u32, u64) {
     let table = &mut *buffers.table;
-    let mut marks = Marks::new();
+    let mut marks_room = room();
+    let mut marks = Marks::new(&mut marks_room);
     let asked = (|| {
         let shape = check(
             buffers.memory.len(),
@@ -645,8 +724,10 @@ pub fn commit(buffers: &mut Buffers, handle: u32, budget: u64) -> (u32, u64) {
         Err(number) => return (number, 0),
     };
     // The cells that the innermost domain holds read-write: they raise the label further out.
-    let mut raising = [0u64; MAX_CELLS / 64];
+    let mut raising_room = room::<u64, { MAX_CELLS / 64 }>();
+    let mut raising = Front::new(&mut raising_room);
     if depth > 1 {
+        raising.fill(shape.cells.div_ceil(64), 0);
         for place in 0..shape.entries {
             let (word, _) = entry(table, place);
             if depth_of(word) == depth && word & READ_WRITE != 0 {
@@ -684,9 +765,11 @@ pub fn commit(buffers: &mut Buffers, handle: u32, budget: u64) -> (u32, u64) {
 
 pub fn advance(buffers: &mut Buffers, handle: u32, budget: u64) -> (u32, u64) {
     let table = &mut *buffers.table;
-    let mut marks = Marks::new();
+    let mut marks_room = room();
+    let mut marks = Marks::new(&mut marks_room);
     // Cell and place of each read-write entry of the innermost domain, to be taken in order of cell.
-    let mut found = [0u32; MAX_PLACES];
+    let mut found_room = room::<u32, MAX_PLACES>();
+    let mut found = Front::new(&mut found_room);
     let asked = (|| {
         let shape = check(
             buffers.memory.len(),
@@ -695,6 +778,7 @@ pub fn advance(buffers: &mut Buffers, handle: u32, budget: u64) -> (u32, u64) {
             &mut marks,
         )?;
         let depth = innermost(table, handle)?;
+        found.fill(marks.entries, 0);
         let mut count = 0;
         for place in 0..shape.entries {
             let (word, _) = entry(table, place);
@@ -717,7 +801,9 @@ pub fn advance(buffers: &mut Buffers, handle: u32, budget: u64) -> (u32, u64) {
     };
     let found = &mut found[..count];
     found.sort_unstable();
-    let mut body_for = [u16::MAX; MAX_PLACES];
+    let mut body_room = room::<u16, MAX_PLACES>();
+    let mut body_for = Front::new(&mut body_room);
+    body_for.fill(shape.entries, u16::MAX);
     let mut stores = Stores::new(budget);
     let end = (|| {
         let mut free = FreeBodies::new(&marks.used);
@@ -731,7 +817,7 @@ pub fn advance(buffers: &mut Buffers, handle: u32, budget: u64) -> (u32, u64) {
             )?;
         }
         let mut journal = Journal::new(shape);
-        for (place, &body) in body_for[..shape.entries].iter().enumerate() {
+        for (place, &body) in body_for.iter().enumerate() {
             if body != u16::MAX {
                 let (word, _) = entry(table, place);
                 journal.entry(&mut stores, table, place, (word & !VIA_PARENT, body as u32))?;
@@ -744,7 +830,8 @@ pub fn advance(buffers: &mut Buffers, handle: u32, budget: u64) -> (u32, u64) {
 
 pub fn restore(buffers: &mut Buffers, handle: u32, budget: u64) -> (u32, u64) {
     let table = &mut *buffers.table;
-    let mut marks = Marks::new();
+    let mut marks_room = room();
+    let mut marks = Marks::new(&mut marks_room);
     let asked = (|| {
         let shape = check(
             buffers.memory.len(),
@@ -761,20 +848,12 @@ pub fn restore(buffers: &mut Buffers, handle: u32, budget: u64) -> (u32, u64) {
     let live = table[4] as usize;
     let mut stores = Stores::new(budget);
     let end = (|| {
-        // Eight marks at a time: most cells of a large memory are held by nobody. Marks past the memory are never set.
-        let wanted = u64::from_ne_bytes([0xFF << (depth - 1); 8]);
-        for (group, eight) in marks.holders[..shape.cells.next_multiple_of(8)]
-            .chunks_exact(8)
-            .enumerate()
-        {
-            if u64::from_ne_bytes(eight.try_into().expect("eight marks")) & wanted == 0 {
-                continue;
-            }
-            for (offset, holders) in eight.iter().enumerate() {
+        let mut put_back = |first: usize, holders: &[u8]| {
+            for (offset, holders) in holders.iter().enumerate() {
                 if holders >> (depth - 1) == 0 {
                     continue;
                 }
-                let cell = 8 * group + offset;
+                let cell = first + offset;
                 let place = first_holder(table, shape.entries, depth, live, cell)
                     .expect("the marks name a holder");
                 let body = body_behind(table, shape.entries, place);
@@ -783,7 +862,16 @@ pub fn restore(buffers: &mut Buffers, handle: u32, budget: u64) -> (u32, u64) {
                     &buffers.bodies[CELL * body..],
                 )?;
             }
+            Ok(())
+        };
+        // 64 marks at a time: most cells of a large memory are held by nobody.
+        let (groups, rest) = marks.holders.as_chunks::<64>();
+        for (group, holders) in groups.iter().enumerate() {
+            if holders.iter().fold(0, |all, one| all | one) >> (depth - 1) != 0 {
+                put_back(64 * group, holders)?;
+            }
         }
+        put_back(64 * groups.len(), rest)?;
         if depth == live {
             return Ok(());
         }
@@ -804,7 +892,8 @@ pub fn restore(buffers: &mut Buffers, handle: u32, budget: u64) -> (u32, u64) {
 
 /// The answer, the handles outermost first, and their number.
 pub fn list(memory: &[u8], bodies: &[u8], table: &[u32]) -> (u32, [u32; 8], u32) {
-    let mut marks = Marks::new();
+    let mut marks_room = room();
+    let mut marks = Marks::new(&mut marks_room);
     if let Err(number) = check(memory.len(), bodies.len(), table, &mut marks) {
         return (number, [0; 8], 0);
     }
@@ -821,7 +910,8 @@ pub fn look(
     handle: u32,
     cell: u32,
 ) -> (u32, u32, u64) {
-    let mut marks = Marks::new();
+    let mut marks_room = room();
+    let mut marks = Marks::new(&mut marks_room);
     let asked = (|| {
         let shape = check(memory.len(), bodies.len(), table, &mut marks)?;
         let depth = depth_of_handle(table, handle)?;

@@ -1,3 +1,6 @@
-//! The store without proofs, for comparison: see [`baseline`]. The measurements are the program of this package.
+//! The store without proofs, for comparison (see [`baseline`]), and what measures the library beside it (see [`measure`]). The
+//! tables are printed by the program of this package.
 
 pub mod baseline;
+pub mod measure;
+pub mod stores;

@@ -1,456 +1,405 @@
-//! The library beside plain memcpy of the same bytes and beside the same store without proofs.
-//!
-//! Every figure is a median over repeated runs in this one process, the two stores by turns, so that both meet the same machine.
+//! Prints the library's times beside the same store without proofs, beside a plain scan of the table and beside plain copies, with the
+//! goals that they are held to.
 
-use domain_bench::baseline;
-use domain_store::ffi;
-use std::hint::black_box;
-use std::time::{Duration, Instant};
+use domain_bench::measure::{CALLS, Call, Medians, Shape, measure};
+use std::time::Duration;
 
-/// The cells of working memory.
-const MEMORY: usize = 65_536;
-/// The first cell that is held.
-const FIRST: usize = 1_000;
+/// How long each shape is measured.
+const LIMIT: Duration = Duration::from_millis(150);
+/// The width of a column with two figures.
+const WIDE: usize = 12;
 
-/// The three lent buffers.
-struct Buffers {
-    memory: Vec<u8>,
-    bodies: Vec<u8>,
-    table: Vec<u32>,
+/// Each call beside the baseline.
+const GOAL: f64 = 1.5;
+/// The check of the table beside a plain scan.
+const GOAL_CHECK: f64 = 2.0;
+/// Each call from E = 256 to E = 4,096, with n fixed.
+const GOAL_GROWTH: f64 = 20.0;
+
+const MEMORIES: [usize; 2] = [65_536, 1_024];
+const PLACES: [usize; 3] = [64, 256, 4_096];
+const CELLS: [usize; 6] = [1, 9, 64, 512, 1_024, 4_096];
+
+/// A figure beside its goal, for the account at the end.
+struct Held {
+    call: Call,
+    shape: Shape,
+    ratio: f64,
+    met: bool,
 }
 
-impl Buffers {
-    fn new(places: usize) -> Self {
-        Buffers {
-            memory: vec![1; 64 * MEMORY],
-            bodies: vec![0; 64 * places],
-            table: vec![0; 36 + 6 * places],
-        }
-    }
-
-    fn cells(&mut self, cells: usize) -> &mut [u8] {
-        &mut self.memory[64 * FIRST..64 * (FIRST + cells)]
-    }
-
-    fn lent(&mut self) -> baseline::Buffers<'_> {
-        baseline::Buffers {
-            memory: &mut self.memory,
-            bodies: &mut self.bodies,
-            table: &mut self.table,
-        }
+fn goal(call: Call) -> f64 {
+    match call {
+        Call::Check => GOAL_CHECK,
+        _ => GOAL,
     }
 }
 
-/// The calls that are measured; the innermost domain is meant, and read-write.
-trait Store {
-    fn make(buffers: &mut Buffers) -> u32;
-    fn create(buffers: &mut Buffers) -> u32;
-    fn add(buffers: &mut Buffers, cells: usize, kind: u32) -> u32;
-    fn advance(buffers: &mut Buffers) -> u32;
-    fn restore(buffers: &mut Buffers) -> u32;
-    fn commit(buffers: &mut Buffers) -> u32;
-    fn look(buffers: &mut Buffers, cell: usize) -> u32;
-    fn list(buffers: &mut Buffers) -> u32;
-}
-
-struct Library;
-struct Baseline;
-
-/// The six arguments of the C interface.
-macro_rules! lend {
-    ($call:ident, $buffers:ident $(, $argument:expr)*) => {
-        unsafe {
-            ffi::$call(
-                $buffers.memory.as_mut_ptr(), $buffers.memory.len(), $buffers.bodies.as_mut_ptr(), $buffers.bodies.len(),
-                $buffers.table.as_mut_ptr(), $buffers.table.len() $(, $argument)*
-            )
-        }
-    };
-}
-
-impl Store for Library {
-    fn make(buffers: &mut Buffers) -> u32 {
-        let mut steps = 0;
-        lend!(ds_make, buffers, u64::MAX, &mut steps)
-    }
-
-    fn create(buffers: &mut Buffers) -> u32 {
-        let (mut steps, mut handle) = (0, 0);
-        lend!(ds_create, buffers, u64::MAX, &mut steps, &mut handle)
-    }
-
-    fn add(buffers: &mut Buffers, cells: usize, kind: u32) -> u32 {
-        let mut steps = 0;
-        lend!(
-            ds_add,
-            buffers,
-            0,
-            FIRST as u32,
-            cells as u32,
-            kind,
-            1,
-            u64::MAX,
-            &mut steps
-        )
-    }
-
-    fn advance(buffers: &mut Buffers) -> u32 {
-        let mut steps = 0;
-        lend!(ds_advance, buffers, 0, u64::MAX, &mut steps)
-    }
-
-    fn restore(buffers: &mut Buffers) -> u32 {
-        let mut steps = 0;
-        lend!(ds_restore, buffers, 0, u64::MAX, &mut steps)
-    }
-
-    fn commit(buffers: &mut Buffers) -> u32 {
-        let mut steps = 0;
-        lend!(ds_commit, buffers, 0, u64::MAX, &mut steps)
-    }
-
-    fn look(buffers: &mut Buffers, cell: usize) -> u32 {
-        let (mut place, mut offset) = (0, 0);
-        let number = lend!(ds_look, buffers, 0, cell as u32, &mut place, &mut offset);
-        black_box((place, offset));
-        number
-    }
-
-    fn list(buffers: &mut Buffers) -> u32 {
-        let (mut handles, mut count) = ([0u32; 8], 0);
-        let number = lend!(ds_list, buffers, handles.as_mut_ptr().cast(), &mut count);
-        black_box((handles, count));
-        number
+fn number(value: usize) -> String {
+    if value < 1_000 {
+        value.to_string()
+    } else {
+        format!("{},{:03}", value / 1_000, value % 1_000)
     }
 }
 
-impl Store for Baseline {
-    fn make(buffers: &mut Buffers) -> u32 {
-        baseline::make(&mut buffers.lent(), black_box(u64::MAX)).0
-    }
-
-    fn create(buffers: &mut Buffers) -> u32 {
-        baseline::create(&mut buffers.lent(), black_box(u64::MAX)).0
-    }
-
-    fn add(buffers: &mut Buffers, cells: usize, kind: u32) -> u32 {
-        baseline::add(
-            &mut buffers.lent(),
-            0,
-            FIRST as u32,
-            cells as u32,
-            kind,
-            1,
-            black_box(u64::MAX),
-        )
-        .0
-    }
-
-    fn advance(buffers: &mut Buffers) -> u32 {
-        baseline::advance(&mut buffers.lent(), 0, black_box(u64::MAX)).0
-    }
-
-    fn restore(buffers: &mut Buffers) -> u32 {
-        baseline::restore(&mut buffers.lent(), 0, black_box(u64::MAX)).0
-    }
-
-    fn commit(buffers: &mut Buffers) -> u32 {
-        baseline::commit(&mut buffers.lent(), 0, black_box(u64::MAX)).0
-    }
-
-    fn look(buffers: &mut Buffers, cell: usize) -> u32 {
-        black_box(baseline::look(
-            &buffers.memory,
-            &buffers.bodies,
-            &buffers.table,
-            0,
-            cell as u32,
-        ))
-        .0
-    }
-
-    fn list(buffers: &mut Buffers) -> u32 {
-        black_box(baseline::list(
-            &buffers.memory,
-            &buffers.bodies,
-            &buffers.table,
-        ))
-        .0
-    }
-}
-
-/// What is measured.
-const ROWS: [&str; 8] = [
-    "create + add by copy",
-    "advance",
-    "restore",
-    "commit",
-    "create + add via parent",
-    "look",
-    "check alone (list)",
-    "practice cycle",
-];
-
-/// Microseconds of one run of each row; none where it does not fit.
-type Times = [Option<f64>; ROWS.len()];
-
-fn timed(numbers: &mut u32, work: impl FnOnce() -> u32) -> f64 {
-    let start = Instant::now();
-    let number = work();
-    let time = start.elapsed();
-    *numbers |= number;
-    time.as_secs_f64() * 1e6
-}
-
-/// One run of every row. Every call has to be done: a refusal would be quick for the wrong reason.
-fn run<S: Store>(buffers: &mut Buffers, cells: usize, places: usize) -> Times {
-    let mut times: Times = [None; ROWS.len()];
-    let mut refused = 0;
-    let fits_twice = 2 * cells <= places;
-    S::make(buffers);
-    times[0] = Some(timed(&mut refused, || {
-        S::create(buffers) | S::add(buffers, cells, 0)
-    }));
-    times[6] = Some(
-        timed(&mut refused, || {
-            (0..8).fold(0, |refused, _| refused | S::list(buffers))
-        }) / 8.0,
-    );
-    times[5] = Some(
-        timed(&mut refused, || {
-            (0..8).fold(0, |refused, _| {
-                refused | S::look(buffers, FIRST + cells - 1)
-            })
-        }) / 8.0,
-    );
-    if fits_twice {
-        times[4] = Some(timed(&mut refused, || {
-            S::create(buffers) | S::add(buffers, cells, 1)
-        }));
-        refused |= S::commit(buffers);
-        buffers.cells(cells).fill(2);
-        times[1] = Some(timed(&mut refused, || S::advance(buffers)));
-    }
-    buffers.cells(cells).fill(3);
-    times[2] = Some(timed(&mut refused, || S::restore(buffers)));
-    times[3] = Some(timed(&mut refused, || S::commit(buffers)));
-    if fits_twice {
-        times[7] = Some(timed(&mut refused, || {
-            let mut refused = S::create(buffers) | S::add(buffers, cells, 0);
-            buffers.cells(cells).fill(4);
-            refused |= S::advance(buffers);
-            buffers.cells(cells).fill(5);
-            refused | S::restore(buffers) | S::commit(buffers)
-        }));
-    }
-    assert_eq!(refused, 0, "a measured call was refused");
-    times
-}
-
-/// The same bytes copied plainly, and for the cycle the program's writes too.
-fn run_memcpy(buffers: &mut Buffers, cells: usize, places: usize) -> Times {
-    let mut times: Times = [None; ROWS.len()];
-    let length = 64 * cells;
-    let keep = |buffers: &mut Buffers| {
-        let Buffers { memory, bodies, .. } = &mut *buffers;
-        black_box(&mut bodies[..length])
-            .copy_from_slice(black_box(&memory[64 * FIRST..][..length]));
-    };
-    let put_back = |buffers: &mut Buffers| {
-        let Buffers { memory, bodies, .. } = &mut *buffers;
-        black_box(&mut memory[64 * FIRST..][..length])
-            .copy_from_slice(black_box(&bodies[..length]));
-    };
-    let mut none = 0;
-    let mut copied = |work: &mut dyn FnMut()| {
-        Some(
-            timed(&mut none, || {
-                // Several times: a single small copy is shorter than the clock's own time.
-                (0..8).for_each(|_| work());
-                0
-            }) / 8.0,
-        )
-    };
-    times[0] = copied(&mut || keep(buffers));
-    times[2] = copied(&mut || put_back(buffers));
-    if 2 * cells <= places {
-        times[1] = copied(&mut || keep(buffers));
-        times[7] = copied(&mut || {
-            keep(buffers);
-            black_box(buffers.cells(cells)).fill(4);
-            keep(buffers);
-            black_box(buffers.cells(cells)).fill(5);
-            put_back(buffers);
-        });
-    }
-    times
-}
-
-fn median(mut values: Vec<f64>) -> Option<f64> {
-    if values.is_empty() {
-        return None;
-    }
-    values.sort_by(f64::total_cmp);
-    Some(values[values.len() / 2])
-}
-
-struct Medians {
-    library: Times,
-    baseline: Times,
-    memcpy: Times,
-}
-
-/// The two stores of one size, with the times of all runs so far.
-struct Bench {
-    cells: usize,
-    places: usize,
-    library: Buffers,
-    baseline: Buffers,
-    times: [Vec<Times>; 3],
-}
-
-impl Bench {
-    /// The first run of each is not counted: it meets untouched pages.
-    fn new(cells: usize, places: usize) -> Self {
-        let (mut library, mut baseline) = (Buffers::new(places), Buffers::new(places));
-        run::<Library>(&mut library, cells, places);
-        run::<Baseline>(&mut baseline, cells, places);
-        Bench {
-            cells,
-            places,
-            library,
-            baseline,
-            times: Default::default(),
-        }
-    }
-
-    fn round(&mut self) {
-        let (cells, places) = (self.cells, self.places);
-        self.times[0].push(run::<Library>(&mut self.library, cells, places));
-        self.times[1].push(run::<Baseline>(&mut self.baseline, cells, places));
-        self.times[2].push(run_memcpy(&mut self.baseline, cells, places));
-    }
-
-    fn medians(self) -> Medians {
-        let [library, baseline, memcpy] = self.times.map(|times| {
-            std::array::from_fn(|row| median(times.iter().filter_map(|times| times[row]).collect()))
-        });
-        Medians {
-            library,
-            baseline,
-            memcpy,
-        }
-    }
-}
-
-/// Runs all of them by turns until `limit` has passed for each, at least five times.
-fn measure(mut benches: Vec<Bench>, limit: Duration) -> Vec<Medians> {
-    let limit = limit * benches.len() as u32;
-    let start = Instant::now();
-    let mut runs = 0;
-    while runs < 5 || (start.elapsed() < limit && runs < 1_000) {
-        benches.iter_mut().for_each(Bench::round);
-        runs += 1;
-    }
-    benches.into_iter().map(Bench::medians).collect()
-}
-
-fn figure(value: Option<f64>) -> String {
+/// Three figures.
+fn short(value: f64) -> String {
     match value {
-        None => "-".into(),
-        Some(value) if value >= 1000.0 => format!("{value:.0}"),
-        Some(value) if value >= 10.0 => format!("{value:.1}"),
-        Some(value) => format!("{value:.3}"),
+        value if value >= 99.95 => format!("{value:.0}"),
+        value if value >= 9.995 => format!("{value:.1}"),
+        value => format!("{value:.2}"),
     }
 }
 
-fn ratio(one: Option<f64>, other: Option<f64>) -> String {
-    match (one, other) {
-        (Some(one), Some(other)) if other > 0.0 => {
-            let ratio = one / other;
-            if ratio >= 100.0 {
-                format!("{ratio:.0}")
-            } else {
-                format!("{ratio:.2}")
+fn mark(met: bool) -> char {
+    if met { ' ' } else { '!' }
+}
+
+/// The row of a table that tells which shape it is about.
+fn row_name(shape: &Shape) -> String {
+    format!(
+        "| {:>7} | {:<10} | {:>5} |",
+        shape.domains,
+        layout(shape),
+        number(shape.cells)
+    )
+}
+
+fn layout(shape: &Shape) -> &'static str {
+    match (shape.last, shape.scattered) {
+        (true, _) => "last",
+        (false, true) => "scattered",
+        (false, false) => "contiguous",
+    }
+}
+
+fn place_name(shape: &Shape) -> String {
+    format!(
+        "m = {}, E = {}, {} domain{}, {}, n = {}",
+        number(shape.memory),
+        number(shape.places),
+        shape.domains,
+        if shape.domains == 1 { "" } else { "s" },
+        layout(shape),
+        number(shape.cells)
+    )
+}
+
+fn print_head(width: usize, calls: &[Call]) {
+    let names: String = calls
+        .iter()
+        .map(|call| format!(" {:>width$} |", call.name()))
+        .collect();
+    println!("| Domains | Cells      |     n |{names}");
+    let lines: String = calls
+        .iter()
+        .map(|_| format!("{}:|", "-".repeat(width + 1)))
+        .collect();
+    println!("|--------:|------------|------:|{lines}");
+}
+
+/// The library's figures of one shape, each with the ratio that its goal is about.
+fn print_row(medians: &Medians) {
+    let mut line = row_name(&medians.shape);
+    for call in CALLS {
+        let text = match (medians.library[call as usize], medians.ratio(call)) {
+            (Some(value), Some(ratio)) => {
+                let met = mark(ratio <= goal(call));
+                format!("{} {}{met}", short(value), short(ratio))
+            }
+            _ => "- ".into(),
+        };
+        line += &format!(" {text:>WIDE$} |");
+    }
+    println!("{line}");
+}
+
+/// Measures and prints all shapes of one m and one E.
+fn print_shapes(memory: usize, places: usize) -> Vec<Medians> {
+    println!(
+        "m = {}, E = B = {}: library in µs, and how many times the baseline (goal {GOAL}); check: how many times a scan (goal {GOAL_CHECK:.0})",
+        number(memory),
+        number(places)
+    );
+    println!();
+    print_head(WIDE, &CALLS);
+    let mut all = Vec::new();
+    for domains in [1, 3] {
+        for scattered in [false, true] {
+            for cells in CELLS {
+                let shape = Shape {
+                    memory,
+                    places,
+                    domains,
+                    scattered,
+                    cells,
+                    last: false,
+                };
+                if shape.fits() {
+                    let medians = measure(shape, LIMIT);
+                    print_row(&medians);
+                    all.push(medians);
+                }
             }
         }
-        _ => "-".into(),
     }
+    println!();
+    all
 }
 
-fn print_table(places: usize, cells: &[usize], limit: Duration) {
-    println!("m = {MEMORY}, E = B = {places}; microseconds, medians");
+/// The check of the table, from the figures that stand already: the emptiest and the fullest table of each size.
+fn print_check(all: &[Medians]) {
+    println!(
+        "Check of the table (list), in µs: a scan reads both words of each entry and asks one question of them (goal: check at most {GOAL_CHECK:.0} scans);"
+    );
+    println!("a sum reads the same words with nothing to decide, many at a time. One domain.");
     println!();
     println!(
-        "| Cells | Call | Library | Baseline | memcpy | Library / baseline | Library / memcpy |"
+        "|      m |     E | Cells      |     n | library | baseline |  scan |   sum | library / scan | library / baseline |"
     );
-    println!("|---:|---|---:|---:|---:|---:|---:|");
-    for &cells in cells {
-        let medians = measure(vec![Bench::new(cells, places)], limit).remove(0);
-        for (row, name) in ROWS.iter().enumerate() {
-            let (library, baseline, memcpy) = (
-                medians.library[row],
-                medians.baseline[row],
-                medians.memcpy[row],
-            );
-            println!(
-                "| {cells} | {name} | {} | {} | {} | {} | {} |",
-                figure(library),
-                figure(baseline),
-                figure(memcpy),
-                ratio(library, baseline),
-                ratio(library, memcpy)
-            );
+    println!(
+        "|-------:|------:|------------|------:|--------:|---------:|------:|------:|---------------:|-------------------:|"
+    );
+    for memory in MEMORIES {
+        for places in PLACES {
+            for scattered in [false, true] {
+                let these = || {
+                    all.iter().filter(move |medians| {
+                        let shape = medians.shape;
+                        (shape.memory, shape.places) == (memory, places)
+                            && (shape.domains, shape.scattered) == (1, scattered)
+                    })
+                };
+                for medians in these().next().into_iter().chain(these().next_back()) {
+                    let (Some(library), Some(baseline)) = (
+                        medians.library[Call::Check as usize],
+                        medians.baseline[Call::Check as usize],
+                    ) else {
+                        continue;
+                    };
+                    let beside = library / medians.scan;
+                    println!(
+                        "| {:>6} | {:>5} | {:<10} | {:>5} | {:>7} | {:>8} | {:>5} | {:>5} | {:>13}{} | {:>18} |",
+                        number(memory),
+                        number(places),
+                        if scattered { "scattered" } else { "contiguous" },
+                        number(medians.shape.cells),
+                        short(library),
+                        short(baseline),
+                        short(medians.scan),
+                        short(medians.sum),
+                        short(beside),
+                        mark(beside <= GOAL_CHECK),
+                        short(library / baseline)
+                    );
+                }
+            }
         }
     }
     println!();
 }
 
-fn print_growth(cells: usize, limit: Duration) {
-    let all = [64, 256, 1024, 4096];
-    let medians = measure(
-        all.iter()
-            .map(|&places| Bench::new(cells, places))
-            .collect(),
-        limit,
+/// How many times as long a call takes at E = 4,096 as at E = 256, and whether that is allowed.
+fn growth(small: &Medians, large: &Medians, call: Call) -> Option<(f64, bool)> {
+    let before = small.library[call as usize]?;
+    let after = large.library[call as usize]?;
+    let times = after / before;
+    let mut met = times <= GOAL_GROWTH;
+    if call == Call::Restore && !met {
+        // One search at the larger size: a look that finds nobody, less the check, for each domain.
+        let check = large.library[Call::Check as usize]?;
+        let search = (large.library[Call::LookNobody as usize]? - check).max(0.0);
+        met = after - before <= check + small.shape.cells as f64 * search;
+    }
+    Some((times, met))
+}
+
+/// Shapes whose entries stand in the last places.
+fn measure_last() -> Vec<Medians> {
+    let mut last = Vec::new();
+    for memory in MEMORIES {
+        for cells in [1, 9, 64] {
+            for places in [256, 4_096] {
+                let shape = Shape {
+                    memory,
+                    places,
+                    domains: 1,
+                    scattered: false,
+                    cells,
+                    last: true,
+                };
+                last.push(measure(shape, LIMIT));
+            }
+        }
+    }
+    last
+}
+
+fn print_growth(all: &[Medians]) -> Vec<Held> {
+    const WIDTH: usize = 10;
+    println!(
+        "Growth from E = B = 256 to E = B = 4,096 with n fixed: how many times as long (goal {GOAL_GROWTH:.0}; restore: or longer by n searches)."
     );
     println!(
-        "Growth with E (= B) for {cells} cells, m = {MEMORY}; microseconds, medians, library / baseline in brackets"
+        "Last: the entries stand at the end of the table, where a search passes all other places first."
     );
     println!();
+    let mut held = Vec::new();
+    for memory in MEMORIES {
+        println!("m = {}", number(memory));
+        println!();
+        print_head(WIDTH, &CALLS);
+        for small in all {
+            let shape = Shape {
+                places: 4_096,
+                ..small.shape
+            };
+            if (small.shape.memory, small.shape.places) != (memory, 256) {
+                continue;
+            }
+            let Some(large) = all.iter().find(|medians| medians.shape == shape) else {
+                continue;
+            };
+            let mut line = row_name(&shape);
+            for call in CALLS {
+                let text = match growth(small, large, call) {
+                    Some((ratio, met)) => {
+                        held.push(Held {
+                            call,
+                            shape,
+                            ratio,
+                            met,
+                        });
+                        format!("{}{}", short(ratio), mark(met))
+                    }
+                    None => "- ".into(),
+                };
+                line += &format!(" {text:>WIDTH$} |");
+            }
+            println!("{line}");
+        }
+        println!();
+    }
+    held
+}
+
+fn print_last(last: &[Medians]) {
     println!(
-        "| Call | E = {} | E = {} | E = {} | E = {} | Library, last / first |",
-        all[0], all[1], all[2], all[3]
+        "Entries in the last places, m = 65,536, E = B = 4,096 (not among the goals): library in µs, and how many times the baseline; check: a scan"
     );
-    println!("|---|---:|---:|---:|---:|---:|");
-    for (row, name) in ROWS.iter().enumerate() {
-        let columns: Vec<String> = medians
-            .iter()
-            .map(|medians| {
-                format!(
-                    "{} ({})",
-                    figure(medians.library[row]),
-                    ratio(medians.library[row], medians.baseline[row])
-                )
-            })
-            .collect();
-        println!(
-            "| {name} | {} | {} |",
-            columns.join(" | "),
-            ratio(medians[3].library[row], medians[0].library[row])
-        );
+    println!();
+    print_head(WIDE, &CALLS);
+    last.iter()
+        .filter(|medians| (medians.shape.memory, medians.shape.places) == (65_536, 4_096))
+        .for_each(print_row);
+    println!();
+}
+
+fn print_copies(all: &[Medians]) {
+    let calls = [Call::Preserve, Call::Advance, Call::Restore, Call::Cycle];
+    println!(
+        "Beside plain copies of the same bytes (and for the cycle the same writes), m = 65,536, E = B = 4,096: copies in µs, and how many times that the library takes"
+    );
+    println!();
+    print_head(14, &calls);
+    for medians in all {
+        let shape = medians.shape;
+        if (shape.memory, shape.places, shape.domains, shape.scattered) != (65_536, 4_096, 1, false)
+        {
+            continue;
+        }
+        let mut line = row_name(&shape);
+        for call in calls {
+            let text = match (
+                medians.library[call as usize],
+                medians.memcpy[call as usize],
+            ) {
+                (Some(library), Some(copies)) if copies > 0.0 => {
+                    format!("{copies:.3} {}", short(library / copies))
+                }
+                _ => "- ".into(),
+            };
+            line += &format!(" {text:>14} |");
+        }
+        println!("{line}");
     }
     println!();
+}
+
+/// How many of these figures meet their goal, and the worst of those that do not.
+fn account<'a>(title: &str, held: impl Iterator<Item = &'a Held>) {
+    let held: Vec<&Held> = held.collect();
+    let met = held.iter().filter(|held| held.met).count();
+    let missed = held.iter().filter(|held| !held.met);
+    let worst = missed.max_by(|one, other| one.ratio.total_cmp(&other.ratio));
+    let worst = worst.map_or("all met".into(), |held| {
+        format!(
+            "worst {:>5}: {}{}",
+            short(held.ratio),
+            place_name(&held.shape),
+            if title.starts_with("growth") {
+                format!(", {}", held.call.name())
+            } else {
+                String::new()
+            }
+        )
+    });
+    println!("  {title:<22} {met:>3} of {:>3} met; {worst}", held.len());
 }
 
 fn main() {
-    let limit = Duration::from_millis(300);
     println!(
-        "The practice cycle: create, add n cells, write them, advance, write them, restore, commit."
+        "Each figure is a median of runs in which the library and the baseline take turns in one process; a `!` marks a goal that is missed."
     );
-    println!("A dash: the call copies no bytes, or 2n cells do not fit.");
+    println!(
+        "Preserve: create and add n cells by copy (contiguous: one add; scattered: n adds of one cell, in no order). Via parent: the same, via parent."
+    );
+    println!(
+        "Cycle: create, add n, write n, advance, write n, restore, commit. Restore: the outermost domain, which ends those inside. Look: a held cell, and one"
+    );
+    println!(
+        "that nobody holds. Three domains: two hold the same n cells already. A dash: it does not fit (an advance takes n bodies before it frees n)."
+    );
     println!();
-    print_table(4096, &[1, 9, 64, 512, 1024, 4096], limit);
-    print_table(64, &[1, 9, 64], limit);
-    print_growth(9, limit);
+    let mut all = Vec::new();
+    for memory in MEMORIES {
+        for places in PLACES {
+            all.extend(print_shapes(memory, places));
+        }
+    }
+    print_check(&all);
+    print_copies(&all);
+    let beside: Vec<Held> = all
+        .iter()
+        .flat_map(|medians| {
+            CALLS.into_iter().filter_map(|call| {
+                let ratio = medians.ratio(call)?;
+                Some(Held {
+                    call,
+                    shape: medians.shape,
+                    ratio,
+                    met: ratio <= goal(call),
+                })
+            })
+        })
+        .collect();
+    let last = measure_last();
+    print_last(&last);
+    all.extend(last);
+    let growths = print_growth(&all);
+
+    println!("Goals");
+    println!();
+    for call in CALLS {
+        account(
+            &format!("{} <= {}", call.name(), goal(call)),
+            beside.iter().filter(|held| held.call == call),
+        );
+    }
+    account(
+        &format!("all calls <= {GOAL}"),
+        beside.iter().filter(|held| held.call != Call::Check),
+    );
+    account(&format!("growth <= {GOAL_GROWTH}"), growths.iter());
 }
