@@ -2,6 +2,7 @@
 use Prim.Native.Nat.{ℕ, zero, suc, _+_, _*_, _≤_, _<_}
 use mathlib.Core.Bool.{Bool, true, false, cond, _&&_, true≢false, false≢true}
 use mathlib.Core.List.{List, [], _∷_}
+use mathlib.Core.Logic.{_⊎_, inl, inr}
 use mathlib.Core.Option.{Option, none, some}
 use mathlib.Core.Path.{_≡_, refl, sym, ap, subst, _∙_}
 use native.Mathlib.Omega.{arith}
@@ -18,7 +19,7 @@ use Rattle.model.specs.State.{State}
 use Rattle.model.specs.Answer.{Status, isDone, isStopped, isRefused, Report, done, stopped, refused, ended, View, view, stepsOf}
 use Rattle.model.specs.Calls.{Effect, refuse, change, fresh}
 use Rattle.model.specs.Restore.{viewedWith}
-use Rattle.model.specs.History.{Request}
+use Rattle.model.specs.History.{Request, create, list, add, delete, advance, commit, restore, look}
 use Rattle.model.specs.Session.{Input, make, call, opening, write, effectOf, memoryAfter, memoryAt, viewOf, Mixed}
 use Rattle.model.proofs.Views.{memory-whole, memory-mixed}
 use Rattle.store.specs.Outcome.{Buffers, buffers, Outcome, outcome}
@@ -26,12 +27,13 @@ use Rattle.store.specs.State.{stateOf, standing}
 use Rattle.store.specs.Calls.{makeCall, openCall}
 use Rattle.store.specs.Means.{seen, orRefused, roomOf}
 use Rattle.store.proofs.Checks.{store-shape, shape-lengths}
+use Rattle.store.proofs.Outcome.{one-store as one-more}
 use Rattle.store.proofs.Means.{seenOf, by-check, make-means, open-means}
 use Rattle.store.proofs.Pending.{pendingAfter, afterPending, leftPending}
 use Rattle.store.proofs.Standing.{stands-for, only-state, is-standing}
 use Rattle.look.proofs.Placing.{look-means}
 use Rattle.demands.specs.Session.{callOn, inputOn, buffersAfter}
-use Rattle.demands.specs.Demands.{asked, opens, shows, callView, Found, not-made, wholly-made, noMake, madeFrom, MakeDone, Demand2}
+use Rattle.demands.specs.Demands.{asked, opens, shows, callView, OneMore, Found, not-made, wholly-made, noMake, madeFrom, MakeDone, Demand2}
 use Rattle.demands.proofs.Shape.{standing-opens}
 use Rattle.demands.proofs.Seen.{call-means, call-refusal}
 use Rattle.demands.proofs.Steps.{pairs-left, call-kept, viewed-stands, open-seen, still-opens, written-standing}
@@ -129,12 +131,25 @@ cut c k b good stop = go (effectOf (roomOf b) (b .memory) c (stateOf b)) refl
         absurd (subst Halted (sym stop ∙ ap (λ (v : View). v .report .status) v ∙ d) tt))
         (λ t. found x w h new e t (ltb (x + 2 * w) k) refl (ap (λ (v : View). v .state) v))
 
+-- ---- one store a step
+
+one-store : (c : Request) (k : ℕ) (b : Buffers) → OneMore ((callOn c k b) .buffers) ((callOn c (suc k) b) .buffers)
+one-store create k b = one-more _ k b
+one-store list k b = inl refl
+one-store (add h first n i l) k b = one-more _ k b
+one-store (delete h first n) k b = one-more _ k b
+one-store (advance h) k b = one-more _ k b
+one-store (commit h) k b = one-more _ k b
+one-store (restore h) k b = one-more _ k b
+one-store (look h c) k b = inl refl
+
 pub demand-2 : Demand2
 demand-2 = record {
   make-shows = make-means;
   open-shows = open-means;
   call-shows = call-shows;
   look-shows = look-means;
+  one-store = one-store;
   stands = stands-for;
   one-state = λ b s e. only-state b e s;
   reached = reached;

@@ -20,7 +20,7 @@ use Rattle.model.specs.Calls.{change}
 use Rattle.model.specs.Holdings.{named, isLive, isInnermost, rangeOk}
 use Rattle.model.specs.History.{Request, create, list, add, delete, advance, commit, restore, look, Event, called, opened, History, Tracked, begun, finished, trackedAt, mismatches, countEvent, counts, historyAfter}
 use Rattle.model.specs.Session.{Input, make, call, opening, write, effectOf, memoryAfter, viewOf, Mixed, AllZero, Agrees}
-use Rattle.store.specs.Outcome.{Buffers, Outcome, outcome, leaves}
+use Rattle.store.specs.Outcome.{Buffers, Step, step, Outcome, outcome, leaves}
 use Rattle.store.specs.Checks.{openCheck, storeCheck}
 use Rattle.store.specs.State.{StandsFor, slots, effectiveTable, stateOf, standing}
 use Rattle.store.specs.Calls.{makeCall, openCall}
@@ -141,6 +141,10 @@ pub data Found (c : Request) (b left : Buffers) : Type 0 where
   wholly-made : {bytes words h : ℕ} {new : State} → effectOf (roomOf b) (b .memory) c (stateOf b) ≡ change bytes words h new → standing left ≡ some new
       → 0 < pending (left .table) → left .memory ≡ memoryAfter c (stateOf b) (b .memory) → Found c b left
 
+-- "The buffers after budget k + 1 differ from those after k in at most one word or byte": they are the same, or one store more is made
+abbrev pub OneMore : (before after : Buffers) → Type 0
+OneMore b c = (c ≡ b) ⊎ ((s : Step) × (c ≡ step s b))
+
 abbrev pub noMake : List Input → Bool
 noMake [] = true
 noMake (make k ∷ is) = false
@@ -160,6 +164,9 @@ pub record Demand2 : Type 0 where
   pub open-shows : (k : ℕ) (b : Buffers) → shows (outcome (openCall b) k b) ≡ openMeans k b
   pub call-shows : (c : Request) (k : ℕ) (b : Buffers) → shows (callOn c k b) ≡ callView c k b
   pub look-shows : (h c : ℕ) (b : Buffers) → shownAt (lookPlace h c b) b ≡ lookMeans h c b
+  -- list shows what `listMeans` says: its contract is an equation with it (`of-list`)
+  -- "The buffers after budget k + 1 differ from those after k in at most one word or byte", whatever the call
+  pub one-store : (c : Request) (k : ℕ) (b : Buffers) → OneMore ((callOn c k b) .buffers) ((callOn c (suc k) b) .buffers)
   -- "A table that opening accepts stands for one state of domains and holdings"
   pub stands : (b : Buffers) → opens b ≡ 0 → StandsFor (slots b) (effectiveTable b) (b .bodies) (stateOf b)
   pub one-state : (b : Buffers) (s : State) → opens b ≡ 0 → StandsFor (slots b) (effectiveTable b) (b .bodies) s → s ≡ stateOf b
