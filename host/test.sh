@@ -63,7 +63,11 @@ suite header header
 suite store cargo test --offline -p domain_store
 suite model cargo test --offline -p domain_model
 suite sessions cargo test --offline -p domain_sessions -- --nocapture
+suite bench cargo test --offline -p domain_bench
 suite stepping cargo test --offline -p domain_stepping
+# The stepping suite's second account: children that were killed.
+kills=$(sed -n 's/^kills: //p' "$log/stepping" | tail -1)
+[ -z "$kills" ] || summary+=("$(printf '  %-16s %s' "" "$kills")")
 
 echo
 echo "host-test:"

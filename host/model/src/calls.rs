@@ -7,7 +7,7 @@ use std::collections::{BTreeMap, BTreeSet};
 use std::fmt;
 
 /// A call with its arguments. The numbers are as lent, right or wrong.
-#[derive(Clone, PartialEq, Eq, Debug)]
+#[derive(Clone, Copy, PartialEq, Eq, Debug)]
 pub enum Call {
     Make,
     Open,
@@ -65,6 +65,35 @@ impl Call {
         Call::NAMES[self.number()]
     }
 
+    /// The call's numbers: handle, first cell (for look the cell), count, kind and label, as far as
+    /// it has them.
+    pub fn numbers_mut(&mut self) -> [Option<&mut u32>; 5] {
+        match self {
+            Call::Make | Call::Open | Call::Create | Call::List => [None, None, None, None, None],
+            Call::Add {
+                handle,
+                first,
+                count,
+                kind,
+                label,
+            } => [handle, first, count, kind, label].map(Some),
+            Call::Delete {
+                handle,
+                first,
+                count,
+            } => [Some(handle), Some(first), Some(count), None, None],
+            Call::Commit { handle } | Call::Advance { handle } | Call::Restore { handle } => {
+                [Some(handle), None, None, None, None]
+            }
+            Call::Look { handle, cell } => [Some(handle), Some(cell), None, None, None],
+        }
+    }
+
+    /// The same numbers, with 0 for those that the call does not have.
+    pub fn numbers(mut self) -> [u32; 5] {
+        self.numbers_mut().map(|number| number.map_or(0, |n| *n))
+    }
+
     /// List and look change nothing and take no budget.
     pub fn only_reads(&self) -> bool {
         matches!(self, Call::List | Call::Look { .. })
@@ -73,15 +102,10 @@ impl Call {
 
 impl fmt::Display for Call {
     fn fmt(&self, f: &mut fmt::Formatter<'_>) -> fmt::Result {
+        let [handle, first, count, kind, label] = self.numbers();
         match self {
             Call::Make | Call::Open | Call::Create | Call::List => write!(f, "{}", self.name()),
-            Call::Add {
-                handle,
-                first,
-                count,
-                kind,
-                label,
-            } => {
+            Call::Add { .. } => {
                 let kind = match kind {
                     0 => "copy".to_string(),
                     1 => "via parent".to_string(),
@@ -97,15 +121,11 @@ impl fmt::Display for Call {
                     "add to {handle}: first {first}, count {count}, {kind}, {label}"
                 )
             }
-            Call::Delete {
-                handle,
-                first,
-                count,
-            } => write!(f, "delete from {handle}: first {first}, count {count}"),
-            Call::Commit { handle } | Call::Advance { handle } | Call::Restore { handle } => {
+            Call::Delete { .. } => write!(f, "delete from {handle}: first {first}, count {count}"),
+            Call::Commit { .. } | Call::Advance { .. } | Call::Restore { .. } => {
                 write!(f, "{} {handle}", self.name())
             }
-            Call::Look { handle, cell } => write!(f, "look {handle}, cell {cell}"),
+            Call::Look { .. } => write!(f, "look {handle}, cell {first}"),
         }
     }
 }
@@ -284,28 +304,19 @@ impl Model {
         if pending != 0 {
             return Err(3);
         }
-        match *call {
+        let [handle, first, count, kind, label] = call.numbers();
+        match call {
             Call::Make | Call::Open => unreachable!(),
             Call::Create => self.create(state),
-            Call::Add {
-                handle,
-                first,
-                count,
-                kind,
-                label,
-            } => self.add(sizes, state, memory, handle, first, count, kind, label),
-            Call::Delete {
-                handle,
-                first,
-                count,
-            } => self.delete(sizes, state, handle, first, count),
-            Call::Commit { handle } => self.commit(state, handle),
-            Call::Advance { handle } => self.advance(sizes, state, memory, handle),
-            Call::Restore { handle } => self.restore(state, handle),
+            Call::Add { .. } => self.add(sizes, state, memory, handle, first, count, kind, label),
+            Call::Delete { .. } => self.delete(sizes, state, handle, first, count),
+            Call::Commit { .. } => self.commit(state, handle),
+            Call::Advance { .. } => self.advance(sizes, state, memory, handle),
+            Call::Restore { .. } => self.restore(state, handle),
             Call::List => Ok(Verdict::Listed(
                 state.domains.iter().map(|d| d.handle).collect(),
             )),
-            Call::Look { handle, cell } => self.look(sizes, state, memory, handle, cell),
+            Call::Look { .. } => self.look(sizes, state, memory, handle, first),
         }
     }
 

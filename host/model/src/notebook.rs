@@ -144,7 +144,7 @@ impl Notebook {
                         }
                     }
                 }
-                self.waiting = Some(call.clone());
+                self.waiting = Some(*call);
                 Ok(None)
             }
         }
@@ -230,24 +230,30 @@ impl Notebook {
             Call::Restore { handle } => {
                 let named = self.find(handle)?;
                 self.live.truncate(named + 1);
-                let page = &self.live[named];
-                if page.uncounted {
-                    return Ok(None);
-                }
-                let mut count = Count {
-                    handle: page.handle,
-                    differ: 0,
-                    looked_at: 0,
-                };
-                for (i, byte) in memory.iter().enumerate() {
-                    if !page.spoilt[i] {
-                        count.looked_at += 1;
-                        count.differ += (*byte != page.picture[i]) as u64;
-                    }
-                }
-                return Ok(Some(count));
+                return self.zero_count(handle, memory);
             }
         }
         Ok(None)
+    }
+
+    /// The zero count of a restore of this domain, with memory as the restore left it; none if it
+    /// does not count.
+    pub fn zero_count(&self, handle: u32, memory: &[u8]) -> Result<Option<Count>, String> {
+        let page = &self.live[self.find(handle)?];
+        if page.uncounted {
+            return Ok(None);
+        }
+        let mut count = Count {
+            handle: page.handle,
+            differ: 0,
+            looked_at: 0,
+        };
+        for (i, byte) in memory.iter().enumerate() {
+            if !page.spoilt[i] {
+                count.looked_at += 1;
+                count.differ += (*byte != page.picture[i]) as u64;
+            }
+        }
+        Ok(Some(count))
     }
 }

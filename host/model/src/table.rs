@@ -49,14 +49,18 @@ impl Decoded {
         (0..self.sizes.e).filter(|e| !used.contains(e)).collect()
     }
 
+    /// The body of a domain's own copy of a cell.
+    pub fn body(&self, domain: usize, cell: u32) -> Option<u32> {
+        match self.state.domains.get(domain)?.cells.get(&cell)?.kept {
+            Kept::Copy(_) => Some(self.places[&(domain, cell)].body),
+            Kept::ViaParent => None,
+        }
+    }
+
     /// Bodies not in use.
     pub fn free_bodies(&self) -> BTreeSet<u32> {
-        let used: BTreeSet<u32> = self
-            .places
-            .iter()
-            .filter(|((d, c), _)| matches!(self.state.domains[*d].cells[c].kept, Kept::Copy(_)))
-            .map(|(_, p)| p.body)
-            .collect();
+        let held = self.places.keys();
+        let used: BTreeSet<u32> = held.filter_map(|(d, c)| self.body(*d, *c)).collect();
         (0..self.sizes.b).filter(|b| !used.contains(b)).collect()
     }
 }

@@ -626,7 +626,6 @@ impl Generator {
                 count: self.wild_number(),
             },
             _ => {
-                let (first, count) = (self.wild_number(), self.wild_number());
                 let odd = |rng: &mut Rng| {
                     if rng.chance(150) {
                         *rng.pick(&[2, 7, u32::MAX])
@@ -634,13 +633,12 @@ impl Generator {
                         rng.below(2) as u32
                     }
                 };
-                let (kind, label) = (odd(&mut self.rng), odd(&mut self.rng));
                 Call::Add {
                     handle,
-                    first,
-                    count,
-                    kind,
-                    label,
+                    first: self.wild_number(),
+                    count: self.wild_number(),
+                    kind: odd(&mut self.rng),
+                    label: odd(&mut self.rng),
                 }
             }
         }

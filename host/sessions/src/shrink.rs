@@ -174,13 +174,11 @@ impl Shrinker<'_> {
 fn move_cells(input: &mut Input, by: u32) -> Option<()> {
     match input {
         Input::Write { at, .. } => *at = at.checked_sub(64 * by as usize)?,
-        Input::Call { call, .. } => match call {
-            Call::Add { first, .. } | Call::Delete { first, .. } => {
-                *first = first.checked_sub(by)?
+        Input::Call { call, .. } => {
+            if let [_, Some(first), ..] = call.numbers_mut() {
+                *first = first.checked_sub(by)?;
             }
-            Call::Look { cell, .. } => *cell = cell.checked_sub(by)?,
-            _ => {}
-        },
+        }
         Input::Damaged { .. } | Input::Lengths { .. } => {}
     }
     Some(())
@@ -195,92 +193,19 @@ fn lower(n: u32) -> Vec<u32> {
 
 fn simpler_call(call: &Call) -> Vec<Call> {
     let mut list = Vec::new();
-    match *call {
-        Call::Add {
-            handle,
-            first,
-            count,
-            kind,
-            label,
-        } => {
-            list.extend(lower(count).into_iter().map(|count| Call::Add {
-                handle,
-                first,
-                count,
-                kind,
-                label,
-            }));
-            list.extend(lower(first).into_iter().map(|first| Call::Add {
-                handle,
-                first,
-                count,
-                kind,
-                label,
-            }));
-            list.extend(lower(handle).into_iter().map(|handle| Call::Add {
-                handle,
-                first,
-                count,
-                kind,
-                label,
-            }));
-            list.extend(lower(kind).into_iter().map(|kind| Call::Add {
-                handle,
-                first,
-                count,
-                kind,
-                label,
-            }));
+    // A number that the call does not have is 0, below which there is none. The label stays.
+    let order = match call {
+        Call::Look { .. } => [0, 1, 2, 3],
+        _ => [2, 1, 0, 3],
+    };
+    for at in order {
+        for number in lower(call.numbers()[at]) {
+            let mut simpler = *call;
+            if let Some(place) = &mut simpler.numbers_mut()[at] {
+                **place = number;
+            }
+            list.push(simpler);
         }
-        Call::Delete {
-            handle,
-            first,
-            count,
-        } => {
-            list.extend(lower(count).into_iter().map(|count| Call::Delete {
-                handle,
-                first,
-                count,
-            }));
-            list.extend(lower(first).into_iter().map(|first| Call::Delete {
-                handle,
-                first,
-                count,
-            }));
-            list.extend(lower(handle).into_iter().map(|handle| Call::Delete {
-                handle,
-                first,
-                count,
-            }));
-        }
-        Call::Commit { handle } => list.extend(
-            lower(handle)
-                .into_iter()
-                .map(|handle| Call::Commit { handle }),
-        ),
-        Call::Advance { handle } => list.extend(
-            lower(handle)
-                .into_iter()
-                .map(|handle| Call::Advance { handle }),
-        ),
-        Call::Restore { handle } => list.extend(
-            lower(handle)
-                .into_iter()
-                .map(|handle| Call::Restore { handle }),
-        ),
-        Call::Look { handle, cell } => {
-            list.extend(
-                lower(handle)
-                    .into_iter()
-                    .map(|handle| Call::Look { handle, cell }),
-            );
-            list.extend(
-                lower(cell)
-                    .into_iter()
-                    .map(|cell| Call::Look { handle, cell }),
-            );
-        }
-        Call::Make | Call::Open | Call::Create | Call::List => {}
     }
     list
 }
@@ -317,7 +242,7 @@ fn simpler(input: &Input) -> Vec<Input> {
         } => {
             let with =
                 |call: &Call, budget: u64, openings: &[u64], every_cut: Option<u64>| Input::Call {
-                    call: call.clone(),
+                    call: *call,
                     budget,
                     openings: openings.to_vec(),
                     every_cut,
@@ -371,7 +296,7 @@ fn simpler(input: &Input) -> Vec<Input> {
                     });
                 };
                 if *budget != u64::MAX {
-                    replace(call.clone(), u64::MAX);
+                    replace(*call, u64::MAX);
                 }
                 for simple in simpler_call(call) {
                     replace(simple, *budget);

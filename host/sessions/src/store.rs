@@ -80,9 +80,10 @@ impl Lent {
         let ((memory, memory_len), (bodies, bodies_len), (table, table_len)) =
             (self.memory, self.bodies, self.table);
         let counted = steps.get_mut().as_mut_ptr();
+        let [named, first, cells, kind, label] = call.numbers();
         // The caller of this function answers for the pointers.
         let code = unsafe {
-            match *call {
+            match call {
                 Call::Make => ds_make(
                     memory, memory_len, bodies, bodies_len, table, table_len, budget, counted,
                 ),
@@ -96,34 +97,24 @@ impl Lent {
                         given,
                     )
                 }
-                Call::Add {
-                    handle,
-                    first,
-                    count,
-                    kind,
-                    label,
-                } => ds_add(
-                    memory, memory_len, bodies, bodies_len, table, table_len, handle, first, count,
+                Call::Add { .. } => ds_add(
+                    memory, memory_len, bodies, bodies_len, table, table_len, named, first, cells,
                     kind, label, budget, counted,
                 ),
-                Call::Delete {
-                    handle,
-                    first,
-                    count,
-                } => ds_delete(
-                    memory, memory_len, bodies, bodies_len, table, table_len, handle, first, count,
+                Call::Delete { .. } => ds_delete(
+                    memory, memory_len, bodies, bodies_len, table, table_len, named, first, cells,
                     budget, counted,
                 ),
-                Call::Commit { handle } => ds_commit(
-                    memory, memory_len, bodies, bodies_len, table, table_len, handle, budget,
+                Call::Commit { .. } => ds_commit(
+                    memory, memory_len, bodies, bodies_len, table, table_len, named, budget,
                     counted,
                 ),
-                Call::Advance { handle } => ds_advance(
-                    memory, memory_len, bodies, bodies_len, table, table_len, handle, budget,
+                Call::Advance { .. } => ds_advance(
+                    memory, memory_len, bodies, bodies_len, table, table_len, named, budget,
                     counted,
                 ),
-                Call::Restore { handle } => ds_restore(
-                    memory, memory_len, bodies, bodies_len, table, table_len, handle, budget,
+                Call::Restore { .. } => ds_restore(
+                    memory, memory_len, bodies, bodies_len, table, table_len, named, budget,
                     counted,
                 ),
                 Call::List => {
@@ -133,11 +124,11 @@ impl Lent {
                         memory, memory_len, bodies, bodies_len, table, table_len, list, live,
                     )
                 }
-                Call::Look { handle, cell } => {
+                Call::Look { .. } => {
                     let (shown, from) =
                         (place.get_mut().as_mut_ptr(), offset.get_mut().as_mut_ptr());
                     ds_look(
-                        memory, memory_len, bodies, bodies_len, table, table_len, handle, cell,
+                        memory, memory_len, bodies, bodies_len, table, table_len, named, first,
                         shown, from,
                     )
                 }

@@ -1,42 +1,8 @@
-//! The calls of the library, as values that can be written down and played.
+//! The model's calls, played on the library.
 
 use crate::buffers::{Image, Raw};
+use domain_model::Call;
 use domain_store::ffi;
-
-/// A call with its arguments, budget apart.
-#[repr(C, u32)]
-#[derive(Clone, Copy, Debug, PartialEq, Eq)]
-pub enum Call {
-    Make,
-    Open,
-    Create,
-    Add {
-        handle: u32,
-        first: u32,
-        count: u32,
-        kind: u32,
-        label: u32,
-    },
-    Delete {
-        handle: u32,
-        first: u32,
-        count: u32,
-    },
-    Commit {
-        handle: u32,
-    },
-    Advance {
-        handle: u32,
-    },
-    Restore {
-        handle: u32,
-    },
-    List,
-    Look {
-        handle: u32,
-        cell: u32,
-    },
-}
 
 pub const STOPPED: u32 = 255;
 
@@ -55,12 +21,22 @@ pub fn no_budget() -> u64 {
     unsafe { core::ptr::read_volatile(&most) }
 }
 
-impl Call {
+/// A call that the library can make.
+pub trait Run: Sized {
     /// Makes the call. Allocates nothing, so that a forked child may use it.
     ///
     /// # Safety
     /// The pointers reach as far as their lengths say, and nobody else uses the buffers meanwhile.
-    pub unsafe fn run(self, raw: Raw, budget: u64) -> Answer {
+    unsafe fn run(self, raw: Raw, budget: u64) -> Answer;
+
+    /// Makes the call on a copy of the buffers.
+    fn on(self, image: &mut Image, budget: u64) -> Answer {
+        unsafe { self.run(image.raw(), budget) }
+    }
+}
+
+impl Run for Call {
+    unsafe fn run(self, raw: Raw, budget: u64) -> Answer {
         let Raw {
             memory: m,
             memory_len: ml,
@@ -72,6 +48,7 @@ impl Call {
         let mut steps = 0u64;
         let mut new_handle = 0u32;
         let at = &mut steps;
+        let [handle, first, count, kind, label] = self.numbers();
         // SAFETY: as this function's caller promises; the out parameters are this function's own.
         #[rustfmt::skip]
         let number = unsafe {
@@ -79,19 +56,18 @@ impl Call {
                 Call::Make => ffi::ds_make(m, ml, b, bl, t, tl, budget, at),
                 Call::Open => ffi::ds_open(m, ml, b, bl, t, tl, budget, at),
                 Call::Create => ffi::ds_create(m, ml, b, bl, t, tl, budget, at, &mut new_handle),
-                Call::Add { handle, first, count, kind, label } =>
-                    ffi::ds_add(m, ml, b, bl, t, tl, handle, first, count, kind, label, budget, at),
-                Call::Delete { handle, first, count } => ffi::ds_delete(m, ml, b, bl, t, tl, handle, first, count, budget, at),
-                Call::Commit { handle } => ffi::ds_commit(m, ml, b, bl, t, tl, handle, budget, at),
-                Call::Advance { handle } => ffi::ds_advance(m, ml, b, bl, t, tl, handle, budget, at),
-                Call::Restore { handle } => ffi::ds_restore(m, ml, b, bl, t, tl, handle, budget, at),
+                Call::Add { .. } => ffi::ds_add(m, ml, b, bl, t, tl, handle, first, count, kind, label, budget, at),
+                Call::Delete { .. } => ffi::ds_delete(m, ml, b, bl, t, tl, handle, first, count, budget, at),
+                Call::Commit { .. } => ffi::ds_commit(m, ml, b, bl, t, tl, handle, budget, at),
+                Call::Advance { .. } => ffi::ds_advance(m, ml, b, bl, t, tl, handle, budget, at),
+                Call::Restore { .. } => ffi::ds_restore(m, ml, b, bl, t, tl, handle, budget, at),
                 Call::List => {
                     let (mut handles, mut count) = ([0u32; 8], 0u32);
                     ffi::ds_list(m, ml, b, bl, t, tl, handles.as_mut_ptr().cast(), &mut count)
                 }
-                Call::Look { handle, cell } => {
+                Call::Look { .. } => {
                     let (mut place, mut offset) = (0u32, 0u64);
-                    ffi::ds_look(m, ml, b, bl, t, tl, handle, cell, &mut place, &mut offset)
+                    ffi::ds_look(m, ml, b, bl, t, tl, handle, first, &mut place, &mut offset)
                 }
             }
         };
@@ -100,10 +76,5 @@ impl Call {
             handle: new_handle,
             steps,
         }
-    }
-
-    /// Makes the call on a copy of the buffers.
-    pub fn on(self, image: &mut Image, budget: u64) -> Answer {
-        unsafe { self.run(image.raw(), budget) }
     }
 }

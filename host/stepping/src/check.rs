@@ -1,12 +1,12 @@
 //! What is asked of one stepped call: its stores in the plan's order, and after each of them a store that opens.
 
 use crate::buffers::{Arena, Buffer, Image, Shape};
-use crate::calls::{Answer, Call, STOPPED, no_budget};
-use crate::notebook::{End, Notebook};
+use crate::calls::{Answer, Run, STOPPED, no_budget};
 use crate::plan::{Plan, plan};
 use crate::scenarios::{Scenario, prepare};
-use crate::state::{self, State};
+use crate::state;
 use crate::trace::{Failure, Stored, Trace, Way, at, follow};
+use domain_model::{Call, Ended, Notebook, State};
 
 /// What was tried, over all calls.
 #[derive(Default)]
@@ -61,9 +61,7 @@ impl Case {
         notebook: Notebook,
         counts: Option<(usize, usize)>,
     ) -> Result<Case, String> {
-        if before.table[0] == 0xCD51_1E01 && before.table[6] == 0 {
-            state::fill_what_means_nothing(&mut before);
-        }
+        state::fill_what_means_nothing(&mut before);
         let mut after = before.clone();
         let answer = call.on(&mut after, no_budget());
         let plan = plan(call, &before, &after, answer, counts)?;
@@ -159,7 +157,7 @@ impl Case {
         if (answer.number, answer.steps) != (0, steps) {
             return Err(format!("opening gives {answer:?}, not {steps} steps"));
         }
-        let found = state::state(&opened);
+        let found = state::state(&opened)?;
         let wanted = if found_made {
             &self.after
         } else {
@@ -174,34 +172,21 @@ impl Case {
         self.check_memory(&opened, made, found_made)?;
 
         let mut notebook = self.notebook.clone();
-        let count = match self.call {
-            Call::Open => notebook.opened(
-                if made < length {
-                    steps
-                } else {
-                    self.answer.steps
-                },
-                &opened.memory,
-            ),
-            Call::Make => notebook.call(Call::Make, End::Done, &opened.memory),
-            call if made < length => {
-                notebook.call(call, End::Stopped(made as u64), &cut.memory);
-                notebook.opened(steps, &opened.memory)
-            }
-            call => notebook.call(call, End::Done, &opened.memory),
-        };
-        if count.unwrap_or(0) != 0 {
-            return Err(format!(
-                "the completed restore has {} wrong bytes",
-                count.unwrap_or(0)
-            ));
+        if made < length {
+            let made = made as u64;
+            note(&mut notebook, self.call, Ended::Stopped, made, &cut.memory)?;
+            let memory = &opened.memory;
+            note(&mut notebook, Call::Open, Ended::Done, steps, memory)?;
+        } else {
+            let (steps, memory) = (self.answer.steps, &opened.memory);
+            note(&mut notebook, self.call, Ended::Done, steps, memory)?;
         }
         check_restores(&opened, &found, &notebook).map(|restores| tally.restores += restores)
     }
 
     fn check_memory(&self, opened: &Image, made: usize, found_made: bool) -> Result<(), String> {
         let put_back = match self.call {
-            Call::Restore { handle } => state::state(&self.before).put_back(handle),
+            Call::Restore { handle } => state::put_back(&state::state(&self.before)?, handle),
             _ => Default::default(),
         };
         let whole = found_made || made >= self.plan.bytes;
@@ -228,7 +213,25 @@ fn meant(image: &Image) -> Result<State, String> {
     if answer.number != 0 {
         return Err(format!("the uncut buffers open as {}", answer.number));
     }
-    Ok(state::state(&opened))
+    state::state(&opened)
+}
+
+/// Tells the notebook of a call that ended after this many steps. A restore that it completes has to bring back every byte.
+pub fn note(
+    notebook: &mut Notebook,
+    call: Call,
+    ended: Ended,
+    steps: u64,
+    memory: &[u8],
+) -> Result<(), String> {
+    // A call that was stopped had its steps as its budget.
+    match notebook.call(&call, steps, ended, steps, memory)? {
+        Some(count) if count.differ != 0 => Err(format!(
+            "the restore that {call:?} completes has {} wrong bytes",
+            count.differ
+        )),
+        _ => Ok(()),
+    }
 }
 
 /// Restores each live domain on a copy: the bytes are those of the state found, and the notebook counts none that is wrong.
@@ -250,7 +253,7 @@ pub fn check_restores(opened: &Image, found: &State, notebook: &Notebook) -> Res
             ));
         }
         let mut memory = opened.memory.clone();
-        for (cell, value) in found.put_back(handle) {
+        for (cell, value) in state::put_back(found, handle) {
             memory[64 * cell..64 * cell + 64].copy_from_slice(&value);
         }
         if restored.memory != memory {
@@ -260,15 +263,16 @@ pub fn check_restores(opened: &Image, found: &State, notebook: &Notebook) -> Res
         }
         let mut state = found.clone();
         state.domains.truncate(index + 1);
-        if state::state(&restored) != state {
+        if state::state(&restored)? != state {
             return Err(format!(
                 "restore of {handle} on the opened copy leaves other domains"
             ));
         }
-        let count = notebook.zero_count(handle, &restored.memory);
-        if count != 0 {
+        let count = notebook.zero_count(handle, &restored.memory)?;
+        if let Some(count) = count.filter(|count| count.differ != 0) {
             return Err(format!(
-                "restore of {handle} on the opened copy has {count} bytes that differ from its point"
+                "restore of {handle} on the opened copy has {} bytes that differ from its point",
+                count.differ
             ));
         }
     }

@@ -4,12 +4,12 @@
 //! feeds the notebook from that log, opens the store, and asks that the call in which the end fell is wholly made or not made.
 
 use crate::buffers::{Arena, Image, Raw, Shape};
-use crate::calls::{Answer, Call, no_budget};
-use crate::check::check_restores;
-use crate::notebook::{End, Notebook};
+use crate::calls::{Answer, Run, no_budget};
+use crate::check::{check_restores, note};
 use crate::random::Random;
 use crate::state;
 use crate::sys::{self, Shared, Status};
+use domain_model::{Call, Ended, Notebook};
 use std::sync::atomic::{AtomicU64, Ordering};
 use std::time::{Duration, Instant};
 
@@ -274,25 +274,19 @@ fn no_steps() -> u64 {
 fn feed(notebook: &mut Notebook, line: Line, memory: &[u8]) -> Result<(), String> {
     match line.act {
         Act::Write { first, count, .. } => {
-            notebook.wrote(64 * first as usize..64 * (first + count) as usize);
+            notebook.write(64 * first as usize, 64 * count as usize);
             Ok(())
         }
-        Act::Call(Call::Open) => {
-            if line.answer != Answer::default() {
-                return Err(format!("an opening between calls gives {:?}", line.answer));
-            }
-            Ok(())
+        Act::Call(Call::Open) if line.answer != Answer::default() => {
+            Err(format!("an opening between calls gives {:?}", line.answer))
         }
         Act::Call(call) => {
-            let end = if line.answer.number == 0 {
-                End::Done
+            let ended = if line.answer.number == 0 {
+                Ended::Done
             } else {
-                End::Refused
+                Ended::Refused
             };
-            match notebook.call(call, end, memory) {
-                None | Some(0) => Ok(()),
-                Some(count) => Err(format!("{call:?} leaves {count} wrong bytes")),
-            }
+            note(notebook, call, ended, line.answer.steps, memory)
         }
     }
 }
@@ -333,7 +327,7 @@ pub fn run(shape: Shape, aim: Aim, kills: u64, seed: u64, ends: &mut Ends) -> Re
         arena: Arena::new(shape),
         log: Log::new(shape),
         random: Random::new(seed),
-        notebook: Notebook::new(),
+        notebook: Notebook::new(None),
         shift: 0.0,
         missed: None,
     };
@@ -396,7 +390,7 @@ impl Trial {
                 Act::Write { first, count, byte } => {
                     let bytes = 64 * first as usize..64 * (first + count) as usize;
                     tried.memory[bytes.clone()].fill(byte as u8);
-                    self.notebook.wrote(bytes);
+                    self.notebook.write(bytes.start, bytes.len());
                     self.arena.load(&tried);
                 }
             }
@@ -519,10 +513,10 @@ impl Trial {
             }
             Some(Act::Write { first, count, .. }) => self
                 .notebook
-                .wrote(64 * first as usize..64 * (first + count) as usize),
+                .write(64 * first as usize, 64 * count as usize),
             None => {}
         }
-        ends.restores += check_restores(&opened, &state::state(&opened), &self.notebook)?;
+        ends.restores += check_restores(&opened, &state::state(&opened)?, &self.notebook)?;
         self.arena.load(&opened);
         Ok(())
     }
@@ -544,8 +538,7 @@ fn inside(
         }
         ends.no_store += 1;
         Call::Make.on(opened, no_budget());
-        notebook.call(call, End::Done, &opened.memory);
-        return Ok(());
+        return note(notebook, call, Ended::Done, 0, &opened.memory);
     }
     if answer.number != 0 {
         return Err(format!("opening gives {answer:?}"));
@@ -553,9 +546,9 @@ fn inside(
     let mut after = before.clone();
     let whole = call.on(&mut after, no_budget());
     let (old, new, found) = (
-        state::state(before),
-        state::state(&after),
-        state::state(opened),
+        state::state(before)?,
+        state::state(&after)?,
+        state::state(opened)?,
     );
     if found != old && found != new {
         return Err("opening finds neither what stood before nor the call made".into());
@@ -565,7 +558,7 @@ fn inside(
         return Err("opening took steps and the call is not made".into());
     }
     let put_back = match call {
-        Call::Restore { handle } if whole.number == 0 => old.put_back(handle),
+        Call::Restore { handle } if whole.number == 0 => state::put_back(&old, handle),
         _ => Default::default(),
     };
     for (byte, &value) in opened.memory.iter().enumerate() {
@@ -587,17 +580,13 @@ fn inside(
     if whole.number != 0 || call == Call::Open {
         return Ok(());
     }
-    let count = if made && answer.steps == 0 {
+    if made && answer.steps == 0 {
         // Ended between the last store and the return: done.
-        notebook.call(call, End::Done, &opened.memory)
-    } else {
-        // A make that was found not made has stored nothing.
-        let steps = if call == Call::Make { 0 } else { 1 };
-        notebook.call(call, End::Stopped(steps), &left.memory);
-        notebook.opened(answer.steps, &opened.memory)
-    };
-    match count {
-        None | Some(0) => Ok(()),
-        Some(count) => Err(format!("the completed restore has {count} wrong bytes")),
+        return note(notebook, call, Ended::Done, 0, &opened.memory);
     }
+    // A make that was found not made has stored nothing.
+    let steps = if call == Call::Make { 0 } else { 1 };
+    note(notebook, call, Ended::Stopped, steps, &left.memory)?;
+    let (steps, memory) = (answer.steps, &opened.memory);
+    note(notebook, Call::Open, Ended::Done, steps, memory)
 }

@@ -18,7 +18,6 @@ pub mod calls;
 pub mod check;
 pub mod faults;
 pub mod kill;
-pub mod notebook;
 pub mod plan;
 pub mod random;
 pub mod scenarios;

@@ -3,8 +3,9 @@
 //! What a call stores is read from the buffers before and after it; in which order it has to store them is document 01's.
 
 use crate::buffers::{Buffer, Image};
-use crate::calls::{Answer, Call};
+use crate::calls::Answer;
 use crate::state;
+use domain_model::Call;
 
 /// One step: a byte of memory or bodies, or a word of the table.
 #[derive(Clone, Copy, Debug, PartialEq, Eq)]
@@ -100,7 +101,7 @@ pub fn plan(
             }
         }
         _ => {
-            bytes(&mut plan, call, before, after);
+            bytes(&mut plan, call, before, after)?;
             plan.bytes = plan.stores.len();
             if counts.is_some_and(|(cells, _)| 64 * cells != plan.bytes) {
                 return Err(format!(
@@ -131,7 +132,7 @@ pub fn plan(
 }
 
 /// 64 for each copy taken or cell put back, rising by cell and byte.
-fn bytes(plan: &mut Plan, call: Call, before: &Image, after: &Image) {
+fn bytes(plan: &mut Plan, call: Call, before: &Image, after: &Image) -> Result<(), String> {
     let mut byte = |buffer, index: usize, value: u8| {
         plan.stores.push(Store {
             buffer,
@@ -141,35 +142,24 @@ fn bytes(plan: &mut Plan, call: Call, before: &Image, after: &Image) {
     };
     match call {
         Call::Add { .. } | Call::Advance { .. } => {
-            let old: Vec<_> = state::entries(before)
-                .into_iter()
-                .map(|(_, entry)| entry)
-                .collect();
-            let live = before.table[4] as usize;
-            let mut taken: Vec<_> = state::entries(after)
-                .into_iter()
-                .map(|(_, entry)| entry)
-                .filter(|entry| entry.depth == live && !entry.via_parent)
-                .filter(|entry| {
-                    !old.iter().any(|other| {
-                        (other.depth, other.cell, other.via_parent, other.body)
-                            == (entry.depth, entry.cell, false, entry.body)
-                    })
-                })
-                .collect();
-            taken.sort_by_key(|entry| entry.cell);
-            for entry in taken {
+            let (old, new) = (state::decoded(before)?, state::decoded(after)?);
+            let live = old.state.domains.len();
+            for &(domain, cell) in new.places.keys().filter(|(domain, _)| domain + 1 == live) {
+                let body = new.body(domain, cell);
+                let Some(taken) = body.filter(|_| body != old.body(domain, cell)) else {
+                    continue;
+                };
                 for offset in 0..64 {
                     byte(
                         Buffer::Bodies,
-                        64 * entry.body + offset,
-                        before.memory[64 * entry.cell + offset],
+                        64 * taken as usize + offset,
+                        before.memory[64 * cell as usize + offset],
                     );
                 }
             }
         }
         Call::Restore { handle } => {
-            for (cell, value) in state::state(before).put_back(handle) {
+            for (cell, value) in state::put_back(&state::state(before)?, handle) {
                 for (offset, value) in value.into_iter().enumerate() {
                     byte(Buffer::Memory, 64 * cell + offset, value);
                 }
@@ -177,6 +167,7 @@ fn bytes(plan: &mut Plan, call: Call, before: &Image, after: &Image) {
         }
         _ => {}
     }
+    Ok(())
 }
 
 /// p pairs, word 6, the p words in the same order, and word 6 again. The pairs still stand in the table when the call is done.

@@ -1,10 +1,10 @@
 //! The calls that are stepped, each with the calls and writes before it and with what document 01 counts for it.
 
 use crate::buffers::{Image, Shape};
-use crate::calls::{Call, STOPPED, no_budget};
-use crate::check::Case;
-use crate::notebook::{End, Notebook};
+use crate::calls::{Run, STOPPED, no_budget};
+use crate::check::{Case, note};
 use crate::random::Random;
+use domain_model::{Call, Ended, Notebook};
 
 /// What happens before the call that is stepped.
 #[derive(Clone, Copy)]
@@ -137,7 +137,7 @@ pub fn scenarios() -> Vec<Scenario> {
 /// The buffers and the notebook as they stand before the call. The buffers are what stood in them before the first make, any bytes.
 pub fn prepare(scenario: &Scenario, shape: Shape) -> Result<(Image, Notebook), String> {
     let mut image = Image::filled(shape, 0xA5, 0xA5A5_A5A5);
-    let mut notebook = Notebook::new();
+    let mut notebook = Notebook::new(None);
     for act in &scenario.before {
         match *act {
             Act::Done(call) => {
@@ -145,9 +145,8 @@ pub fn prepare(scenario: &Scenario, shape: Shape) -> Result<(Image, Notebook), S
                 if answer.number != 0 {
                     return Err(format!("{call:?}, made before, gives {}", answer.number));
                 }
-                if notebook.call(call, End::Done, &image.memory).unwrap_or(0) != 0 {
-                    return Err(format!("{call:?}, made before, does not bring memory back"));
-                }
+                let (steps, memory) = (answer.steps, &image.memory);
+                note(&mut notebook, call, Ended::Done, steps, memory)?;
             }
             Act::Cut(call, steps) => {
                 let answer = call.on(&mut image, steps);
@@ -156,13 +155,11 @@ pub fn prepare(scenario: &Scenario, shape: Shape) -> Result<(Image, Notebook), S
                         "{call:?}, to be stopped after {steps} steps, gives {answer:?}"
                     ));
                 }
-                if call != Call::Open {
-                    notebook.call(call, End::Stopped(steps), &image.memory);
-                }
+                note(&mut notebook, call, Ended::Stopped, steps, &image.memory)?;
             }
             Act::Write { cell, version } => {
                 image.memory[64 * cell..64 * cell + 64].copy_from_slice(&contents(cell, version));
-                notebook.wrote(64 * cell..64 * cell + 64);
+                notebook.write(64 * cell, 64);
             }
         }
     }
@@ -192,7 +189,7 @@ impl Session {
         Session {
             random: Random::new(seed),
             image,
-            notebook: Notebook::new(),
+            notebook: Notebook::new(None),
             version: 0,
             cut: false,
         }
@@ -226,29 +223,21 @@ impl Session {
     /// Goes on from where the case ended, or from a cut inside it that an opening completes.
     pub fn go_on(&mut self, case: &Case) -> Result<(), String> {
         let length = case.plan.stores.len();
-        self.image = case.before.clone();
-        self.cut = false;
-        let count = match (case.call, case.plan.made_from) {
-            (Call::Open, _) => {
-                self.image = case.after.clone();
-                self.notebook.opened(case.answer.steps, &self.image.memory)
-            }
-            (call, Some(from)) if from < length && self.random.below(4) == 0 => {
-                let steps = from + self.random.below((length - from) as u64) as usize;
-                case.plan.play(&mut self.image, 0..steps);
-                self.cut = true;
-                self.notebook
-                    .call(call, End::Stopped(steps as u64), &self.image.memory)
-            }
-            (call, _) => {
-                self.image = case.after.clone();
-                self.notebook.call(call, End::Done, &self.image.memory)
-            }
-        };
-        match count {
-            None | Some(0) => Ok(()),
-            Some(count) => Err(format!("the completed restore has {count} wrong bytes")),
+        let mut ended = Ended::Done;
+        let mut steps = length;
+        if case.call != Call::Open
+            && let Some(from) = case.plan.made_from
+            && from < length
+            && self.random.below(4) == 0
+        {
+            ended = Ended::Stopped;
+            steps = from + self.random.below((length - from) as u64) as usize;
         }
+        self.cut = ended == Ended::Stopped;
+        self.image = case.before.clone();
+        case.plan.play(&mut self.image, 0..steps);
+        let (steps, memory) = (steps as u64, &self.image.memory);
+        note(&mut self.notebook, case.call, ended, steps, memory)
     }
 
     fn write(&mut self, cells: std::ops::Range<usize>) {
@@ -256,7 +245,7 @@ impl Session {
         for cell in cells {
             self.image.memory[64 * cell..64 * cell + 64]
                 .copy_from_slice(&contents(cell, self.version));
-            self.notebook.wrote(64 * cell..64 * cell + 64);
+            self.notebook.write(64 * cell, 64);
         }
     }
 

@@ -103,17 +103,19 @@ mod machine {
         for note in tally.notes.iter().take(5) {
             println!("note: {note}");
         }
-        println!(
+        let account = format!(
             "stepping: {} calls, {} instructions stepped, {} stores seen, {} cuts opened, {} restores on opened copies",
             tally.calls, tally.instructions, tally.stores, tally.cuts, tally.restores
         );
         if wrong == 0 {
             println!(
-                "stepping: table words one at a time in plan order; bytes up to {} at a time, {} out of order; {found} wrong orders played, all found; {:.1} s",
+                "{account}; table words one at a time in plan order; bytes up to {} at a time, {} out of order; {found} wrong orders played, all found; {:.1} s",
                 tally.widest,
                 tally.notes.len(),
                 start.elapsed().as_secs_f64()
             );
+        } else {
+            println!("{account}");
         }
         wrong
     }
