@@ -164,8 +164,10 @@ pub record Demand2 : Type 0 where
   pub open-shows : (k : ℕ) (b : Buffers) → shows (outcome (openCall b) k b) ≡ openMeans k b
   pub call-shows : (c : Request) (k : ℕ) (b : Buffers) → shows (callOn c k b) ≡ callView c k b
   pub look-shows : (h c : ℕ) (b : Buffers) → shownAt (lookPlace h c b) b ≡ lookMeans h c b
-  -- list shows what `listMeans` says: its contract is an equation with it (`of-list`)
-  -- "The buffers after budget k + 1 differ from those after k in at most one word or byte", whatever the call
+  -- (list shows what `listMeans` says: its contract is an equation with it, `of-list`)
+  -- "The buffers after budget k + 1 differ from those after k in at most one word or byte"
+  pub one-store-make : (k : ℕ) (b : Buffers) → OneMore ((outcome (makeCall b) k b) .buffers) ((outcome (makeCall b) (suc k) b) .buffers)
+  pub one-store-open : (k : ℕ) (b : Buffers) → OneMore ((outcome (openCall b) k b) .buffers) ((outcome (openCall b) (suc k) b) .buffers)
   pub one-store : (c : Request) (k : ℕ) (b : Buffers) → OneMore ((callOn c k b) .buffers) ((callOn c (suc k) b) .buffers)
   -- "A table that opening accepts stands for one state of domains and holdings"
   pub stands : (b : Buffers) → opens b ≡ 0 → StandsFor (slots b) (effectiveTable b) (b .bodies) (stateOf b)
