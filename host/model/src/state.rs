@@ -102,5 +102,8 @@ impl State {
 /// The bytes of a cell in memory.
 pub fn cell_of(memory: &[u8], cell: u32) -> Bytes {
     let at = cell as usize * CELL;
-    memory[at..at + CELL].try_into().expect("64 bytes")
+    // Outside memory, which only a planted fault asks for, there are zeros.
+    memory
+        .get(at..at + CELL)
+        .map_or([0; CELL], |bytes| bytes.try_into().expect("64 bytes"))
 }
