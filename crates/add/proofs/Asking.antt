@@ -1,36 +1,37 @@
 -- Add's questions as the code puts them: over marks, test by test. Assumes nothing.
-use Prim.Native.Nat.{ℕ, zero, suc, _+_, _-_, _*_, _≤_, _<_}
+use Prim.Native.Nat.{ℕ, _+_, _-_, _≤_, _<_}
 use mathlib.Core.Bool.{Bool, true, false, cond, not, _&&_, _||_}
 use mathlib.Core.List.{List}
-use mathlib.Core.Path.{_≡_, refl, sym, ap, subst, _∙_}
+use mathlib.Core.Path.{_≡_, refl, sym, ap, _∙_}
 use native.Mathlib.Omega.{arith}
-use borrow.Author.Tests.{eq-eqb, ne-eqb, eqb-true, eqb-false, le-leb, lt-leb, lt-ltb, le-ltb, ltb-true, leb-true, not-true, not-false}
+use borrow.Author.Tests.{eq-eqb, ne-eqb, eqb-true, le-leb, lt-leb, lt-ltb, le-ltb, ltb-true, leb-true}
 use lib.Dec.{leb, ltb, eqb}
-use lib.ListN.{length, getD, take, length-take}
+use lib.ListN.{length, getD, take}
 use lib.Seq.{getD-take}
-use Rattle.words.specs.Layout.{cellAt, cellsOf, slotsOf, pairsAt, tableWords, maxCells, maxLive, maxBodies, maxSlots}
+use Rattle.words.specs.Layout.{cellsOf, slotsOf, pairsAt}
 use Rattle.words.specs.Scan.{all, count}
 use Rattle.words.specs.Cells.{cellBytes, sameCell}
-use Rattle.words.proofs.Scan.{by-bool, and-split, and-join, is-false, true≢, all-at, all-ext, count-ext, count-le, count-more}
-use Rattle.table.specs.Entry.{live, word1, word2, viaOf, parent, findIn, holdsIn}
-use Rattle.table.specs.Marks.{IsCopy}
-use Rattle.table.proofs.Entry.{holds-true, holds-false, holds-found, holds-none}
+use Rattle.words.proofs.Scan.{by-bool, by-le, and-split, true≢, all-at, all-ext, count-ext, count-le, count-more}
+use Rattle.table.specs.Entry.{live, word2, parent, findIn, holdsIn}
+use Rattle.table.specs.Marks.{has, Marked, IsCopy}
+use Rattle.table.proofs.Digits.{has-zero}
+use Rattle.table.proofs.Marks.{marked-holds}
+use Rattle.table.proofs.Entry.{holds-found}
 use Rattle.table.proofs.Rule.{Rule, ok-facts, ok-make}
 use Rattle.table.proofs.Agree.{ok-agree}
 use Rattle.table.proofs.Checks.{Lengths}
 use Rattle.search.specs.Search.{sourceIn, valueIn}
-use Rattle.search.specs.Domain.{depthNamed, markOf, markIn}
-use Rattle.search.specs.Free.{slotFree, isCopy, usedSlots, copies}
-use Rattle.search.proofs.Domain.{mark-of, mark-none, mark-lacks, depth-small}
+use Rattle.search.specs.Domain.{depthNamed}
+use Rattle.search.specs.Free.{isCopy, usedSlots, copies}
 use Rattle.search.proofs.Free.{slots-all}
-use Rattle.search.proofs.Value.{Copy, ends-in-copy, body-fits}
+use Rattle.search.proofs.Value.{ends-in-copy, body-fits}
 use Rattle.model.specs.Answer.{ask, orElse}
 use Rattle.model.specs.Holdings.{rangeOk}
 use Rattle.store.specs.Checks.{storeCheck}
 use Rattle.store.proofs.Checks.{ask-yes, ask-go, ask-stop, ask-rest, orElse-go, orElse-stop, orElse-both, store-shape, shape-facts}
 use Rattle.store.proofs.Means.{store-rule}
 use Rattle.add.specs.Add.{isNew, parentHas, addCheck}
-use Rattle.add.specs.Walking.{unheld, Held, rangeCheck, parentCheck, roomCheck, Source, Ready}
+use Rattle.add.specs.Walking.{unheld, rangeCheck, parentCheck, roomCheck, Source, Ready}
 
 -- ---- Bools
 
@@ -41,10 +42,7 @@ pub or-holds : (a b : Bool) → (a && b) ≡ false → (not a || not b) ≡ true
 or-holds true b h = ap not h
 or-holds false b h = refl
 
-pub not-zero : (x : ℕ) → (x ≡ 0 → ⊥) → not (eqb x 0) ≡ true
-not-zero x h = ap not (ne-eqb x 0 h)
-
-or-right : (a b : Bool) → (a || b) ≡ true → a ≡ false → b ≡ true
+pub or-right : (a b : Bool) → (a || b) ≡ true → a ≡ false → b ≡ true
 or-right true b h q = absurd (true≢ refl q)
 or-right false b h q = h
 
@@ -56,29 +54,32 @@ or-second : (a b x : Bool) → a ≡ false → b ≡ x → (a || b) ≡ x
 or-second true b x h q = absurd (true≢ refl h)
 or-second false b x h q = q
 
+pub twice : (b : Bool) → not (not b) ≡ b
+twice true = refl
+twice false = refl
+
+pub most-one : (r : ℕ) (b : Bool) → r ≡ cond b 1 0 → r ≤ 1
+most-one r true q = omega arith
+most-one r false q = omega arith
+
 -- ---- the marks
 
-pub mark-zero : (e : ℕ) (t : List ℕ) (d c : ℕ) → eqb (markIn e t d c) 0 ≡ not (holdsIn e t d c)
-mark-zero e t d c =
-    by-bool (holdsIn e t d c)
-    (λ p. let l = holds-found e t d c p in rw (p, mark-of e t d c l) (ne-eqb _ 0 (positive (word1 e t (findIn e t d c)))))
-    (λ p. rw (p, mark-none e t d c (holds-none e t d c p)))
-  where
-    positive : (w : ℕ) → markOf w ≡ 0 → ⊥
-    positive w q = omega arith
+module _ (e : ℕ) (t held : List ℕ) (m : Marked e t e held) (inner : 1 ≤ live t) where
+  -- they tell which cells of the range are new
+  pub held-new : (base j : ℕ) → unheld held (live t) base j ≡ isNew e t base j
+  held-new base j = ap not (marked-holds e t held m (live t) (base + j) inner)
 
-pub parent-none : (e : ℕ) (t : List ℕ) (c x : ℕ) → live t < 2 → x ≡ 0 → eqb x 0 ≡ not (parentHas e t c)
-parent-none e t c x h z = rw (lt-leb 2 (live t) h, z)
+  pub count-held : (base n : ℕ) → count n (unheld held (live t) base) ≡ count n (isNew e t base)
+  count-held base n = count-ext n (unheld held (live t) base) (isNew e t base) (λ j l. held-new base j)
 
-pub parent-some : (e : ℕ) (t : List ℕ) (c x : ℕ) → 2 ≤ live t → x ≡ markIn e t (live t - 1) c → eqb x 0 ≡ not (parentHas e t c)
-parent-some e t c x h z = rw (z, le-leb 2 (live t) h) (mark-zero e t (live t - 1) c)
-
--- right marks tell which cells of the range are new
-pub held-new : (e : ℕ) (t held : List ℕ) (base j : ℕ) → Held e t held → base + j < maxCells → unheld held base j ≡ isNew e t base j
-held-new e t held base j h l = ap (λ (x : ℕ). eqb x 0) (h .marks (base + j) l) ∙ mark-zero e t (live t) (base + j)
-
-pub count-held : (e : ℕ) (t held : List ℕ) (base n : ℕ) → Held e t held → base + n ≤ maxCells → count n (unheld held base) ≡ count n (isNew e t base)
-count-held e t held base n h l = count-ext n (unheld held base) (isNew e t base) (λ j b. held-new e t held base j h (omega arith))
+  -- and which the parent holds: no mark has depth 0, so that without a parent there are none
+  parent-told : (c : ℕ) → has (parent (live t)) (getD held c 0) ≡ parentHas e t c
+  parent-told c =
+      by-le 2 (live t)
+      (λ h. rw (le-leb 2 (live t) h) (marked-holds e t held m (parent (live t)) c (omega arith)))
+      (λ h.
+      let one : parent (live t) ≡ 0 = omega arith in
+      rw (lt-leb 2 (live t) h) (ap (λ (d : ℕ). has d (getD held c 0)) one ∙ has-zero (getD held c 0)))
 
 -- one cell more is counted
 pub count-add : (j new : ℕ) (f : ℕ → Bool) → new ≡ count j f → new + cond (f j) 1 0 ≡ count (j + 1) f
@@ -216,22 +217,17 @@ module _ (memory bodies : List ℕ) (e : ℕ) (t : List ℕ) (base n k : ℕ) wh
       or-right (not (isNew e t base j)) (parentHas e t (base + j)) x (ap not h)
 
 -- the same tests over marks
-module _ (e : ℕ) (t held outer bodies memory : List ℕ) (base n : ℕ) (h : Held e t held) (few : base + n ≤ maxCells)
-    (out : (c : ℕ) → c < maxCells → eqb (getD outer c 0) 0 ≡ not (parentHas e t c)) where
-  pub covered-is : all n (λ j. not (unheld held base j) || not (unheld outer base j)) ≡ all n (covered memory bodies e t base n 0)
+module _ (e : ℕ) (t held : List ℕ) (m : Marked e t e held) (inner : 1 ≤ live t) (memory bodies : List ℕ) (base n : ℕ) where
+  pub covered-is : all n (λ j. not (unheld held (live t) base j) || not (unheld held (parent (live t)) base j)) ≡ all n (covered memory bodies e t base n 0)
   covered-is =
-      all-ext n (λ j. not (unheld held base j) || not (unheld outer base j)) (covered memory bodies e t base n 0)
-      (λ j l. rw (held-new e t held base j h (omega arith), out (base + j) (omega arith), twice (parentHas e t (base + j))))
-    where
-      twice : (b : Bool) → not (not b) ≡ b
-      twice true = refl
-      twice false = refl
+      all-ext n (λ j. not (unheld held (live t) base j) || not (unheld held (parent (live t)) base j)) (covered memory bodies e t base n 0)
+      (λ j l. rw (held-new e t held m inner base j, twice (has (parent (live t)) (getD held (base + j) 0)), parent-told e t held m inner (base + j)))
 
-pub agreed-is : (e : ℕ) (t held bodies memory : List ℕ) (base n : ℕ) → Held e t held → base + n ≤ maxCells
-    → all n (λ j. not (unheld held base j) || sameCell (valueIn e t bodies (parent (live t)) (base + j)) (cellBytes memory (base + j))) ≡ all n (agreed memory bodies e t base n 0)
-agreed-is e t held bodies memory base n h few =
-    all-ext n (λ j. not (unheld held base j) || sameCell (valueIn e t bodies (parent (live t)) (base + j)) (cellBytes memory (base + j))) (agreed memory bodies e t base n 0)
-    (λ j l. rw (held-new e t held base j h (omega arith)))
+  pub agreed-is : all n (λ j. not (unheld held (live t) base j) || sameCell (valueIn e t bodies (parent (live t)) (base + j)) (cellBytes memory (base + j)))
+      ≡ all n (agreed memory bodies e t base n 0)
+  agreed-is =
+      all-ext n (λ j. not (unheld held (live t) base j) || sameCell (valueIn e t bodies (parent (live t)) (base + j)) (cellBytes memory (base + j))) (agreed memory bodies e t base n 0)
+      (λ j l. rw (held-new e t held m inner base j))
 
 -- ---- a table that passes questions 1 to 4 is right as it stands
 
@@ -257,11 +253,11 @@ module _ (memory bodies t : List ℕ) (yes : storeCheck (length memory) (length 
       record { slot = k .slot; fits = omega (arith, w .bodies-exact) }
 
   -- where the parent holds every new cell
-  pub sources : (base n : ℕ) (held : List ℕ) → Held (slotsOf (length t)) t held → base + n ≤ maxCells → all n (covered memory bodies (slotsOf (length t)) t base n 0) ≡ true
-      → (j : ℕ) → j < n → unheld held base j ≡ true → Source (slotsOf (length t)) t bodies (parent (live t)) (base + j)
-  sources base n held h few a j l new =
+  pub sources : (base n : ℕ) (held : List ℕ) → Marked (slotsOf (length t)) t (slotsOf (length t)) held → 1 ≤ live t → all n (covered memory bodies (slotsOf (length t)) t base n 0) ≡ true
+      → (j : ℕ) → j < n → unheld held (live t) base j ≡ true → Source (slotsOf (length t)) t bodies (parent (live t)) (base + j)
+  sources base n held m inner a j l new =
       let e : ℕ = slotsOf (length t) in
-      let fresh : isNew e t base j ≡ true = sym (held-new e t held base j h (omega arith)) ∙ new in
+      let fresh : isNew e t base j ≡ true = sym (held-new e t held m inner base j) ∙ new in
       let has = or-right (not (isNew e t base j)) (parentHas e t (base + j)) (all-at n (covered memory bodies e t base n 0) a j l) (ap not fresh) in
       let s = and-split (leb 2 (live t)) (holdsIn e t (parent (live t)) (base + j)) has in
       let two = leb-true 2 (live t) (s .0) in

@@ -6,6 +6,7 @@ pub mod Counting
 pub mod Asking
 pub mod Walks
 pub mod Passing
+pub mod Skipping
 pub mod Filling
 pub mod Chosen
 pub mod Numbers

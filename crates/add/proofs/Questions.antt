@@ -10,7 +10,7 @@ use lib.ListN.{length, getD}
 use Rattle.words.specs.Layout.{cellsOf, slotsOf}
 use Rattle.words.specs.Scan.{all, count}
 use Rattle.words.specs.Cells.{cellBytes, sameCell}
-use Rattle.words.proofs.Scan.{by-bool, and-split, true≢, all-at, all-ext}
+use Rattle.words.proofs.Scan.{by-bool, and-split, all-at, all-ext}
 use Rattle.table.specs.Entry.{live, parent, holdsIn}
 use Rattle.search.specs.Search.{valueIn}
 use Rattle.search.specs.Domain.{depthNamed}
@@ -21,16 +21,13 @@ use Rattle.model.specs.Holdings.{Room, named, holdingAt, isHeld, isVia, valueOr
 use Rattle.store.specs.State.{stateIn}
 use Rattle.store.proofs.Domains.{state-named, domains-count}
 use Rattle.add.specs.Add.{isNew, parentHas}
+use Rattle.add.proofs.Asking.{or-right, twice}
 use Rattle.add.proofs.Numbers.{inner-held, outer-held, outer-value, newly-is}
 
 -- a question more on both sides, where the yes of the first helps the rest
 ask-both : (a b : Bool) (q x y : ℕ) → a ≡ b → (a ≡ true → x ≡ y) → ask a q x ≡ ask b q y
 ask-both true b q x y e f = rw (← e) (f refl)
 ask-both false b q x y e f = rw (← e)
-
-twice : (b : Bool) → not (not b) ≡ b
-twice true = refl
-twice false = refl
 
 module _ (memory : List ℕ) (e : ℕ) (t bodies : List ℕ) (h base n k l m b : ℕ) where
   abbrev s : State
@@ -69,10 +66,6 @@ module _ (memory : List ℕ) (e : ℕ) (t bodies : List ℕ) (h base n k l m b :
 
     same-11 : (eqb k 0 || all n covered) ≡ (not (isVia (kindNumbered k)) || parentHolds base n (stateIn e t bodies))
     same-11 = rw (kind-zero small, all-ext n covered _ (λ j q. covered-at j))
-
-    or-right : (x y : Bool) → (x || y) ≡ true → x ≡ false → y ≡ true
-    or-right true y p q = absurd (true≢ refl q)
-    or-right false y p q = p
 
     -- of cells that are new the parent's value is asked only where the parent holds them
     agrees-at : (j : ℕ) → covered j ≡ true

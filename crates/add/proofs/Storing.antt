@@ -1,8 +1,8 @@
 -- Add's stores over right marks are the call's. Assumes nothing.
-use Prim.Native.Nat.{ℕ, zero, suc, _+_, _-_, _*_, _≤_, _<_}
-use mathlib.Core.Bool.{Bool, true, false, cond, not}
-use mathlib.Core.List.{List, []}
-use mathlib.Core.Path.{_≡_, refl, sym, ap, subst, _∙_}
+use Prim.Native.Nat.{ℕ, _+_, _-_, _*_, _≤_, _<_}
+use mathlib.Core.Bool.{Bool, cond, not}
+use mathlib.Core.List.{List}
+use mathlib.Core.Path.{_≡_, sym, ap, _∙_}
 use native.Mathlib.Omega.{arith}
 use borrow.Author.Tests.{eq-eqb, ne-eqb, eqb-true, eqb-false}
 use lib.Dec.{eqb}
@@ -13,14 +13,14 @@ use Rattle.words.specs.Stores.{Store, stores}
 use Rattle.words.specs.Journal.{journal}
 use Rattle.words.proofs.Scan.{by-bool, by-le, is-true, is-false, true≢, count-ext}
 use Rattle.words.proofs.Pairs.{length-journal, journal-none}
-use Rattle.table.specs.Entry.{word2}
-use Rattle.table.specs.Marks.{Marks, IsCopy}
+use Rattle.table.specs.Entry.{live, word2}
+use Rattle.table.specs.Marks.{Marks, IsCopy, AllMarked}
 use Rattle.table.specs.Changes.{entryChanges}
 use Rattle.search.specs.Free.{bodyUsed, bodyFree}
 use Rattle.search.proofs.Free.{body-used, body-user}
 use Rattle.model.specs.Answer.{stepsOf}
 use Rattle.add.specs.Add.{isNew, addBytes, addWords}
-use Rattle.add.specs.Walking.{unheld, spare, Held, copyBytes, listChange, Ready}
+use Rattle.add.specs.Walking.{unheld, spare, copyBytes, listChange, Ready}
 use Rattle.add.proofs.Asking.{lengths, held-new, count-held}
 use Rattle.add.proofs.Walks.{bytes-are, words-are}
 use Rattle.add.proofs.Chosen.{places-enough}
@@ -40,37 +40,37 @@ journal-length first ws =
     (λ l. rw (length-journal first ws l, ne-eqb (length ws) 0 (λ z. omega arith)))
 
 module _ (memory bodies t : List ℕ) (base n k l : ℕ) (r : Ready memory bodies t base n k l) (held used : List ℕ)
-    (h : Held (slotsOf (length t)) t held) (u : Marks (IsCopy (slotsOf (length t)) t) (word2 (slotsOf (length t)) t) 1 (slotsOf (length t)) used) where
+    (m : AllMarked (slotsOf (length t)) t held used) where
   pub few : base + n ≤ maxCells
   few = let w = lengths memory bodies t (r .store) in omega (arith, r .range, w .cells-high)
 
-  new-is : (j : ℕ) → j < n → unheld held base j ≡ isNew (slotsOf (length t)) t base j
-  new-is j q = held-new (slotsOf (length t)) t held base j h (omega (arith, few))
+  new-is : (j : ℕ) → j < n → unheld held (live t) base j ≡ isNew (slotsOf (length t)) t base j
+  new-is j q = held-new (slotsOf (length t)) t held (m .cells) (r .inner) base j
 
   free-is : (x : ℕ) → x < cellsOf (length bodies) → spare used x ≡ bodyFree (slotsOf (length t)) t x
-  free-is x q = spare-free (slotsOf (length t)) t used x u
+  free-is x q = spare-free (slotsOf (length t)) t used x (m .copies)
 
-  pub bodies-enough : k ≡ 0 → count n (unheld held base) ≤ count (cellsOf (length bodies)) (spare used)
+  pub bodies-enough : k ≡ 0 → count n (unheld held (live t) base) ≤ count (cellsOf (length bodies)) (spare used)
   bodies-enough z =
-      rw (count-held (slotsOf (length t)) t held base n h few, count-ext (cellsOf (length bodies)) (spare used) (bodyFree (slotsOf (length t)) t) free-is)
+      rw (count-held (slotsOf (length t)) t held (m .cells) (r .inner) base n, count-ext (cellsOf (length bodies)) (spare used) (bodyFree (slotsOf (length t)) t) free-is)
       (places-enough memory bodies t base n k l r z)
 
-  bytes-same : copyBytes (cellsOf (length bodies)) memory held used base n k ≡ addBytes (cellsOf (length bodies)) memory t base n k
+  bytes-same : copyBytes (cellsOf (length bodies)) memory held used (live t) base n k ≡ addBytes (cellsOf (length bodies)) memory t base n k
   bytes-same = bytes-are held used (cellsOf (length bodies)) t base n k l new-is free-is memory
 
   words-same : entryChanges (slotsOf (length t)) (listChange held used (slotsOf (length t)) (cellsOf (length bodies)) t base n k l) ≡ addWords (cellsOf (length bodies)) t base n k l
   words-same = words-are held used (cellsOf (length bodies)) t base n k l new-is free-is
 
-  pub stored-bytes : (budget : ℕ) (b′ : List ℕ) → b′ ≡ stores (take budget (copyBytes (cellsOf (length bodies)) memory held used base n k)) bodies
+  pub stored-bytes : (budget : ℕ) (b′ : List ℕ) → b′ ≡ stores (take budget (copyBytes (cellsOf (length bodies)) memory held used (live t) base n k)) bodies
       → b′ ≡ stores (take budget (addBytes (cellsOf (length bodies)) memory t base n k)) bodies
   stored-bytes budget b′ q = q ∙ rw bytes-same
 
-  pub stored-words : (many left budget made : ℕ) (t′ : List ℕ) → many ≡ cellsOf (length bodies) → made ≡ length (copyBytes (cellsOf (length bodies)) memory held used base n k) → left ≡ budget - made
+  pub stored-words : (many left budget made : ℕ) (t′ : List ℕ) → many ≡ cellsOf (length bodies) → made ≡ length (copyBytes (cellsOf (length bodies)) memory held used (live t) base n k) → left ≡ budget - made
       → t′ ≡ stores (take left (journal (pairsAt (slotsOf (length t))) (entryChanges (slotsOf (length t)) (listChange held used (slotsOf (length t)) many t base n k l)))) t
       → t′ ≡ stores (take (budget - length (addBytes (cellsOf (length bodies)) memory t base n k)) (journal (pairsAt (slotsOf (length t))) (addWords (cellsOf (length bodies)) t base n k l))) t
   stored-words many left budget made t′ p q s w = w ∙ rw (s, q, p, bytes-same, words-same)
 
-  pub stored-steps : (many made words : ℕ) → many ≡ cellsOf (length bodies) → made ≡ length (copyBytes (cellsOf (length bodies)) memory held used base n k)
+  pub stored-steps : (many made words : ℕ) → many ≡ cellsOf (length bodies) → made ≡ length (copyBytes (cellsOf (length bodies)) memory held used (live t) base n k)
       → words ≡ length (journal (pairsAt (slotsOf (length t))) (entryChanges (slotsOf (length t)) (listChange held used (slotsOf (length t)) many t base n k l)))
       → made + words ≡ stepsOf (length (addBytes (cellsOf (length bodies)) memory t base n k)) (length (addWords (cellsOf (length bodies)) t base n k l))
   stored-steps many made words p q s = rw (q, s, p, bytes-same, words-same, journal-length)

@@ -1,29 +1,25 @@
 -- Add's two walks, turn by turn: over the range for the bytes, and over the entries for the words. Assumes nothing.
 use Prim.Native.Nat.{ℕ, zero, suc, _+_, _-_, _*_, _≤_, _<_, min}
-use mathlib.Core.Bool.{Bool, true, false, cond, not, _&&_, _||_}
-use mathlib.Core.List.{List, [], _∷_, _++_}
-use mathlib.Core.Path.{_≡_, refl, sym, ap, subst, _∙_}
-use native.Mathlib.Nat.{not-suc-le-zero}
-use native.Mathlib.Numerals.{add-one}
+use mathlib.Core.Bool.{Bool, true, false, cond}
+use mathlib.Core.List.{List, []}
+use mathlib.Core.Path.{_≡_, refl, sym, _∙_}
 use native.Mathlib.Omega.{arith}
-use borrow.Author.Tests.{eq-eqb, ne-eqb, eqb-true, eqb-false, lt-ltb, le-ltb, ltb-true}
-use lib.Dec.{leb, ltb, eqb}
-use lib.ListN.{length, getD, take, length-append}
-use Rattle.words.specs.Layout.{cellAt, cellsOf, slotsOf, pairsAt}
+use borrow.Author.Tests.{eq-eqb, ne-eqb, eqb-true, lt-ltb, le-ltb}
+use lib.Dec.{eqb}
+use lib.ListN.{length}
+use Rattle.words.specs.Layout.{slotsOf}
 use Rattle.words.specs.Scan.{count, nth}
 use Rattle.words.specs.Cells.{cellPlan}
-use Rattle.words.specs.Stores.{Store, _≔_, store, stores, gather}
-use Rattle.words.specs.Journal.{pairPlans}
-use Rattle.words.proofs.Scan.{by-bool, by-le, true≢, count-more, count-ext}
+use Rattle.words.specs.Stores.{Store, stores, gather}
+use Rattle.words.proofs.Scan.{by-bool, by-le, count-more, count-ext}
 use Rattle.words.proofs.Nth.{nth-from, nth-below, nth-holds, nth-rank, nth-ext, count-mono, count-below}
-use Rattle.words.proofs.Plans.{stores-none, length-cellPlan}
-use Rattle.words.proofs.Gather.{gather-turn, gather-length}
+use Rattle.words.proofs.Plans.{length-cellPlan}
 use Rattle.table.specs.Entry.{live, word1, word2}
 use Rattle.table.specs.Changes.{Change, keep, put, entryStores, entryChanges}
 use Rattle.search.specs.Free.{slotFree, bodyFree, unmarkedFrom}
-use Rattle.search.proofs.From.{firstFrom, from-hit, from-passed, from-left, from-le, from-ge}
+use Rattle.search.proofs.From.{firstFrom, from-passed, from-left, from-le, from-miss, count-stop}
 use Rattle.add.specs.Add.{isNew, addBytes, addWords, addChange}
-use Rattle.add.specs.Walking.{unheld, spare, nextUnheld, copyBytes, wordOf, rises, bodyFrom, takeChange, raiseChange, walkChange, takenAt, takenFrom, listChange}
+use Rattle.add.specs.Walking.{unheld, spare, NoneBelow, nextUnheld, copyBytes, bodyFrom, takeChange, raiseChange, walkChange, takenAt, takenFrom, listChange}
 
 -- ---- a cursor over the numbers that pass a test, r of which it has passed
 
@@ -63,6 +59,16 @@ module _ (used : List ℕ) (b from r : ℕ) (low : from ≤ b) (passed : count f
     unfolding unmarkedFrom
     body-passed = next-passed (spare used) b from r low passed left
 
+-- below the first body without a mark there is none
+pub start-none : (used : List ℕ) (b k start : ℕ) → start ≡ bodyFrom used b k 0 → k ≡ 0 → NoneBelow used b start
+unfolding unmarkedFrom count
+start-none used b k start q z =
+    let here : start ≡ firstFrom b 0 (spare used) = q ∙ rw (eq-eqb k 0 z) in
+    record {
+      within = rw here (from-le b 0 (spare used) (omega arith));
+      none = rw here (count-stop (firstFrom b 0 (spare used)) 0 (spare used) (omega arith) (from-miss b 0 (spare used)));
+    }
+
 -- the body of a new entry, or the number of bodies where none is left; 0 for via parent
 pub body-small : (used : List ℕ) (b k from : ℕ) → (k ≡ 0 → from ≤ b) → bodyFrom used b k from ≤ b
 unfolding unmarkedFrom
@@ -71,32 +77,32 @@ body-small used b k from low =
     (λ z. rw z (from-le b from (spare used) (low (eqb-true k 0 z))))
     (λ z. rw z (omega arith))
 
--- the cells of the range without a mark
-module _ (held : List ℕ) (base n at r : ℕ) (low : at ≤ n) (passed : count at (unheld held base) ≡ r) where
-  cell-at : nextUnheld held base n at ≡ nth n (unheld held base) r
+-- the new cells of the range
+module _ (held : List ℕ) (d base n at r : ℕ) (low : at ≤ n) (passed : count at (unheld held d base) ≡ r) where
+  cell-at : nextUnheld held d base n at ≡ nth n (unheld held d base) r
   unfolding nextUnheld
-  cell-at = at-nth (unheld held base) n at r low passed
+  cell-at = at-nth (unheld held d base) n at r low passed
 
-  cell-left : nextUnheld held base n at < n → r < count n (unheld held base)
+  cell-left : nextUnheld held d base n at < n → r < count n (unheld held d base)
   unfolding nextUnheld
-  cell-left h = next-left (unheld held base) n at r low passed h
+  cell-left h = next-left (unheld held d base) n at r low passed h
 
-  cell-none : n ≤ nextUnheld held base n at → count n (unheld held base) ≤ r
+  cell-none : n ≤ nextUnheld held d base n at → count n (unheld held d base) ≤ r
   unfolding nextUnheld
-  cell-none h = next-none (unheld held base) n at r low passed h
+  cell-none h = next-none (unheld held d base) n at r low passed h
 
-  cell-passed : r < count n (unheld held base) → count (nextUnheld held base n at + 1) (unheld held base) ≡ r + 1
+  cell-passed : r < count n (unheld held d base) → count (nextUnheld held d base n at + 1) (unheld held d base) ≡ r + 1
   unfolding nextUnheld
-  cell-passed h = next-passed (unheld held base) n at r low passed h
+  cell-passed h = next-passed (unheld held d base) n at r low passed h
 
 -- ---- the bytes
 
-module _ (b : ℕ) (memory held used : List ℕ) (base n : ℕ) where
+module _ (b : ℕ) (memory held used : List ℕ) (d base n : ℕ) where
   -- the stores of the j-th cell
   abbrev pub copyPlanOf : ℕ → List Store
-  copyPlanOf j = cond (unheld held base j) (cellPlan memory (base + j) (nth b (spare used) (count j (unheld held base)))) []
+  copyPlanOf j = cond (unheld held d base j) (cellPlan memory (base + j) (nth b (spare used) (count j (unheld held d base)))) []
 
-  pub copy-bytes : (k : ℕ) → k ≡ 0 → copyBytes b memory held used base n k ≡ gather n copyPlanOf
+  pub copy-bytes : (k : ℕ) → k ≡ 0 → copyBytes b memory held used d base n k ≡ gather n copyPlanOf
   unfolding copyBytes
   copy-bytes k z = rw (eq-eqb k 0 z)
 
@@ -104,75 +110,75 @@ module _ (b : ℕ) (memory held used : List ℕ) (base n : ℕ) where
   gather-none zero = refl
   gather-none (suc x) = rw (gather-none x)
 
-  pub copy-none : (k : ℕ) → (k ≡ 0 → ⊥) → copyBytes b memory held used base n k ≡ []
+  pub copy-none : (k : ℕ) → (k ≡ 0 → ⊥) → copyBytes b memory held used d base n k ≡ []
   unfolding copyBytes
   copy-none k z = rw (ne-eqb k 0 z) (gather-none n)
 
-  module _ (room : count n (unheld held base) ≤ count b (spare used)) (j from : ℕ) (l : j < n) (low : from ≤ b)
-      (passed : count from (spare used) ≡ count j (unheld held base)) where
-    left : unheld held base j ≡ true → count j (unheld held base) < count b (spare used)
-    left h = omega (arith, count-below (unheld held base) j n l h)
+  module _ (room : count n (unheld held d base) ≤ count b (spare used)) (j from : ℕ) (l : j < n) (low : from ≤ b)
+      (passed : count from (spare used) ≡ count j (unheld held d base)) where
+    left : unheld held d base j ≡ true → count j (unheld held d base) < count b (spare used)
+    left h = omega (arith, count-below (unheld held d base) j n l h)
 
     -- there is a body for a new cell
-    pub copy-room : unheld held base j ≡ true → unmarkedFrom b used from < b
-    copy-room h = body-below used b from (count j (unheld held base)) low passed (left h)
+    pub copy-room : unheld held d base j ≡ true → unmarkedFrom b used from < b
+    copy-room h = body-below used b from (count j (unheld held d base)) low passed (left h)
 
-    pub copy-plan : cond (unheld held base j) (cellPlan memory (base + j) (unmarkedFrom b used from)) [] ≡ copyPlanOf j
-    copy-plan = rw (body-at used b from (count j (unheld held base)) low passed)
+    pub copy-plan : cond (unheld held d base j) (cellPlan memory (base + j) (unmarkedFrom b used from)) [] ≡ copyPlanOf j
+    copy-plan = rw (body-at used b from (count j (unheld held d base)) low passed)
 
-    pub copy-length : 64 * cond (unheld held base j) 1 0 ≡ length (copyPlanOf j)
+    pub copy-length : 64 * cond (unheld held d base j) 1 0 ≡ length (copyPlanOf j)
     copy-length =
-        by-bool (unheld held base j)
-        (λ h. rw h (sym (length-cellPlan memory (base + j) (nth b (spare used) (count j (unheld held base))))))
+        by-bool (unheld held d base j)
+        (λ h. rw h (sym (length-cellPlan memory (base + j) (nth b (spare used) (count j (unheld held d base))))))
         (λ h. rw h)
 
-    pub copy-next : (r : ℕ) → r ≡ cond (unheld held base j) (unmarkedFrom b used from + 1) from
-        → (r ≤ b) × (count r (spare used) ≡ count (j + 1) (unheld held base))
+    pub copy-next : (r : ℕ) → r ≡ cond (unheld held d base j) (unmarkedFrom b used from + 1) from
+        → (r ≤ b) × (count r (spare used) ≡ count (j + 1) (unheld held d base))
     copy-next r q =
-        by-bool (unheld held base j)
+        by-bool (unheld held d base j)
         (λ h.
         let e : r ≡ unmarkedFrom b used from + 1 = q ∙ rw h in (
           rw e (omega (arith, copy-room h)),
-          rw (e, body-passed used b from (count j (unheld held base)) low passed (left h), count-more j (unheld held base), h),
+          rw (e, body-passed used b from (count j (unheld held d base)) low passed (left h), count-more j (unheld held d base), h),
         ))
         (λ h.
         let e : r ≡ from = q ∙ rw h in
-        (rw e low, rw (e, count-more j (unheld held base), h) passed))
+        (rw e low, rw (e, count-more j (unheld held d base), h) passed))
 
 -- ---- the words
 
 -- i entries are passed: as many cells and bodies are used as free slots are passed, while there are new cells
 pub record Stands (held used : List ℕ) (e b : ℕ) (t : List ℕ) (base n k i at from : ℕ) : Type 0 where
   pub cell : at ≤ n
-  pub cells : count at (unheld held base) ≡ min (count i (slotFree e t)) (count n (unheld held base))
+  pub cells : count at (unheld held (live t) base) ≡ min (count i (slotFree e t)) (count n (unheld held (live t) base))
   pub body : k ≡ 0 → from ≤ b
-  pub bodies : k ≡ 0 → count from (spare used) ≡ min (count i (slotFree e t)) (count n (unheld held base))
+  pub bodies : k ≡ 0 → count from (spare used) ≡ min (count i (slotFree e t)) (count n (unheld held (live t) base))
 
 module _ (held used : List ℕ) (e b : ℕ) (t : List ℕ) (base n k l : ℕ) where
-  pub stands-start : Stands held used e b t base n k 0 0 0
+  pub stands-start : (start : ℕ) → (k ≡ 0 → NoneBelow used b start) → Stands held used e b t base n k 0 0 start
   unfolding count
-  stands-start = record { cell = omega arith; cells = omega arith; body = λ z. omega arith; bodies = λ z. omega arith }
+  stands-start start h = record { cell = omega arith; cells = omega arith; body = λ z. h z .within; bodies = λ z. h z .none ∙ omega arith }
 
-  module _ (room : k ≡ 0 → count n (unheld held base) ≤ count b (spare used)) (i at from : ℕ) (s : Stands held used e b t base n k i at from) where
+  module _ (room : k ≡ 0 → count n (unheld held (live t) base) ≤ count b (spare used)) (i at from : ℕ) (s : Stands held used e b t base n k i at from) where
     abbrev rank : ℕ
     rank = count i (slotFree e t)
 
     abbrev many : ℕ
-    many = count n (unheld held base)
+    many = count n (unheld held (live t) base)
 
     module _ (free : slotFree e t i ≡ true) where
       rank-next : count (i + 1) (slotFree e t) ≡ count i (slotFree e t) + 1
       rank-next = count-more i (slotFree e t) ∙ rw free
 
       -- a new cell is left
-      module _ (more : nextUnheld held base n at < n) where
-        ranked : count i (slotFree e t) < count n (unheld held base)
-        ranked = omega (arith, cell-left held base n at _ (s .cell) (s .cells) more)
+      module _ (more : nextUnheld held (live t) base n at < n) where
+        ranked : count i (slotFree e t) < count n (unheld held (live t) base)
+        ranked = omega (arith, cell-left held (live t) base n at _ (s .cell) (s .cells) more)
 
-        here : min (count i (slotFree e t)) (count n (unheld held base)) ≡ count i (slotFree e t)
+        here : min (count i (slotFree e t)) (count n (unheld held (live t) base)) ≡ count i (slotFree e t)
         here = omega (arith, ranked)
 
-        cells-here : count at (unheld held base) ≡ count i (slotFree e t)
+        cells-here : count at (unheld held (live t) base) ≡ count i (slotFree e t)
         cells-here = s .cells ∙ here
 
         body-is : bodyFrom used b k from ≡ cond (eqb k 0) (nth b (spare used) (count i (slotFree e t))) 0
@@ -186,31 +192,31 @@ module _ (held used : List ℕ) (e b : ℕ) (t : List ℕ) (base n k l : ℕ) wh
         take-more =
             rw (
               free,
-              lt-ltb (nextUnheld held base n at) n more,
-              lt-ltb (count i (slotFree e t)) (count n (unheld held base)) ranked,
-              cell-at held base n at (count i (slotFree e t)) (s .cell) cells-here,
+              lt-ltb (nextUnheld held (live t) base n at) n more,
+              lt-ltb (count i (slotFree e t)) (count n (unheld held (live t) base)) ranked,
+              cell-at held (live t) base n at (count i (slotFree e t)) (s .cell) cells-here,
               body-is,
             )
 
-        stands-more : Stands held used e b t base n k (i + 1) (nextUnheld held base n at + 1) (bodyFrom used b k from + 1)
+        stands-more : Stands held used e b t base n k (i + 1) (nextUnheld held (live t) base n at + 1) (bodyFrom used b k from + 1)
         stands-more =
-            let step : min (count (i + 1) (slotFree e t)) (count n (unheld held base)) ≡ count i (slotFree e t) + 1 = omega (arith, rank-next, ranked) in
+            let step : min (count (i + 1) (slotFree e t)) (count n (unheld held (live t) base)) ≡ count i (slotFree e t) + 1 = omega (arith, rank-next, ranked) in
             record {
               cell = omega (arith, more);
-              cells = cell-passed held base n at (count i (slotFree e t)) (s .cell) cells-here ranked ∙ sym step;
+              cells = cell-passed held (live t) base n at (count i (slotFree e t)) (s .cell) cells-here ranked ∙ sym step;
               body = λ z. rw (eq-eqb k 0 z) (omega (arith, body-below used b from (count i (slotFree e t)) (s .body z) (s .bodies z ∙ here) (omega (arith, room z, ranked))));
               bodies = λ z. rw (eq-eqb k 0 z) (body-passed used b from (count i (slotFree e t)) (s .body z) (s .bodies z ∙ here) (omega (arith, room z, ranked)) ∙ sym step);
             }
 
       -- none is left
-      module _ (over : n ≤ nextUnheld held base n at) where
-        all-taken : count n (unheld held base) ≤ count i (slotFree e t)
-        all-taken = omega (arith, cell-none held base n at _ (s .cell) (s .cells) over)
+      module _ (over : n ≤ nextUnheld held (live t) base n at) where
+        all-taken : count n (unheld held (live t) base) ≤ count i (slotFree e t)
+        all-taken = omega (arith, cell-none held (live t) base n at _ (s .cell) (s .cells) over)
 
         take-none : walkChange held used b (live t) base n k l at from (word1 e t i) (word2 e t i) ≡ listChange held used e b t base n k l i
         unfolding walkChange takeChange listChange
         take-none =
-            rw (free, le-ltb (nextUnheld held base n at) n over, le-ltb (count i (slotFree e t)) (count n (unheld held base)) all-taken)
+            rw (free, le-ltb (nextUnheld held (live t) base n at) n over, le-ltb (count i (slotFree e t)) (count n (unheld held (live t) base)) all-taken)
 
         stands-none : Stands held used e b t base n k (i + 1) n from
         stands-none =
@@ -222,13 +228,13 @@ module _ (held used : List ℕ) (e b : ℕ) (t : List ℕ) (base n k l : ℕ) wh
             }
 
       pub taken-change : walkChange held used b (live t) base n k l at from (word1 e t i) (word2 e t i) ≡ listChange held used e b t base n k l i
-      taken-change = by-le n (nextUnheld held base n at) take-none take-more
+      taken-change = by-le n (nextUnheld held (live t) base n at) take-none take-more
 
-      pub taken-stands : Stands held used e b t base n k (i + 1) (takenAt held base n at) (takenFrom held used b base n k at from)
+      pub taken-stands : Stands held used e b t base n k (i + 1) (takenAt held (live t) base n at) (takenFrom held used b (live t) base n k at from)
       taken-stands =
-          by-le n (nextUnheld held base n at)
-          (λ h. rw (le-ltb (nextUnheld held base n at) n h) (stands-none h))
-          (λ h. rw (lt-ltb (nextUnheld held base n at) n h) (stands-more h))
+          by-le n (nextUnheld held (live t) base n at)
+          (λ h. rw (le-ltb (nextUnheld held (live t) base n at) n h) (stands-none h))
+          (λ h. rw (lt-ltb (nextUnheld held (live t) base n at) n h) (stands-more h))
 
     module _ (used-slot : slotFree e t i ≡ false) where
       pub kept-change : walkChange held used b (live t) base n k l at from (word1 e t i) (word2 e t i) ≡ listChange held used e b t base n k l i
@@ -244,8 +250,8 @@ module _ (held used : List ℕ) (e b : ℕ) (t : List ℕ) (base n k l : ℕ) wh
     pub walk-change : walkChange held used b (live t) base n k l at from (word1 e t i) (word2 e t i) ≡ listChange held used e b t base n k l i
     walk-change = by-bool (slotFree e t i) taken-change kept-change
 
-    pub walk-stands : Stands held used e b t base n k (i + 1) (cond (eqb (word1 e t i) 0) (takenAt held base n at) at)
-        (cond (eqb (word1 e t i) 0) (takenFrom held used b base n k at from) from)
+    pub walk-stands : Stands held used e b t base n k (i + 1) (cond (eqb (word1 e t i) 0) (takenAt held (live t) base n at) at)
+        (cond (eqb (word1 e t i) 0) (takenFrom held used b (live t) base n k at from) from)
     walk-stands = by-bool (slotFree e t i) (λ h. rw h (taken-stands h)) (λ h. rw h (kept-stands h))
 
   pub changes-small : (c : Change) (i : ℕ) → length (entryStores e i c) ≤ 2
@@ -259,12 +265,12 @@ gather-ext zero f g h = refl
 gather-ext (suc n) f g h = rw (gather-ext n f g (λ i l. h i (omega arith)), h n (omega arith))
 
 module _ (held used : List ℕ) (b : ℕ) (t : List ℕ) (base n k l : ℕ)
-    (new : (j : ℕ) → j < n → unheld held base j ≡ isNew (slotsOf (length t)) t base j)
+    (new : (j : ℕ) → j < n → unheld held (live t) base j ≡ isNew (slotsOf (length t)) t base j)
     (free : (x : ℕ) → x < b → spare used x ≡ bodyFree (slotsOf (length t)) t x) where
-  same-count : (j : ℕ) → j ≤ n → count j (unheld held base) ≡ count j (isNew (slotsOf (length t)) t base)
-  same-count j h = count-ext j (unheld held base) (isNew (slotsOf (length t)) t base) (λ i l. new i (omega arith))
+  same-count : (j : ℕ) → j ≤ n → count j (unheld held (live t) base) ≡ count j (isNew (slotsOf (length t)) t base)
+  same-count j h = count-ext j (unheld held (live t) base) (isNew (slotsOf (length t)) t base) (λ i l. new i (omega arith))
 
-  pub bytes-are : (memory : List ℕ) → copyBytes b memory held used base n k ≡ addBytes b memory t base n k
+  pub bytes-are : (memory : List ℕ) → copyBytes b memory held used (live t) base n k ≡ addBytes b memory t base n k
   unfolding copyBytes addBytes
   bytes-are memory =
       gather-ext n _ _ (λ j l.
@@ -276,6 +282,6 @@ module _ (held used : List ℕ) (b : ℕ) (t : List ℕ) (base n k l : ℕ)
       gather-ext (slotsOf (length t)) _ _ (λ i l.
       rw (
         same-count n (omega arith),
-        nth-ext n (unheld held base) (isNew (slotsOf (length t)) t base) (count i (slotFree (slotsOf (length t)) t)) new,
+        nth-ext n (unheld held (live t) base) (isNew (slotsOf (length t)) t base) (count i (slotFree (slotsOf (length t)) t)) new,
         nth-ext b (spare used) (bodyFree (slotsOf (length t)) t) (count i (slotFree (slotsOf (length t)) t)) free,
       ))

@@ -2,5 +2,7 @@
 pub mod Copying
 pub mod Turning
 pub mod Choosing
+pub mod Bits
+pub mod Listing
 pub mod Noting
 pub mod Advanced

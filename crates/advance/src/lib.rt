@@ -1,46 +1,49 @@
 // Advance: every read-write cell of the innermost domain gets memory's bytes, as a copy in a body that was free.
 //
-// A body in use is never written, so that a cut leaves the old copies whole. Which body each cell gets is settled first, in notes; then the
-// bytes are stored, in the order of the cells; then the entries get their words by the journal. The questions are asked of the entries and not
-// of the cells, and the passes in the order of the cells leave out every group of 16 cells in which none advances: there may be 65,536 cells,
-// but no more than 4,096 entries.
-use search::copies_used;
+// A body in use is never written, so that a cut leaves the old copies whole. The questions are asked of the entries and not of the cells: there
+// may be 65,536 cells, but no more than 4,096 entries. The entries that advance set their cells' bits, 64 cells to a number, and a walk over these
+// numbers lists the cells in their order and notes where in the list each stands. The listed cells are copied one by one into the lowest
+// free bodies, and each body takes its cell's place in the list. Then the entries get their words by the journal, each with the body that
+// stands in its cell's place.
 use search::find_domain;
-use search::mark_held;
 use search::next_free_body;
-use search::no_marks;
 use store::Answer;
 use store::answer_of;
 use store::store_check;
+use table::FEW_CELLS;
+use table::few_marks;
 use table::first_word;
-use table::mark_bodies;
+use table::has_depth;
+use table::many_marks;
 use table::no_bodies;
 use table::write_entry;
 use words::copy_cell;
 use words::finish_journal;
 use words::layout::LIVE_AT;
+use words::layout::cells_of;
 use words::layout::pairs_at;
 use words::layout::slots_of;
 use words::remaining;
 use words::wide;
 ghost use mathlib.Core.Path.{_≡_};
-ghost use mathlib.Core.Bool.{true, cond, not, _||_};
-ghost use Prim.Native.Nat.{ℕ, _+_, _-_, _*_, _/_, _≤_, _<_};
-ghost use lib.ListN.{length, take, getD, set};
-ghost use lib.Dec.{leb, eqb};
-ghost use Rattle.words.specs.Layout.{cellAt, cellsOf, pairsAt, tableWords, maxSlots, maxCells, maxBodies};
-ghost use Rattle.words.specs.Scan.{all, count};
+ghost use mathlib.Core.Bool.{true, false, not, _||_};
+ghost use Prim.Native.Nat.{ℕ, _+_, _-_, _*_, _/_, _≤_, _<_, min};
+ghost use lib.ListN.{length, take, getD};
+ghost use lib.Dec.{leb};
+ghost use Rattle.words.specs.Layout.{cellAt, cellsOf, slotsOf, pairsAt, tableWords, maxSlots, maxCells, maxBodies, maxLive};
+ghost use Rattle.words.specs.Scan.{all, count, nth};
 ghost use Rattle.words.specs.Stores.{stores, gather};
+ghost use Rattle.words.specs.Cells.{cellPlan};
 ghost use Rattle.words.specs.Journal.{pairPlans, journal, journalSteps};
-ghost use Rattle.table.specs.Entry.{live, word1, parent, holdsIn, depthOf, writableOf, cellOf};
-ghost use Rattle.table.specs.Marks.{zeros};
+ghost use Rattle.table.specs.Entry.{live, word1, parent, holdsIn, cellOf};
+ghost use Rattle.table.specs.Marks.{Blank, AllMarked, Marked, cellIn, has, markAt, zeros};
 ghost use Rattle.table.specs.Changes.{entryStores, entryChanges};
 ghost use Rattle.table.specs.Rule.{ruleOk};
-ghost use Rattle.search.specs.Free.{copies, unmarkedFrom};
+ghost use Rattle.search.specs.Free.{copies};
 ghost use Rattle.store.specs.Outcome.{buffers, report, leaves, outcome};
 ghost use Rattle.store.specs.Means.{seen};
-ghost use Rattle.advance.specs.Advance.{advances, advanceCheck, bodyFor, advanceCall, advanceMeans};
-ghost use Rattle.advance.specs.Notes.{turns, entriesCheck, CellMarks, Grouped, writesAt, unmarked, noteOf, notePlan, noteChange};
+ghost use Rattle.advance.specs.Advance.{advances, advanceCheck, advanceCall, advanceMeans};
+ghost use Rattle.advance.specs.Notes.{turns, entriesCheck, bit, marked, markTurning, Turned, placeOf, Listed, unmarked, Filled, noted, Placed, noteChange};
 
 // ---- the questions: 0, or the number of the first no
 
@@ -51,70 +54,83 @@ fn turns_word(word: u32, live: u32) -> bool
     (word / 268435456 == live) & (word / 134217728 % 2 == 1)
 }
 
-// Is the cell of every innermost read-write entry marked by the parent too?
-fn all_covered(table: &[u32], slots: usize, live: u32, outer: &[u8]) -> bool
-    requires { ⌜ (slots ≤ maxSlots) × (pairsAt slots ≤ length (now table)) × (length (now outer) ≡ maxCells) ⌝ }
-    ensures { λ r. ⌜ r ≡ all slots (λ i. not (turns live (word1 slots (now (table .entry)) i)) || not (eqb (getD (now (outer .entry)) (cellOf (word1 slots (now (table .entry)) i)) 0) 0)) ⌝ }
+// Do the marks of the entries' cells say that the parent holds the cell of every entry that advances? All are asked, with no branch.
+fn all_covered(table: &[u32], slots: usize, live: u32, seen: &[u8]) -> bool
+    requires { ⌜ (slots ≤ maxSlots) × (pairsAt slots ≤ length (now table)) × (1 ≤ live) × (live ≤ maxLive) × ((i : ℕ) → i < slots → cellIn slots (now table) i < length (now seen)) ⌝ }
+    ensures { λ r. ⌜ r ≡ all slots (λ i. not (turns live (word1 slots (now (table .entry)) i)) || has (parent live) (markAt (now (seen .entry)) (word1 slots (now (table .entry)) i))) ⌝ }
 {
     let mut good = true;
     let mut i: usize = 0;
     while i < slots {
         let word = first_word(table, slots, i);
-        good = good & (!turns_word(word, live) | (outer[wide(word % 65536)] != 0));
+        let held = has_depth(seen[wide(word % 65536)], live - 1);
+        good = good & (!turns_word(word, live) | held);
         i += 1;
     }
     good
 }
 
 // Question 15, asked of the entries. A domain with none around it is not asked.
-fn parent_covers(table: &[u32], slots: usize) -> bool
-    requires { ⌜ (slots ≤ maxSlots) × (pairsAt slots ≤ length (now table)) ⌝ }
-    ensures { λ r. ⌜ r ≡ (leb (live (now (table .entry))) 1 || all slots (λ i. not (turns (live (now (table .entry))) (word1 slots (now (table .entry)) i)) || holdsIn slots (now (table .entry)) (parent (live (now (table .entry)))) (cellOf (word1 slots (now (table .entry)) i)))) ⌝ }
+fn parent_covers(table: &[u32], slots: usize, live: u32, seen: &[u8]) -> bool
+    requires { ⌜ (slots ≤ maxSlots) × (pairsAt slots ≤ length (now table)) × (live ≤ maxLive) × ((i : ℕ) → i < slots → cellIn slots (now table) i < length (now seen)) ⌝ }
+    requires { ⌜ Marked slots (now table) slots (now seen) ⌝ }
+    ensures { λ r. ⌜ r ≡ (leb live 1 || all slots (λ i. not (turns live (word1 slots (now (table .entry)) i)) || holdsIn slots (now (table .entry)) (parent live) (cellOf (word1 slots (now (table .entry)) i)))) ⌝ }
 {
-    let live = table[LIVE_AT];
     if live <= 1 {
         return true;
     }
-    let mut outer = no_marks();
-    mark_held(table, slots, live - 1, &mut outer);
-    all_covered(table, slots, live, &outer)
+    all_covered(table, slots, live, seen)
 }
 
-// How many entries advance.
-fn count_turning(table: &[u32], slots: usize, live: u32) -> usize
+// How many bodies there must be: one for each copy, and one more for each entry that advances. It takes no branch on what an entry holds and
+// counts in numbers as wide as a word, so that the compiler can count several entries at once.
+fn bodies_wanted(table: &[u32], slots: usize, live: u32) -> usize
     requires { ⌜ (slots ≤ maxSlots) × (pairsAt slots ≤ length (now table)) ⌝ }
-    ensures { λ r. ⌜ r ≡ count slots (λ i. turns live (word1 slots (now (table .entry)) i)) ⌝ }
+    ensures { λ r. ⌜ r ≡ copies slots (now (table .entry)) + count slots (λ i. turns live (word1 slots (now (table .entry)) i)) ⌝ }
 {
-    let mut n: usize = 0;
+    let mut copies: u32 = 0;
+    let mut turning: u32 = 0;
     let mut i: usize = 0;
     while i < slots {
-        if turns_word(first_word(table, slots, i), live) {
-            n += 1;
-        }
+        let word = first_word(table, slots, i);
+        copies += ((word != 0) & (word / 67108864 % 2 == 0)) as u32;
+        turning += turns_word(word, live) as u32;
         i += 1;
     }
-    n
+    wide(copies + turning)
 }
 
 // Questions 15 and 17, asked of the entries: a right table has as many innermost read-write entries as such cells.
-fn entries_check(table: &[u32], slots: usize, bodies: usize) -> u32
-    requires { ⌜ (slots ≤ maxSlots) × (pairsAt slots ≤ length (now table)) ⌝ }
+fn entries_check(table: &[u32], slots: usize, bodies: usize, seen: &[u8]) -> u32
+    requires { ⌜ (slots ≤ maxSlots) × (pairsAt slots ≤ length (now table)) × (live (now table) ≤ maxLive) × ((i : ℕ) → i < slots → cellIn slots (now table) i < length (now seen)) ⌝ }
+    requires { ⌜ Marked slots (now table) slots (now seen) ⌝ }
     ensures { λ r. ⌜ r ≡ entriesCheck slots bodies (now (table .entry)) ⌝ }
 {
-    if !parent_covers(table, slots) {
+    let live = table[LIVE_AT];
+    if !parent_covers(table, slots, live, seen) {
         return 15;
     }
-    if bodies < copies_used(table, slots) + count_turning(table, slots, table[LIVE_AT]) {
+    if bodies < bodies_wanted(table, slots, live) {
         return 17;
     }
     0
 }
 
-// The questions put to advance.
-fn advance_check(memory: usize, bodies: usize, table: &[u32], handle: u32) -> u32
-    ensures { λ r. ⌜ r ≡ advanceCheck memory bodies (now (table .entry)) handle ⌝ }
+// The questions put to advance. What is lent for marks has the marks of the entries once no question refuses the call.
+fn advance_check(
+    memory: usize,
+    bodies: usize,
+    table: &[u32],
+    handle: u32,
+    seen: &mut [u8],
+    used: &mut [u8],
+) -> u32
+    requires room { ⌜ (min (cellsOf memory) maxCells ≤ length (now seen)) × (length (now used) ≡ maxBodies) ⌝ }
+    requires blank { ⌜ Blank (now seen) × Blank (now used) ⌝ }
+    ensures no { λ r. ⌜ r ≡ advanceCheck memory bodies (now (table .entry)) handle ⌝ }
+    ensures marks { λ r. ⌜ (r ≡ 0 → AllMarked (slotsOf (length (now (table .entry)))) (now (table .entry)) (now (seen .exit)) (now (used .exit))) ⌝ }
 {
-    let no = store_check(memory, bodies, table);
+    let no = store_check(memory, bodies, table, seen, used);
     if no != 0 {
         return no;
     }
@@ -125,149 +141,138 @@ fn advance_check(memory: usize, bodies: usize, table: &[u32], handle: u32) -> u3
     if depth != table[LIVE_AT] {
         return 6;
     }
-    entries_check(table, slots_of(table.len()), bodies / 64)
+    entries_check(table, slots_of(table.len()), cells_of(bodies), seen)
 }
 
-// ---- the notes: which body each cell gets
+// ---- which cells advance, and in which order
 
-// No cell has a note. A function of its own, so that the checker does not write the list out.
-fn no_notes() -> [u16; 65536]
-    ensures { λ r. ⌜ r ≡ zeros 65536 ⌝ }
+// Sets the bit of an entry's cell where the entry advances. There is no branch: any other entry sets no bit.
+fn mark_turning(groups: &mut [u64], word: u32, live: u32)
+    requires { ⌜ cellOf word / 64 < length (now groups) ⌝ }
+    ensures { λ _. ⌜ now (groups .exit) ≡ markTurning live word (now (groups .entry)) ⌝ }
 {
-    [0u16; 65536]
-}
-
-// No group of 16 cells has a mark.
-fn no_groups() -> [u8; 4096]
-    ensures { λ r. ⌜ r ≡ zeros 4096 ⌝ }
-{
-    [0u8; 4096]
-}
-
-// Marks the cell of an entry that advances, and the group of 16 cells that it is in.
-fn mark_turning(notes: &mut [u16], groups: &mut [u8], word: u32, live: u32)
-    requires { ⌜ (length (now notes) ≡ maxCells) × (length (now groups) ≡ 4096) ⌝ }
-    ensures { λ _. ⌜ (now (notes .exit) ≡ cond (turns live word) (set (now (notes .entry)) (cellOf word) 1) (now (notes .entry))) × (now (groups .exit) ≡ cond (turns live word) (set (now (groups .entry)) (cellOf word / 16) 1) (now (groups .entry))) ⌝ }
-{
-    if !turns_word(word, live) {
-        return;
-    }
     let cell = wide(word % 65536);
-    notes[cell] = 1;
-    groups[cell / 16] = 1;
+    let turns = turns_word(word, live) as u64;
+    groups[cell / 64] = groups[cell / 64] | (turns << (word % 64));
 }
 
-// Marks the cells of all entries that advance, and their groups.
-fn mark_cells(table: &[u32], slots: usize, live: u32, notes: &mut [u16], groups: &mut [u8])
-    requires { ⌜ (slots ≤ maxSlots) × (pairsAt slots ≤ length (now table)) × (length (now notes) ≡ maxCells) × (length (now groups) ≡ 4096) ⌝ }
-    requires { ⌜ ((c : ℕ) → getD (now notes) c 0 ≡ 0) ⌝ }
-    ensures { λ _. ⌜ CellMarks slots (now (table .entry)) live slots (now (notes .exit)) × Grouped (now (groups .exit)) (now (notes .exit)) ⌝ }
+// Sets the bits of the cells of all entries that advance.
+fn mark_groups(table: &[u32], slots: usize, live: u32, groups: &mut [u64])
+    requires { ⌜ (slots ≤ maxSlots) × (pairsAt slots ≤ length (now table)) × ((i : ℕ) → i < slots → cellOf (word1 slots (now table) i) < 64 * length (now groups)) ⌝ }
+    requires { ⌜ Blank (now groups) ⌝ }
+    ensures { λ _. ⌜ Turned slots (now (table .entry)) live slots (now (groups .exit)) ⌝ }
 {
     let mut i: usize = 0;
     while i < slots {
-        mark_turning(notes, groups, first_word(table, slots, i), live);
+        mark_turning(groups, first_word(table, slots, i), live);
         i += 1;
     }
 }
 
-// The first cell from `from` on that is in a marked group, or `cells`.
-fn next_cell(groups: &[u8], from: usize, cells: usize) -> usize
-    requires { ⌜ (from ≤ cells) × (cells ≤ maxCells) × (length (now groups) ≡ 4096) ⌝ }
-    ensures { λ r. ⌜ (from ≤ r) × (r ≤ cells) × ((k : ℕ) → from ≤ k → k < r → getD (now (groups .entry)) (k / 16) 0 ≡ 0) ⌝ }
+// Lists the cells of one group whose bits are set, from place `first` on, and notes for each its place in the group. Every turn goes to the
+// next set bit, so that cells which stay cost nothing. Returns where the next group begins.
+fn list_group(group: u64, base: usize, seen: &mut [u8], places: &mut [u16], first: usize) -> usize
+    requires { ⌜ (base + 64 ≤ length (now seen)) × (base + 64 ≤ maxCells) × (first + count 64 (bit group) ≤ length (now places)) ⌝ }
+    ensures next { λ r. ⌜ r ≡ first + count 64 (bit group) ⌝ }
+    ensures listed { λ _. ⌜ ((j : ℕ) → j < 64 → bit group j ≡ true → (getD (now (seen .exit)) (base + j) 0 ≡ count j (bit group)) × (getD (now (places .exit)) (first + count j (bit group)) 0 ≡ base + j)) ⌝ }
+    ensures kept { λ _. ⌜ ((k : ℕ) → k < base → getD (now (seen .exit)) k 0 ≡ getD (now (seen .entry)) k 0) × ((r : ℕ) → r < first → getD (now (places .exit)) r 0 ≡ getD (now (places .entry)) r 0) ⌝ }
 {
-    let mut c = from;
-    while c < cells {
-        if groups[c / 16] != 0 {
-            return c;
-        }
-        c = 16 * (c / 16) + 16;
-    }
-    cells
-}
-
-// Notes a body for a cell that has a mark: the lowest from `at` on that is free. Returns where the next search begins.
-fn note_body(notes: &mut [u16], cell: usize, used: &[u8], bodies: usize, at: usize) -> usize
-    requires { ⌜ (cell < length (now notes)) × (bodies ≤ length (now used)) × (bodies ≤ maxBodies) × (at ≤ bodies) × (writesAt (now notes) cell ≡ true → unmarkedFrom bodies (now used) at < bodies) ⌝ }
-    ensures { λ r. ⌜ (r ≡ cond (writesAt (now (notes .entry)) cell) (unmarkedFrom bodies (now (used .entry)) at + 1) at) × (now (notes .exit) ≡ cond (writesAt (now (notes .entry)) cell) (set (now (notes .entry)) cell (unmarkedFrom bodies (now (used .entry)) at + 1)) (now (notes .entry))) ⌝ }
-{
-    if notes[cell] == 0 {
-        return at;
-    }
-    let body = next_free_body(used, bodies, at);
-    notes[cell] = (body + 1) as u16;
-    body + 1
-}
-
-// Notes a body of its own for each cell that has a mark, in the order of the cells, of the bodies that have no mark.
-fn note_bodies(notes: &mut [u16], groups: &[u8], used: &[u8], cells: usize, bodies: usize)
-    requires { ⌜ (cells ≤ maxCells) × (length (now notes) ≡ maxCells) × (length (now groups) ≡ 4096) × (bodies ≤ length (now used)) × (bodies ≤ maxBodies) × (count cells (writesAt (now notes)) ≤ count bodies (unmarked (now used))) ⌝ }
-    requires { ⌜ Grouped (now groups) (now notes) ⌝ }
-    ensures { λ _. ⌜ ((c : ℕ) → c < cells → getD (now (notes .exit)) c 0 ≡ noteOf bodies (now (notes .entry)) (now (used .entry)) c) ⌝ }
-{
+    let mut left = group;
     let mut at: usize = 0;
-    let mut c = next_cell(groups, 0, cells);
-    while c < cells {
-        at = note_body(notes, c, used, bodies, at);
-        c = next_cell(groups, c + 1, cells);
+    let mut n = first;
+    while left != 0 {
+        let skip = u64::trailing_zeros(left);
+        at += wide(skip);
+        places[n] = (base + at) as u16;
+        seen[base + at] = (n - first) as u8;
+        n += 1;
+        at += 1;
+        left = (left >> skip) / 2;
     }
+    n
 }
 
-// The notes of a table that passed the questions.
-fn note_places(
+// Lists the cells whose bits are set, in their order, and notes for each its place in its group, and for each group where it begins, in the
+// place of its bits. Returns how many cells are listed.
+fn list_cells(cells: usize, groups: &mut [u64], seen: &mut [u8], places: &mut [u16]) -> usize
+    requires { ⌜ (cells ≤ 64 * length (now groups)) × (length (now seen) ≡ 64 * length (now groups)) × (length (now seen) ≤ maxCells) × (count cells (marked (now groups)) ≤ length (now places)) ⌝ }
+    requires { ⌜ ((c : ℕ) → cells ≤ c → marked (now groups) c ≡ false) ⌝ }
+    ensures { λ r. ⌜ (r ≡ count cells (marked (now (groups .entry)))) × Listed (marked (now (groups .entry))) cells (now (groups .exit)) (now (seen .exit)) (now (places .exit)) ⌝ }
+{
+    let mut n: usize = 0;
+    let mut g: usize = 0;
+    while 64 * g < cells {
+        let group = groups[g];
+        groups[g] = n as u64;
+        n = list_group(group, 64 * g, seen, places, n);
+        g += 1;
+    }
+    n
+}
+
+// Lists the cells that advance, of a table that passed the questions. Returns their number.
+fn place_cells(
     table: &[u32],
     slots: usize,
     cells: usize,
-    bodies: usize,
-    notes: &mut [u16],
-    groups: &mut [u8],
-)
-    requires { ⌜ (slots ≤ maxSlots) × (pairsAt slots ≤ length (now table)) × (cells ≤ maxCells) × (bodies ≤ maxBodies) × (length (now notes) ≡ maxCells) × ((c : ℕ) → getD (now notes) c 0 ≡ 0) × (length (now groups) ≡ 4096) ⌝ }
-    requires { ⌜ (ruleOk cells slots bodies (now table) ≡ true) × (copies slots (now table) + count cells (advances slots (now table)) ≤ bodies) ⌝ }
-    ensures { λ _. ⌜ ((c : ℕ) → c < cells → getD (now (notes .exit)) c 0 ≡ cond (advances slots (now (table .entry)) c) (bodyFor slots bodies (now (table .entry)) c + 1) 0) × ((c : ℕ) → c < cells → getD (now (groups .exit)) (c / 16) 0 ≡ 0 → getD (now (notes .exit)) c 0 ≡ 0) ⌝ }
+    groups: &mut [u64],
+    seen: &mut [u8],
+    places: &mut [u16],
+) -> usize
+    requires { ⌜ (slots ≤ maxSlots) × (pairsAt slots ≤ length (now table)) × (cells ≤ 64 * length (now groups)) × (length (now seen) ≡ 64 * length (now groups)) × (length (now seen) ≤ maxCells) × (count cells (advances slots (now table)) ≤ length (now places)) ⌝ }
+    requires { ⌜ Blank (now groups) × (1 ≤ cells) × ((b : ℕ) × (ruleOk cells slots b (now table) ≡ true)) ⌝ }
+    ensures { λ r. ⌜ (r ≡ count cells (advances slots (now (table .entry)))) × Listed (advances slots (now (table .entry))) cells (now (groups .exit)) (now (seen .exit)) (now (places .exit)) ⌝ }
 {
-    mark_cells(table, slots, table[LIVE_AT], notes, groups);
-    let mut used = no_bodies();
-    mark_bodies(table, slots, &mut used);
-    note_bodies(notes, groups, &used, cells, bodies);
+    mark_groups(table, slots, table[LIVE_AT], groups);
+    list_cells(cells, groups, seen, places)
 }
 
 // ---- the bytes
 
-// Copies a cell of memory into the body that its note names, at most budget bytes of it. Returns how many bytes that is uncut.
-fn copy_noted(memory: &[u8], cell: usize, note: u16, bodies: &mut [u8], budget: usize) -> usize
-    requires { ⌜ (cellAt cell + 64 ≤ length (now memory)) × (note ≤ cellsOf (length (now bodies))) ⌝ }
-    ensures { λ r. ⌜ (r ≡ length (notePlan (now (memory .entry)) cell note)) × (r ≤ 64) × (now (bodies .exit) ≡ stores (take budget (notePlan (now (memory .entry)) cell note)) (now (bodies .entry))) ⌝ }
-{
-    if note == 0 {
-        return 0;
-    }
-    copy_cell(memory, cell, bodies, note as usize - 1, budget);
-    64
-}
-
-// Copies each cell that has a note, in the order of the cells. Returns how many bytes that is uncut.
-fn copy_cells(
+// Copies the n cells listed into the lowest bodies without a mark, in the order of both, and puts each cell's body in its place in the list.
+// Returns how many bytes that is uncut.
+fn copy_listed(
     memory: &[u8],
-    cells: usize,
-    notes: &[u16],
-    groups: &[u8],
+    places: &mut [u16],
+    n: usize,
+    used: &[u8],
     bodies: &mut [u8],
     budget: usize,
 ) -> usize
-    requires { ⌜ (cells ≤ maxCells) × (length (now memory) ≡ cellAt cells) × (length (now notes) ≡ maxCells) × (length (now groups) ≡ 4096) ⌝ }
-    requires { ⌜ ((c : ℕ) → c < cells → getD (now notes) c 0 ≤ cellsOf (length (now bodies))) × ((c : ℕ) → c < cells → getD (now groups) (c / 16) 0 ≡ 0 → getD (now notes) c 0 ≡ 0) ⌝ }
-    ensures { λ r. ⌜ (r ≡ length (gather cells (λ c. notePlan (now (memory .entry)) c (getD (now (notes .entry)) c 0)))) × (r ≤ 64 * maxCells) × (now (bodies .exit) ≡ stores (take budget (gather cells (λ c. notePlan (now (memory .entry)) c (getD (now (notes .entry)) c 0)))) (now (bodies .entry))) ⌝ }
+    requires { ⌜ (n ≤ length (now places)) × (n ≤ maxSlots) × (cellsOf (length (now bodies)) ≤ length (now used)) × (length (now used) ≡ maxBodies) × (n ≤ count (cellsOf (length (now bodies))) (unmarked (now used))) ⌝ }
+    requires { ⌜ ((r : ℕ) → r < n → cellAt (getD (now places) r 0) + 64 ≤ length (now memory)) ⌝ }
+    ensures bytes { λ r. ⌜ (r ≡ 64 * n) × (now (bodies .exit) ≡ stores (take budget (gather n (λ r. cellPlan (now (memory .entry)) (getD (now (places .entry)) r 0) (nth (cellsOf (length (now (bodies .entry)))) (unmarked (now (used .entry))) r)))) (now (bodies .entry))) ⌝ }
+    ensures filled { λ _. ⌜ Filled (cellsOf (length (now (bodies .entry)))) n (now (used .entry)) (now (places .exit)) ⌝ }
 {
-    let mut made: usize = 0;
-    let mut c = next_cell(groups, 0, cells);
-    while c < cells {
-        made += copy_noted(memory, c, notes[c], bodies, remaining(budget, made));
-        c = next_cell(groups, c + 1, cells);
+    let total = cells_of(bodies.len());
+    let mut at: usize = 0;
+    let mut r: usize = 0;
+    while r < n {
+        let body = next_free_body(used, total, at);
+        copy_cell(
+            memory,
+            places[r] as usize,
+            bodies,
+            body,
+            remaining(budget, 64 * r),
+        );
+        places[r] = body as u16;
+        at = body + 1;
+        r += 1;
     }
-    made
+    64 * n
 }
 
 // ---- the words
+
+// The body noted for a cell.
+fn noted_body(groups: &[u64], seen: &[u8], places: &[u16], cell: usize) -> u32
+    requires { ⌜ (cell / 64 < length (now groups)) × (cell < length (now seen)) × (placeOf (now groups) (now seen) cell < length (now places)) ⌝ }
+    ensures { λ r. ⌜ r ≡ noted (now (groups .entry)) (now (seen .entry)) (now (places .entry)) cell ⌝ }
+{
+    let place = groups[cell / 64] as usize + seen[cell] as usize;
+    places[place] as u32
+}
 
 // Writes the two pairs of entry i where it is read-write and innermost: it becomes a copy with the body noted for its cell. p pairs were
 // written before. Returns how many more there are.
@@ -276,19 +281,21 @@ fn write_noted(
     slots: usize,
     live: u32,
     i: usize,
-    notes: &[u16],
+    groups: &[u64],
+    seen: &[u8],
+    places: &[u16],
     p: usize,
     budget: usize,
 ) -> usize
-    requires { ⌜ (i < slots) × (slots ≤ maxSlots) × (length (now table) ≡ tableWords slots) × (length (now notes) ≡ maxCells) × (p ≤ 2 * i) ⌝ }
-    requires { ⌜ (depthOf (word1 slots (now table) i) ≡ live → writableOf (word1 slots (now table) i) ≡ 1 → 1 ≤ getD (now notes) (cellOf (word1 slots (now table) i)) 0) ⌝ }
-    ensures { λ r. ⌜ (r ≡ length (entryStores slots i (noteChange live (λ c. getD (now (notes .entry)) c 0) (word1 slots (now (table .entry)) i)))) × (r ≤ 2) × (now (table .exit) ≡ stores (take (budget - 2 * p) (pairPlans (pairsAt slots + 2 * p) (entryStores slots i (noteChange live (λ c. getD (now (notes .entry)) c 0) (word1 slots (now (table .entry)) i))))) (now (table .entry))) ⌝ }
+    requires { ⌜ (i < slots) × (slots ≤ maxSlots) × (length (now table) ≡ tableWords slots) × (p ≤ 2 * i) ⌝ }
+    requires { ⌜ (turns live (word1 slots (now table) i) ≡ true → Placed (now groups) (now seen) (now places) (cellOf (word1 slots (now table) i))) ⌝ }
+    ensures { λ r. ⌜ (r ≡ length (entryStores slots i (noteChange live (noted (now (groups .entry)) (now (seen .entry)) (now (places .entry))) (word1 slots (now (table .entry)) i)))) × (r ≤ 2) × (now (table .exit) ≡ stores (take (budget - 2 * p) (pairPlans (pairsAt slots + 2 * p) (entryStores slots i (noteChange live (noted (now (groups .entry)) (now (seen .entry)) (now (places .entry))) (word1 slots (now (table .entry)) i))))) (now (table .entry))) ⌝ }
 {
     let word = first_word(table, slots, i);
     if !turns_word(word, live) {
         return 0;
     }
-    let body = notes[wide(word % 65536)] - 1;
+    let body = noted_body(groups, seen, places, wide(word % 65536));
     let copy = word - 67108864 * (word / 67108864 % 2);
     write_entry(
         table,
@@ -296,36 +303,166 @@ fn write_noted(
         pairs_at(slots) + 2 * p,
         i,
         copy,
-        body as u32,
+        body,
         remaining(budget, 2 * p),
     );
     2
 }
 
 // Writes the pairs of all entries. Returns their number.
-fn write_words(table: &mut [u32], slots: usize, live: u32, notes: &[u16], budget: usize) -> usize
-    requires { ⌜ (slots ≤ maxSlots) × (length (now table) ≡ tableWords slots) × (length (now notes) ≡ maxCells) ⌝ }
-    requires { ⌜ ((i : ℕ) → i < slots → depthOf (word1 slots (now table) i) ≡ live → writableOf (word1 slots (now table) i) ≡ 1 → 1 ≤ getD (now notes) (cellOf (word1 slots (now table) i)) 0) ⌝ }
-    ensures { λ r. ⌜ (r ≡ length (entryChanges slots (λ i. noteChange live (λ c. getD (now (notes .entry)) c 0) (word1 slots (now (table .entry)) i)))) × (r ≤ 2 * slots) × (now (table .exit) ≡ stores (take budget (pairPlans (pairsAt slots) (entryChanges slots (λ i. noteChange live (λ c. getD (now (notes .entry)) c 0) (word1 slots (now (table .entry)) i))))) (now (table .entry))) ⌝ }
+fn write_words(
+    table: &mut [u32],
+    slots: usize,
+    live: u32,
+    groups: &[u64],
+    seen: &[u8],
+    places: &[u16],
+    budget: usize,
+) -> usize
+    requires { ⌜ (slots ≤ maxSlots) × (length (now table) ≡ tableWords slots) ⌝ }
+    requires { ⌜ ((i : ℕ) → i < slots → turns live (word1 slots (now table) i) ≡ true → Placed (now groups) (now seen) (now places) (cellOf (word1 slots (now table) i))) ⌝ }
+    ensures { λ r. ⌜ (r ≡ length (entryChanges slots (λ i. noteChange live (noted (now (groups .entry)) (now (seen .entry)) (now (places .entry))) (word1 slots (now (table .entry)) i)))) × (r ≤ 2 * slots) × (now (table .exit) ≡ stores (take budget (pairPlans (pairsAt slots) (entryChanges slots (λ i. noteChange live (noted (now (groups .entry)) (now (seen .entry)) (now (places .entry))) (word1 slots (now (table .entry)) i))))) (now (table .entry))) ⌝ }
 {
     let mut p: usize = 0;
     let mut i: usize = 0;
     while i < slots {
-        p += write_noted(table, slots, live, i, notes, p, budget);
+        p += write_noted(table, slots, live, i, groups, seen, places, p, budget);
         i += 1;
     }
     p
 }
 
 // Advance's part on the table. Returns its steps uncut.
-fn advance_words(table: &mut [u32], slots: usize, notes: &[u16], budget: usize) -> usize
-    requires { ⌜ (slots ≤ maxSlots) × (length (now table) ≡ tableWords slots) × (length (now notes) ≡ maxCells) ⌝ }
-    requires { ⌜ ((i : ℕ) → i < slots → depthOf (word1 slots (now table) i) ≡ live (now table) → writableOf (word1 slots (now table) i) ≡ 1 → 1 ≤ getD (now notes) (cellOf (word1 slots (now table) i)) 0) ⌝ }
-    ensures { λ r. ⌜ (r ≡ journalSteps (length (entryChanges slots (λ i. noteChange (live (now (table .entry))) (λ c. getD (now (notes .entry)) c 0) (word1 slots (now (table .entry)) i))))) × (r ≤ 6 * maxSlots + 2) × (now (table .exit) ≡ stores (take budget (journal (pairsAt slots) (entryChanges slots (λ i. noteChange (live (now (table .entry))) (λ c. getD (now (notes .entry)) c 0) (word1 slots (now (table .entry)) i))))) (now (table .entry))) ⌝ }
+fn advance_words(
+    table: &mut [u32],
+    slots: usize,
+    groups: &[u64],
+    seen: &[u8],
+    places: &[u16],
+    budget: usize,
+) -> usize
+    requires { ⌜ (slots ≤ maxSlots) × (length (now table) ≡ tableWords slots) ⌝ }
+    requires { ⌜ ((i : ℕ) → i < slots → turns (live (now table)) (word1 slots (now table) i) ≡ true → Placed (now groups) (now seen) (now places) (cellOf (word1 slots (now table) i))) ⌝ }
+    ensures { λ r. ⌜ (r ≡ journalSteps (length (entryChanges slots (λ i. noteChange (live (now (table .entry))) (noted (now (groups .entry)) (now (seen .entry)) (now (places .entry))) (word1 slots (now (table .entry)) i))))) × (r ≤ 6 * maxSlots + 2) × (now (table .exit) ≡ stores (take budget (journal (pairsAt slots) (entryChanges slots (λ i. noteChange (live (now (table .entry))) (noted (now (groups .entry)) (now (seen .entry)) (now (places .entry))) (word1 slots (now (table .entry)) i))))) (now (table .entry))) ⌝ }
 {
     let live = table[LIVE_AT];
-    let p = write_words(table, slots, live, notes, budget);
+    let p = write_words(table, slots, live, groups, seen, places, budget);
     finish_journal(table, pairs_at(slots), p, budget)
+}
+
+// ---- the call
+
+// Advance with what it is lent: marks for the cells and for the bodies, a number for each group of 64 cells, and room for the list.
+fn advance_marked(
+    memory: &[u8],
+    bodies: &mut [u8],
+    table: &mut [u32],
+    handle: u32,
+    seen: &mut [u8],
+    used: &mut [u8],
+    groups: &mut [u64],
+    places: &mut [u16],
+    budget: usize,
+) -> Answer
+    requires room { ⌜ (min (cellsOf (length (now memory))) maxCells ≤ length (now seen)) × (length (now used) ≡ maxBodies) × (length (now seen) ≡ 64 * length (now groups)) × (length (now seen) ≤ maxCells) × (min (cellsOf (length (now memory))) maxSlots ≤ length (now places)) ⌝ }
+    requires blank { ⌜ Blank (now seen) × Blank (now used) × Blank (now groups) ⌝ }
+    ensures { λ r. ⌜ leaves (report r) (buffers (now (memory .entry)) (now (bodies .exit)) (now (table .exit)))
+        ≡ outcome (advanceCall handle (buffers (now (memory .entry)) (now (bodies .entry)) (now (table .entry)))) budget
+        (buffers (now (memory .entry)) (now (bodies .entry)) (now (table .entry))) ⌝ }
+{
+    let no = advance_check(memory.len(), bodies.len(), table, handle, seen, used);
+    if no != 0 {
+        return Answer::Refused(no);
+    }
+    let slots = slots_of(table.len());
+    let n = place_cells(table, slots, cells_of(memory.len()), groups, seen, places);
+    let bytes = copy_listed(memory, places, n, used, bodies, budget);
+    let words = advance_words(table, slots, groups, seen, places, remaining(budget, bytes));
+    answer_of(bytes + words, 0, budget)
+}
+
+// No bit is set, and nothing is listed, for a small memory and for any. Functions of their own, so that the checker does not write the lists out.
+fn few_groups() -> [u64; 16]
+    ensures { λ r. ⌜ r ≡ zeros 16 ⌝ }
+{
+    [0u64; 16]
+}
+
+fn many_groups() -> [u64; 1024]
+    ensures { λ r. ⌜ r ≡ zeros 1024 ⌝ }
+{
+    [0u64; 1024]
+}
+
+fn few_places() -> [u16; 1024]
+    ensures { λ r. ⌜ r ≡ zeros 1024 ⌝ }
+{
+    [0u16; 1024]
+}
+
+fn many_places() -> [u16; 4096]
+    ensures { λ r. ⌜ r ≡ zeros 4096 ⌝ }
+{
+    [0u16; 4096]
+}
+
+// Advance in a small memory, where clearing marks for the largest would take longer than all else.
+fn advance_few(
+    memory: &[u8],
+    bodies: &mut [u8],
+    table: &mut [u32],
+    handle: u32,
+    budget: usize,
+) -> Answer
+    requires { ⌜ cellsOf (length (now memory)) ≤ 1024 ⌝ }
+    ensures { λ r. ⌜ leaves (report r) (buffers (now (memory .entry)) (now (bodies .exit)) (now (table .exit)))
+        ≡ outcome (advanceCall handle (buffers (now (memory .entry)) (now (bodies .entry)) (now (table .entry)))) budget
+        (buffers (now (memory .entry)) (now (bodies .entry)) (now (table .entry))) ⌝ }
+{
+    let mut seen = few_marks();
+    let mut used = no_bodies();
+    let mut groups = few_groups();
+    let mut places = few_places();
+    advance_marked(
+        memory,
+        bodies,
+        table,
+        handle,
+        &mut seen,
+        &mut used,
+        &mut groups,
+        &mut places,
+        budget,
+    )
+}
+
+// And in any memory.
+fn advance_many(
+    memory: &[u8],
+    bodies: &mut [u8],
+    table: &mut [u32],
+    handle: u32,
+    budget: usize,
+) -> Answer
+    ensures { λ r. ⌜ leaves (report r) (buffers (now (memory .entry)) (now (bodies .exit)) (now (table .exit)))
+        ≡ outcome (advanceCall handle (buffers (now (memory .entry)) (now (bodies .entry)) (now (table .entry)))) budget
+        (buffers (now (memory .entry)) (now (bodies .entry)) (now (table .entry))) ⌝ }
+{
+    let mut seen = many_marks();
+    let mut used = no_bodies();
+    let mut groups = many_groups();
+    let mut places = many_places();
+    advance_marked(
+        memory,
+        bodies,
+        table,
+        handle,
+        &mut seen,
+        &mut used,
+        &mut groups,
+        &mut places,
+        budget,
+    )
 }
 
 // Gives every read-write cell of the innermost domain memory's bytes, as a copy. Read-only cells keep theirs.
@@ -342,23 +479,8 @@ pub fn advance(
     ensures means { λ r. ⌜ seen (report r) (buffers (now (memory .entry)) (now (bodies .exit)) (now (table .exit)))
         ≡ advanceMeans handle budget (buffers (now (memory .entry)) (now (bodies .entry)) (now (table .entry))) ⌝ }
 {
-    let no = advance_check(memory.len(), bodies.len(), table, handle);
-    if no != 0 {
-        return Answer::Refused(no);
+    if cells_of(memory.len()) <= FEW_CELLS {
+        return advance_few(memory, bodies, table, handle, budget);
     }
-    let cells = memory.len() / 64;
-    let slots = slots_of(table.len());
-    let mut notes = no_notes();
-    let mut groups = no_groups();
-    note_places(
-        table,
-        slots,
-        cells,
-        bodies.len() / 64,
-        &mut notes,
-        &mut groups,
-    );
-    let bytes = copy_cells(memory, cells, &notes, &groups, bodies, budget);
-    let words = advance_words(table, slots, &notes, remaining(budget, bytes));
-    answer_of(bytes + words, 0, budget)
+    advance_many(memory, bodies, table, handle, budget)
 }

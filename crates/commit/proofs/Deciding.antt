@@ -1,86 +1,96 @@
--- What the code decides from two words and two marks is the change that the definition names. Assumes nothing.
-use Prim.Native.Nat.{ℕ}
-use mathlib.Core.Bool.{true, false, not, _&&_, _||_}
+-- What the code decides from two words and a mark is the change that the definition names. Assumes nothing.
+use Prim.Native.Nat.{ℕ, _≤_, _<_}
+use mathlib.Core.Bool.{Bool, true, false, cond, not, _&&_, _||_}
 use mathlib.Core.List.{List}
-use mathlib.Core.Path.{_≡_}
+use mathlib.Core.Path.{_≡_, refl, _∙_}
 use native.Mathlib.Omega.{arith}
-use borrow.Author.Tests.{eq-eqb, ne-eqb, eqb-true, eqb-false}
+use borrow.Author.Tests.{ne-eqb, eqb-true, leb-true}
 use lib.Dec.{leb, eqb}
 use lib.ListN.{length, take}
 use Rattle.words.specs.Stores.{stores}
 use Rattle.words.specs.Journal.{pairPlans}
 use Rattle.words.proofs.Plans.{stores-none}
-use Rattle.words.proofs.Scan.{by-bool, and-split}
-use Rattle.table.specs.Entry.{word1, word2, depthOf, cellOf, writableOf, parent, findIn, holdsIn}
+use Rattle.words.proofs.Scan.{by-bool, and-split, and-join, is-false, true≢}
+use Rattle.table.specs.Entry.{word1, depthOf, cellOf, writableOf, parent}
 use Rattle.table.specs.Changes.{Change, keep, put, entryStores}
-use Rattle.table.proofs.Entry.{holds-found, holds-none}
-use Rattle.search.specs.Domain.{markOf, markIn}
-use Rattle.search.proofs.Domain.{mark-of, mark-none}
-use Rattle.commit.specs.Commit.{outward, writable, holdsWritable, commitChange}
-use Rattle.commit.specs.Decide.{parentMark, decided}
+use Rattle.table.specs.Marks.{Marked}
+use Rattle.table.proofs.Marks.{marked-holds}
+use Rattle.search.specs.Writable.{TellWritable}
+use Rattle.commit.specs.Commit.{outward, writable, commitChange}
+use Rattle.commit.specs.Decide.{concerned, moves, raises, decided, decidedIn, Tells}
 
-module _ (e : ℕ) (t : List ℕ) (d c : ℕ) where
-  -- no mark where the depth lacks the cell
-  marked-none : eqb (markIn e t d c) 0 ≡ not (holdsIn e t d c)
-  marked-none =
-      by-bool (holdsIn e t d c)
-      (λ p. rw (p, mark-of e t d c (holds-found e t d c p)) (ne-eqb (markOf (word1 e t (findIn e t d c))) 0 (positive (word1 e t (findIn e t d c)))))
-      (λ p. rw (p, mark-none e t d c (holds-none e t d c p)))
-    where
-      positive : (w : ℕ) → markOf w ≡ 0 → ⊥
-      positive w q = omega arith
+-- the marks of all entries, once the innermost domain's read-only entries have taken their depth out
+pub tells-after : (e : ℕ) (t : List ℕ) (d : ℕ) (before after : List ℕ) → Marked e t e before → TellWritable e t d before after → Tells e t d after
+tells-after e t d before after m w =
+    record {
+      inner = λ deep c. w .writes c;
+      outer = λ deep c. w .others (parent d) c (λ q. omega (arith, q)) ∙ marked-holds e t before m (parent d) c (omega arith);
+    }
 
-  -- the mark 2 or 4 where it holds the cell read-write
-  marked-writable : (eqb (markIn e t d c) 2 || eqb (markIn e t d c) 4) ≡ holdsWritable e t d c
-  marked-writable =
-      by-bool (holdsIn e t d c)
-      (λ p. rw (p, mark-of e t d c (holds-found e t d c p)) (label (word1 e t (findIn e t d c))))
-      (λ p. rw (p, mark-none e t d c (holds-none e t d c p)))
-    where
-      label : (w : ℕ) → (eqb (markOf w) 2 || eqb (markOf w) 4) ≡ eqb (writableOf w) 1
-      label w =
-          by-bool (eqb (writableOf w) 1)
-          (λ y.
-          by-bool (eqb (markOf w) 2) (λ x. rw (x, y))
-          (λ x.
-          let q : markOf w ≡ 4 = omega (arith, eqb-true (writableOf w) 1 y, eqb-false (markOf w) 2 x) in
-          rw (x, y, eq-eqb (markOf w) 4 q)))
-          (λ y.
-          let n : writableOf w ≡ 1 → ⊥ = eqb-false (writableOf w) 1 y in
-          rw (y, ne-eqb (markOf w) 2 (λ q. omega (arith, n)), ne-eqb (markOf w) 4 (λ q. omega (arith, n))))
+-- the outermost domain asks nothing of them
+pub tells-outermost : (e : ℕ) (t : List ℕ) (d : ℕ) (seen : List ℕ) → d < 2 → Tells e t d seen
+tells-outermost e t d seen few = record { inner = λ deep. absurd (omega arith); outer = λ deep. absurd (omega arith) }
 
--- the change of entry i, from the marks of its cell
-pub decides : (e : ℕ) (t : List ℕ) (d i inner outer : ℕ) → inner ≡ markIn e t d (cellOf (word1 e t i)) → outer ≡ parentMark e t d (cellOf (word1 e t i))
-    → decided d (word1 e t i) (word2 e t i) inner outer ≡ commitChange e t d i
-unfolding decided commitChange parentMark
-decides e t d i inner outer p q =
-    let c = cellOf (word1 e t i) in
+-- the change of entry i
+pub decides : (e : ℕ) (t : List ℕ) (d : ℕ) (seen : List ℕ) → Tells e t d seen → (i : ℕ) → decidedIn e t seen d i ≡ commitChange e t d i
+unfolding decided commitChange
+decides e t d seen told i =
     by-bool (leb 2 d)
-    (λ z. rw (p, q, z, marked-none e t (parent d) c, marked-writable e t d c))
-    (λ z. rw (p, q, z))
+    (λ z.
+    let deep = leb-true _ _ z in
+    rw (z, told .inner deep (cellOf (word1 e t i)), told .outer deep (cellOf (word1 e t i))))
+    (λ z. rw z)
 
--- ---- what the code's arms write
+or-false : (a b : Bool) → (a || b) ≡ false → (a ≡ false) × (b ≡ false)
+or-false true b h = absurd (true≢ refl h)
+or-false false b h = (refl, h)
 
-module _ (d w v inner outer : ℕ) where
-  pub decided-moved : depthOf w ≡ d → (leb 2 d && eqb outer 0) ≡ true → decided d w v inner outer ≡ put (outward w) v
+-- ---- the change as the code makes it: one test whether there is one, and its words by selection
+
+module _ (d w v : ℕ) (inner outer : Bool) (low : 1 ≤ d) where
+  -- an innermost entry is not the parent's
+  apart : eqb (depthOf w) d ≡ true → raises d w inner ≡ false
+  apart p =
+      let no : eqb (depthOf w) (parent d) ≡ false = ne-eqb (depthOf w) (parent d) (λ q. omega (arith, q, eqb-true (depthOf w) d p)) in
+      by-bool (leb 2 d) (λ z. rw (z, no)) (λ z. rw z)
+
+  pub decided-put : (eqb (depthOf w) d || raises d w inner) ≡ true
+      → decided d w v inner outer ≡ put (cond (moves d w outer) (outward w) (cond (raises d w inner) (writable w) 0)) (cond (moves d w outer || raises d w inner) v 0)
   unfolding decided
-  decided-moved p q = rw (eq-eqb _ _ p, q)
+  decided-put h =
+      by-bool (eqb (depthOf w) d)
+      (λ p. rw (p, apart p) (by-bool (leb 2 d && not outer) (λ z. rw z) (λ z. rw z)))
+      (λ p. let r : raises d w inner ≡ true = rw p at h in rw (p, r))
 
-  pub decided-freed : depthOf w ≡ d → (leb 2 d && eqb outer 0) ≡ false → decided d w v inner outer ≡ put 0 0
+  pub decided-keep : (eqb (depthOf w) d || raises d w inner) ≡ false → decided d w v inner outer ≡ keep
   unfolding decided
-  decided-freed p q = rw (eq-eqb _ _ p, q)
+  decided-keep h =
+      by-bool (eqb (depthOf w) d)
+      (λ p. absurd (true≢ (rw p) h))
+      (λ p. let r : raises d w inner ≡ false = rw p at h in rw (p, r))
 
-  pub decided-raised : (depthOf w ≡ d → ⊥) → (leb 2 d && (eqb (depthOf w) (parent d) && (eqb (writableOf w) 0 && (eqb inner 2 || eqb inner 4)))) ≡ true
-      → decided d w v inner outer ≡ put (writable w) v
-  unfolding decided
-  decided-raised p q = rw (ne-eqb _ _ p, q)
+  -- an entry that is not concerned
+  pub decided-apart : concerned d w ≡ false → decided d w v inner outer ≡ keep
+  decided-apart h =
+      let f = or-false (eqb (depthOf w) d) _ h in
+      decided-keep (rw (f .0) (is-false (raises d w inner) (λ r.
+      let s = and-split (leb 2 d) (eqb (depthOf w) (parent d) && (eqb (writableOf w) 0 && inner)) r in
+      let q = and-split (eqb (depthOf w) (parent d)) (eqb (writableOf w) 0 && inner) (s .1) in
+      true≢ (and-join _ _ (s .0) (and-join _ _ (q .0) (and-split (eqb (writableOf w) 0) inner (q .1) .0))) (f .1))))
 
-  pub decided-kept : (depthOf w ≡ d → ⊥) → (leb 2 d && (eqb (depthOf w) (parent d) && (eqb (writableOf w) 0 && (eqb inner 2 || eqb inner 4)))) ≡ false
-      → decided d w v inner outer ≡ keep
-  unfolding decided
-  decided-kept p q = rw (ne-eqb _ _ p, q)
+  -- a word that moves out has a depth to lose, and one that is raised was read-only
+  pub moves-deep : moves d w outer ≡ true → 268_435_456 ≤ w
+  moves-deep h =
+      let s = and-split (eqb (depthOf w) d) (leb 2 d && not outer) h in
+      omega (arith, eqb-true (depthOf w) d (s .0))
 
--- an arm that writes an entry, and the one that does not
+  pub raises-low : raises d w inner ≡ true → writableOf w ≡ 0
+  raises-low h =
+      let s = and-split (leb 2 d) (eqb (depthOf w) (parent d) && (eqb (writableOf w) 0 && inner)) h in
+      let r = and-split (eqb (depthOf w) (parent d)) (eqb (writableOf w) 0 && inner) (s .1) in
+      eqb-true (writableOf w) 0 (and-split (eqb (writableOf w) 0) inner (r .1) .0)
+
+-- an entry that is written, and one that is not
 pub wrote : (e i at k : ℕ) (t t′ : List ℕ) (c : Change) (w v : ℕ) → c ≡ put w v → t′ ≡ stores (take k (pairPlans at (entryStores e i (put w v)))) t
     → (2 ≡ length (entryStores e i c)) × (t′ ≡ stores (take k (pairPlans at (entryStores e i c))) t)
 wrote e i at k t t′ c w v q h = (rw q, rw q h)
@@ -88,11 +98,3 @@ wrote e i at k t t′ c w v q h = (rw q, rw q h)
 pub wrote-none : (e i at k : ℕ) (t : List ℕ) (c : Change) → c ≡ keep
     → (0 ≡ length (entryStores e i c)) × (t ≡ stores (take k (pairPlans at (entryStores e i c))) t)
 wrote-none e i at k t c q = (rw q, rw q (stores-none k t))
-
--- an entry whose label is raised was read-only
-pub raised-low : (d w inner : ℕ) → (leb 2 d && (eqb (depthOf w) (parent d) && (eqb (writableOf w) 0 && (eqb inner 2 || eqb inner 4)))) ≡ true → writableOf w ≡ 0
-raised-low d w inner h =
-    let s = and-split (leb 2 d) (eqb (depthOf w) (parent d) && (eqb (writableOf w) 0 && (eqb inner 2 || eqb inner 4))) h in
-    let r = and-split (eqb (depthOf w) (parent d)) (eqb (writableOf w) 0 && (eqb inner 2 || eqb inner 4)) (s .1) in
-    let q = and-split (eqb (writableOf w) 0) (eqb inner 2 || eqb inner 4) (r .1) in
-    eqb-true (writableOf w) 0 (q .0)

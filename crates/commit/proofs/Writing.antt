@@ -3,16 +3,16 @@ use Prim.Native.Nat.{ℕ, _+_, _-_, _*_, _≤_, _<_}
 use mathlib.Core.List.{List, []}
 use mathlib.Core.Path.{_≡_, refl, sym, ap, subst, _∙_}
 use native.Mathlib.Omega.{arith}
-use lib.ListN.{length, getD, take, length-append}
-use Rattle.words.specs.Layout.{firstAt, secondAt, pairsAt, slotsOf, maxCells}
+use lib.ListN.{length, take, length-append}
+use Rattle.words.specs.Layout.{firstAt, secondAt, pairsAt, slotsOf}
 use Rattle.words.specs.Stores.{Store, stores, gather}
 use Rattle.words.specs.Journal.{pairPlans}
 use Rattle.words.proofs.Gather.{pairs-more, pairs-turn, pairs-count, getD-written}
-use Rattle.table.specs.Entry.{live, word1, word2, cellOf}
+use Rattle.table.specs.Entry.{live, word1, word2}
 use Rattle.table.specs.Changes.{Change, keep, put, entryStores, entryChanges}
-use Rattle.search.specs.Domain.{markIn}
+use Rattle.table.specs.Marks.{has, cellIn}
 use Rattle.commit.specs.Commit.{commitChange, commitWords}
-use Rattle.commit.specs.Decide.{parentMark, decided, decidedIn}
+use Rattle.commit.specs.Decide.{decidedIn, Tells}
 use Rattle.commit.proofs.Deciding.{decides}
 use Rattle.commit.proofs.Merging.{headWords}
 use Rattle.commit.proofs.Taken.{gather-below}
@@ -22,13 +22,13 @@ entry-few : (e i : ℕ) (c : Change) → length (entryStores e i c) ≤ 2
 entry-few e i keep = omega arith
 entry-few e i (put w v) = omega arith
 
-pub decided-few : (d w v inner outer e i r : ℕ) → r ≡ length (entryStores e i (decided d w v inner outer)) → r ≤ 2
-decided-few d w v inner outer e i r h = subst (λ (x : ℕ). x ≤ 2) (sym h) (entry-few e i (decided d w v inner outer))
+pub decided-few : (e : ℕ) (t seen : List ℕ) (d i r : ℕ) → r ≡ length (entryStores e i (decidedIn e t seen d i)) → r ≤ 2
+decided-few e t seen d i r h = subst (λ (x : ℕ). x ≤ 2) (sym h) (entry-few e i (decidedIn e t seen d i))
 
 -- a turn of the loop over the entries
-module _ (e at k i n : ℕ) (t t₁ inner outer : List ℕ) (d : ℕ) (here : i < e) (front : pairsAt e ≤ at) where
+module _ (e at k i n : ℕ) (t t₁ seen : List ℕ) (d : ℕ) (here : i < e) (front : pairsAt e ≤ at) where
   abbrev stored : ℕ → List Store
-  stored j = entryStores e j (decidedIn e t inner outer d j)
+  stored j = entryStores e j (decidedIn e t seen d j)
 
   module _ (count : n ≡ length (gather i stored)) (before : t₁ ≡ stores (take k (pairPlans at (gather i stored))) t) where
     same1 : word1 e t₁ i ≡ word1 e t i
@@ -37,46 +37,52 @@ module _ (e at k i n : ℕ) (t t₁ inner outer : List ℕ) (d : ℕ) (here : i 
     same2 : word2 e t₁ i ≡ word2 e t i
     same2 = getD-written at k (secondAt e i) (gather i stored) t t₁ (omega arith) before
 
-    abbrev written : ℕ → List Store
-    written cell = entryStores e i (decided d (word1 e t₁ i) (word2 e t₁ i) (getD inner cell 0) (getD outer cell 0))
+    -- its words are those of the table before
+    written-is : entryStores e i (decidedIn e t₁ seen d i) ≡ stored i
+    written-is = rw (same1, same2)
 
-    written-is : (cell : ℕ) → cell ≡ cellOf (word1 e t₁ i) → written cell ≡ stored i
-    written-is cell q = rw (q, same1, same2)
+    -- the mark of its cell is there
+    pub turn-fits : (m : ℕ) → cellIn e t i < m → cellIn e t₁ i < m
+    turn-fits m fits = rw same1 fits
 
-    pub turn-count : (cell r : ℕ) → cell ≡ cellOf (word1 e t₁ i) → r ≡ length (entryStores e i (decided d (word1 e t₁ i) (word2 e t₁ i) (getD inner cell 0) (getD outer cell 0)))
-        → n + r ≡ length (gather (i + 1) (λ j. entryStores e j (decidedIn e t inner outer d j)))
-    turn-count cell r q h = pairs-count stored [] i n r count (h ∙ ap length (written-is cell q))
+    pub turn-count : (r : ℕ) → r ≡ length (entryStores e i (decidedIn e t₁ seen d i))
+        → n + r ≡ length (gather (i + 1) (λ j. entryStores e j (decidedIn e t seen d j)))
+    turn-count r h = pairs-count stored [] i n r count (h ∙ ap length written-is)
 
-    pub turn-words : (cell : ℕ) (t₂ : List ℕ) → cell ≡ cellOf (word1 e t₁ i)
-        → t₂ ≡ stores (take (k - 2 * n) (pairPlans (at + 2 * n) (entryStores e i (decided d (word1 e t₁ i) (word2 e t₁ i) (getD inner cell 0) (getD outer cell 0))))) t₁
-        → t₂ ≡ stores (take k (pairPlans at (gather (i + 1) (λ j. entryStores e j (decidedIn e t inner outer d j))))) t
-    turn-words cell t₂ q h = pairs-turn stored [] at k i n t t₁ t₂ count before (h ∙ rw (written-is cell q))
+    pub turn-words : (t₂ : List ℕ) → t₂ ≡ stores (take (k - 2 * n) (pairPlans (at + 2 * n) (entryStores e i (decidedIn e t₁ seen d i)))) t₁
+        → t₂ ≡ stores (take k (pairPlans at (gather (i + 1) (λ j. entryStores e j (decidedIn e t seen d j))))) t
+    turn-words t₂ h = pairs-turn stored [] at k i n t t₁ t₂ count before (h ∙ rw written-is)
 
 -- the head's pairs and then the entries'
-module _ (t t₁ inner outer : List ℕ) (k : ℕ)
+module _ (t t₁ seen : List ℕ) (k : ℕ)
     (head : t₁ ≡ stores (take k (pairPlans (pairsAt (slotsOf (length t))) (headWords (live t)))) t)
-    (inside : (c : ℕ) → c < maxCells → getD inner c 0 ≡ markIn (slotsOf (length t)) t (live t) c)
-    (outside : (c : ℕ) → c < maxCells → getD outer c 0 ≡ parentMark (slotsOf (length t)) t (live t) c) where
+    (told : Tells (slotsOf (length t)) t (live t) seen) where
   abbrev e : ℕ
   e = slotsOf (length t)
 
-  change-is : (i : ℕ) → i < e → decidedIn e t₁ inner outer (live t) i ≡ commitChange e t (live t) i
+  change-is : (i : ℕ) → i < e → decidedIn e t₁ seen (live t) i ≡ commitChange e t (live t) i
   change-is i l =
       let first : word1 e t₁ i ≡ word1 e t i = getD-written (pairsAt e) k (firstAt e i) (headWords (live t)) t t₁ (omega arith) head in
       let second : word2 e t₁ i ≡ word2 e t i = getD-written (pairsAt e) k (secondAt e i) (headWords (live t)) t t₁ (omega arith) head in
-      rw (first, second) (decides e t (live t) i _ _ (inside (cellOf (word1 e t i)) (omega arith)) (outside (cellOf (word1 e t i)) (omega arith)))
+      rw (first, second) (decides e t (live t) seen told i)
 
-  changes-are : entryChanges e (decidedIn e t₁ inner outer (live t)) ≡ entryChanges e (commitChange e t (live t))
+  -- after the head's pairs every entry still has its mark
+  pub head-fits : (m : ℕ) → ((i : ℕ) → i < slotsOf (length t) → cellIn (slotsOf (length t)) t i < m) → (i : ℕ) → i < slotsOf (length t) → cellIn (slotsOf (length t)) t₁ i < m
+  head-fits m fits i l =
+      let first : word1 e t₁ i ≡ word1 e t i = getD-written (pairsAt e) k (firstAt e i) (headWords (live t)) t t₁ (omega arith) head in
+      rw first (fits i l)
+
+  changes-are : entryChanges e (decidedIn e t₁ seen (live t)) ≡ entryChanges e (commitChange e t (live t))
   changes-are =
-      gather-below (λ i. entryStores e i (decidedIn e t₁ inner outer (live t) i)) (λ i. entryStores e i (commitChange e t (live t) i)) e
+      gather-below (λ i. entryStores e i (decidedIn e t₁ seen (live t) i)) (λ i. entryStores e i (commitChange e t (live t) i)) e
       (λ i l. ap (entryStores e i) (change-is i l))
 
-  pub pairs-number : (r : ℕ) → r ≡ length (entryChanges (slotsOf (length t)) (decidedIn (slotsOf (length t)) t₁ inner outer (live t))) → 2 + r ≡ length (commitWords t)
+  pub pairs-number : (r : ℕ) → r ≡ length (entryChanges (slotsOf (length t)) (decidedIn (slotsOf (length t)) t₁ seen (live t))) → 2 + r ≡ length (commitWords t)
   unfolding commitWords
   pairs-number r h = rw (h, changes-are) (sym (length-append (headWords (live t)) (entryChanges e (commitChange e t (live t)))))
 
   pub pairs-words : (t₂ : List ℕ)
-      → t₂ ≡ stores (take (k - 4) (pairPlans (pairsAt (slotsOf (length t)) + 4) (entryChanges (slotsOf (length t)) (decidedIn (slotsOf (length t)) t₁ inner outer (live t))))) t₁
+      → t₂ ≡ stores (take (k - 4) (pairPlans (pairsAt (slotsOf (length t)) + 4) (entryChanges (slotsOf (length t)) (decidedIn (slotsOf (length t)) t₁ seen (live t))))) t₁
       → t₂ ≡ stores (take k (pairPlans (pairsAt (slotsOf (length t))) (commitWords t))) t
   unfolding commitWords
   pairs-words t₂ h =

@@ -1,27 +1,39 @@
--- What commit's code decides an entry's change from: its two words and what the two innermost domains hold of its cell, as marks.
-use Prim.Native.Nat.{ℕ}
-use mathlib.Core.Bool.{cond, _&&_, _||_}
+-- What commit's code decides an entry's change from: its two words, and what the mark of its cell tells of the two innermost domains.
+use Prim.Native.Nat.{ℕ, _≤_}
+use mathlib.Core.Bool.{Bool, cond, not, _&&_, _||_}
 use mathlib.Core.List.{List}
+use mathlib.Core.Path.{_≡_}
 use lib.Dec.{leb, eqb}
 use lib.ListN.{getD}
-use Rattle.table.specs.Entry.{word1, word2, depthOf, cellOf, writableOf, parent}
+use Rattle.table.specs.Entry.{word1, word2, depthOf, writableOf, parent, holdsIn}
 use Rattle.table.specs.Changes.{Change, keep, put}
-use Rattle.search.specs.Domain.{markIn}
-use Rattle.commit.specs.Commit.{outward, writable}
+use Rattle.table.specs.Marks.{has, markAt}
+use Rattle.commit.specs.Commit.{holdsWritable, outward, writable}
 
--- the mark of what the parent of the domain at depth d holds of cell c: 0 where it has no parent
-unfoldable pub parentMark : ℕ → List ℕ → ℕ → ℕ → ℕ
-parentMark e t d c = cond (leb 2 d) (markIn e t (parent d) c) 0
+-- an entry with first word w, where the innermost depth is d: it is innermost and moves out, `outer` saying whether the parent holds its
+-- cell; or it is the parent's, and its label is raised, `inner` saying whether the innermost domain holds its cell read-write
+abbrev pub moves : (d w : ℕ) → Bool → Bool
+moves d w outer = eqb (depthOf w) d && (leb 2 d && not outer)
 
--- the change of an entry with words w and v, where the innermost depth is d, and `inner` and `outer` are the marks of its cell there and at
--- the parent
-unfoldable pub decided : (d w v inner outer : ℕ) → Change
+abbrev pub raises : (d w : ℕ) → Bool → Bool
+raises d w inner = leb 2 d && (eqb (depthOf w) (parent d) && (eqb (writableOf w) 0 && inner))
+
+-- can it change, whatever the marks tell?
+abbrev pub concerned : (d w : ℕ) → Bool
+concerned d w = eqb (depthOf w) d || (leb 2 d && (eqb (depthOf w) (parent d) && eqb (writableOf w) 0))
+
+-- its change, with second word v
+unfoldable pub decided : (d w v : ℕ) (inner outer : Bool) → Change
 decided d w v inner outer =
     cond (eqb (depthOf w) d)
-    (cond (leb 2 d && eqb outer 0) (put (outward w) v) (put 0 0))
-    (cond (leb 2 d && (eqb (depthOf w) (parent d) && (eqb (writableOf w) 0 && (eqb inner 2 || eqb inner 4)))) (put (writable w) v) keep)
+    (cond (leb 2 d && not outer) (put (outward w) v) (put 0 0))
+    (cond (raises d w inner) (put (writable w) v) keep)
 
--- of entry i, where `inner` and `outer` are the marks of all cells
-abbrev pub decidedIn : (e : ℕ) → List ℕ → (inner outer : List ℕ) → (d i : ℕ) → Change
-decidedIn e t inner outer d i =
-    decided d (word1 e t i) (word2 e t i) (getD inner (cellOf (word1 e t i)) 0) (getD outer (cellOf (word1 e t i)) 0)
+-- that of entry i, by the marks of all cells
+abbrev pub decidedIn : (e : ℕ) → List ℕ → (seen : List ℕ) → (d i : ℕ) → Change
+decidedIn e t seen d i = decided d (word1 e t i) (word2 e t i) (has d (markAt seen (word1 e t i))) (has (parent d) (markAt seen (word1 e t i)))
+
+-- the marks tell of the innermost depth d which cells it holds read-write, and of its parent, where it has one, which it holds
+pub record Tells (e : ℕ) (t : List ℕ) (d : ℕ) (seen : List ℕ) : Type 0 where
+  pub inner : 2 ≤ d → (c : ℕ) → has d (getD seen c 0) ≡ holdsWritable e t d c
+  pub outer : 2 ≤ d → (c : ℕ) → has (parent d) (getD seen c 0) ≡ holdsIn e t (parent d) c

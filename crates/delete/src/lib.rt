@@ -3,33 +3,38 @@
 // The questions come first, in one function that only reads. Then one pass over the entries writes the pairs of those that are freed,
 // and the journal is finished. No body is stored: a free body means nothing.
 use search::find_domain;
-use search::mark_held;
-use search::no_marks;
 use store::Answer;
 use store::answer_of;
 use store::store_check;
+use table::FEW_CELLS;
+use table::few_marks;
 use table::first_word;
+use table::has_depth;
+use table::many_marks;
+use table::no_bodies;
 use table::write_entry;
 use words::finish_journal;
+use words::layout::cells_of;
 use words::layout::pairs_at;
 use words::layout::slots_of;
 use words::remaining;
 use words::wide;
 ghost use mathlib.Core.Path.{_≡_};
 ghost use mathlib.Core.Bool.{not};
-ghost use Prim.Native.Nat.{_+_, _-_, _*_, _≤_, _<_};
-ghost use lib.Dec.{ltb, eqb};
+ghost use Prim.Native.Nat.{_+_, _*_, _≤_, _<_, min};
 ghost use lib.ListN.{length, take, getD};
-ghost use Rattle.words.specs.Layout.{pairsAt, slotsOf, tableWords, maxSlots, maxCells};
+ghost use Rattle.words.specs.Layout.{cellsOf, pairsAt, slotsOf, tableWords, maxSlots, maxBodies, maxCells};
 ghost use Rattle.words.specs.Scan.{all};
 ghost use Rattle.words.specs.Stores.{stores};
 ghost use Rattle.words.specs.Journal.{pairPlans, journal};
-ghost use Rattle.table.specs.Entry.{holdsIn};
+ghost use Rattle.table.specs.Entry.{word1};
+ghost use Rattle.table.specs.Marks.{has, Blank};
 ghost use Rattle.table.specs.Changes.{entryStores, entryChanges};
 ghost use Rattle.model.specs.Holdings.{rangeOk};
 ghost use Rattle.store.specs.Outcome.{buffers, report, leaves, outcome};
 ghost use Rattle.store.specs.Means.{seen};
-ghost use Rattle.delete.specs.Delete.{holdsVia, deleteCheck, deleteChange, deleteWords, deleteCall, deleteMeans};
+ghost use Rattle.delete.specs.Delete.{deleteCheck, deleteChange, deleteWords, deleteCall, deleteMeans};
+ghost use Rattle.delete.specs.Parts.{viaWord};
 
 // ---- the questions: 0, or the number of the first no
 
@@ -40,58 +45,132 @@ fn range_ok(cells: usize, first: u32, count: u32) -> bool
     (1 <= wide(count)) & (wide(first) + wide(count) <= cells)
 }
 
-// Has each of `count` cells from `first` on a mark?
-fn all_marked(marks: &[u8], first: usize, count: usize) -> bool
-    requires { ⌜ first + count ≤ length (now marks) ⌝ }
-    ensures { λ r. ⌜ r ≡ all count (λ j. not (eqb (getD (now (marks .entry)) (first + j) 0) 0)) ⌝ }
+// Question 13: does the domain at this depth hold each of `count` cells from `first` on? All marks are asked, with no branch.
+fn all_held(seen: &[u8], depth: u32, first: usize, count: usize) -> bool
+    requires { ⌜ (first + count ≤ length (now seen)) × (depth < 16) ⌝ }
+    ensures { λ r. ⌜ r ≡ all count (λ j. has depth (getD (now (seen .entry)) (first + j) 0)) ⌝ }
 {
+    let mut held = true;
     let mut j: usize = 0;
     while j < count {
-        if marks[first + j] == 0 {
-            return false;
-        }
+        held = held & has_depth(seen[first + j], depth);
         j += 1;
     }
-    true
+    held
 }
 
-// Question 13: does the domain at this depth hold each of these cells? One pass marks what it holds and one walks over the cells.
-fn all_held(table: &[u32], slots: usize, depth: u32, first: usize, count: usize) -> bool
+// Is an entry of this depth, via parent, and of one of these cells?
+fn via_word(word: u32, depth: u32, first: u32, count: u32) -> bool
+    requires { ⌜ first + count ≤ maxCells ⌝ }
+    ensures { λ r. ⌜ r ≡ viaWord depth first count word ⌝ }
+{
+    let cell = word % 65536;
+    (word / 268435456 == depth)
+        & ((word / 67108864 % 2 == 1) & ((first <= cell) & (cell < first + count)))
+}
+
+// Question 14, asked of the depth of the next domain in: is none of its entries via parent and of one of these cells? All entries are
+// asked, with no branch.
+fn none_via(table: &[u32], slots: usize, depth: u32, first: u32, count: u32) -> bool
     requires { ⌜ (slots ≤ maxSlots) × (pairsAt slots ≤ length (now table)) × (first + count ≤ maxCells) ⌝ }
-    ensures { λ r. ⌜ r ≡ all count (λ j. holdsIn slots (now (table .entry)) depth (first + j)) ⌝ }
+    ensures { λ r. ⌜ r ≡ all slots (λ i. not (viaWord depth first count (word1 slots (now (table .entry)) i))) ⌝ }
 {
-    let mut marks = no_marks();
-    mark_held(table, slots, depth, &mut marks);
-    all_marked(&marks, first, count)
-}
-
-// Has none of these cells a mark of via parent, 3 or 4?
-fn none_marked_via(marks: &[u8], first: usize, count: usize) -> bool
-    requires { ⌜ first + count ≤ length (now marks) ⌝ }
-    ensures { λ r. ⌜ r ≡ all count (λ j. ltb (getD (now (marks .entry)) (first + j) 0) 3) ⌝ }
-{
-    let mut j: usize = 0;
-    while j < count {
-        if marks[first + j] >= 3 {
-            return false;
-        }
-        j += 1;
+    let mut none = true;
+    let mut i: usize = 0;
+    while i < slots {
+        none = none & !via_word(first_word(table, slots, i), depth, first, count);
+        i += 1;
     }
-    true
+    none
 }
 
-// Question 14, asked of the depth of the next domain in: does it hold none of these cells via parent? A function of its own, so that
-// only one list of marks is alive at a time.
-fn none_via(table: &[u32], slots: usize, depth: u32, first: usize, count: usize) -> bool
-    requires { ⌜ (slots ≤ maxSlots) × (pairsAt slots ≤ length (now table)) × (first + count ≤ maxCells) ⌝ }
-    ensures { λ r. ⌜ r ≡ all count (λ j. not (holdsVia slots (now (table .entry)) depth (first + j))) ⌝ }
+// The questions put to delete, with marks for every cell and body, none made yet.
+fn check_marked(
+    memory: usize,
+    bodies: usize,
+    table: &[u32],
+    handle: u32,
+    first: u32,
+    count: u32,
+    seen: &mut [u8],
+    used: &mut [u8],
+) -> u32
+    requires room { ⌜ (min (cellsOf memory) maxCells ≤ length (now seen)) × (length (now used) ≡ maxBodies) ⌝ }
+    requires blank { ⌜ Blank (now seen) × Blank (now used) ⌝ }
+    ensures { λ r. ⌜ r ≡ deleteCheck memory bodies (now (table .entry)) handle first count ⌝ }
 {
-    let mut marks = no_marks();
-    mark_held(table, slots, depth, &mut marks);
-    none_marked_via(&marks, first, count)
+    let no = store_check(memory, bodies, table, seen, used);
+    if no != 0 {
+        return no;
+    }
+    let depth = find_domain(table, handle);
+    if depth == 0 {
+        return 5;
+    }
+    if !range_ok(cells_of(memory), first, count) {
+        return 8;
+    }
+    if !all_held(seen, depth, wide(first), wide(count)) {
+        return 13;
+    }
+    if !none_via(table, slots_of(table.len()), depth + 1, first, count) {
+        return 14;
+    }
+    0
 }
 
-// The questions put to delete.
+// The same with marks for a small memory: clearing those for the largest would take longer than all else.
+fn check_few(
+    memory: usize,
+    bodies: usize,
+    table: &[u32],
+    handle: u32,
+    first: u32,
+    count: u32,
+) -> u32
+    requires { ⌜ cellsOf memory ≤ 1024 ⌝ }
+    ensures { λ r. ⌜ r ≡ deleteCheck memory bodies (now (table .entry)) handle first count ⌝ }
+{
+    let mut seen = few_marks();
+    let mut used = no_bodies();
+    check_marked(
+        memory,
+        bodies,
+        table,
+        handle,
+        first,
+        count,
+        &mut seen,
+        &mut used,
+    )
+}
+
+// The same with marks for every cell that an entry can name.
+fn check_many(
+    memory: usize,
+    bodies: usize,
+    table: &[u32],
+    handle: u32,
+    first: u32,
+    count: u32,
+) -> u32
+    ensures { λ r. ⌜ r ≡ deleteCheck memory bodies (now (table .entry)) handle first count ⌝ }
+{
+    let mut seen = many_marks();
+    let mut used = no_bodies();
+    check_marked(
+        memory,
+        bodies,
+        table,
+        handle,
+        first,
+        count,
+        &mut seen,
+        &mut used,
+    )
+}
+
+// The questions put to delete. They alone need the marks.
 fn delete_check(
     memory: usize,
     bodies: usize,
@@ -102,27 +181,10 @@ fn delete_check(
 ) -> u32
     ensures { λ r. ⌜ r ≡ deleteCheck memory bodies (now (table .entry)) handle first count ⌝ }
 {
-    let no = store_check(memory, bodies, table);
-    if no != 0 {
-        return no;
+    if cells_of(memory) <= FEW_CELLS {
+        return check_few(memory, bodies, table, handle, first, count);
     }
-    let depth = find_domain(table, handle);
-    if depth == 0 {
-        return 5;
-    }
-    if !range_ok(memory / 64, first, count) {
-        return 8;
-    }
-    let slots = slots_of(table.len());
-    let from = wide(first);
-    let cells = wide(count);
-    if !all_held(table, slots, depth, from, cells) {
-        return 13;
-    }
-    if !none_via(table, slots, depth + 1, from, cells) {
-        return 14;
-    }
-    0
+    check_many(memory, bodies, table, handle, first, count)
 }
 
 // ---- the words

@@ -4,7 +4,7 @@ use search::find_domain;
 use search::find_holder;
 use search::find_source;
 use store::Answer;
-use store::store_check;
+use store::plain_check;
 use table::first_word;
 use table::second_word;
 use words::layout::cell_at;
@@ -32,7 +32,7 @@ pub enum Place {
 fn look_check(memory: usize, bodies: usize, table: &[u32], handle: u32, cell: u32) -> u32
     ensures { λ r. ⌜ r ≡ lookCheck memory bodies (now (table .entry)) handle cell ⌝ }
 {
-    let no = store_check(memory, bodies, table);
+    let no = plain_check(memory, bodies, table);
     if no != 0 {
         return no;
     }

@@ -1,13 +1,15 @@
 -- Cells put back, one after another: from the bytes that the holder's body has to the bytes of restore. Assumes nothing.
 use Prim.Native.Nat.{ℕ, _+_, _-_, _*_, _≤_, _<_}
-use mathlib.Core.Bool.{true}
+use mathlib.Core.Bool.{Bool, true, false, not}
 use mathlib.Core.List.{List, []}
 use mathlib.Core.Path.{_≡_, refl, sym, ap, subst, _∙_}
 use native.Mathlib.Omega.{arith}
+use borrow.Author.Tests.{not-true, not-false}
 use borrow.Rule.Slice.PartMut.{putMid, midOf}
+use lib.Dec.{leb}
 use lib.ListN.{length, getD, take, drop}
 use lib.Seq.{take-all, getD-take, getD-drop}
-use Rattle.words.specs.Layout.{cellAt, cellsOf, slotsOf, maxLive, maxCells}
+use Rattle.words.specs.Layout.{cellAt, cellsOf, slotsOf, maxLive}
 use Rattle.words.specs.Stores.{Store, _≔_, stores, gather}
 use Rattle.words.specs.Cells.{copyPlan, cellPlan}
 use Rattle.words.proofs.Plans.{stores-none, length-cellPlan, tab-below}
@@ -22,10 +24,10 @@ use Rattle.search.specs.declared.Holder.the-variants.{At, Nobody}
 use Rattle.search.proofs.Holders.{HolderFacts, holder-facts}
 use Rattle.search.proofs.Value.{Copy, ends-in-copy, body-fits, source-copy-at, source-via-at, source-zero}
 use Rattle.restore.specs.Restore.{restoreBytes}
-use Rattle.restore.specs.Marks.{markFrom}
+use Rattle.restore.specs.Marks.{Tells}
 use Rattle.restore.specs.Parts.{backPlan, groupPlan}
 use Rattle.restore.proofs.Blocks.{gather-none}
-use Rattle.restore.proofs.Marking.{zero-one, held-there, marked-held, unmarked-lacking}
+use Rattle.restore.proofs.Marking.{held-there}
 
 -- ---- the body of a held cell
 
@@ -64,7 +66,7 @@ module _ (e : ℕ) (t : List ℕ) (d c : ℕ) (held : heldFrom e t d c ≡ true)
   -- somebody is found
   pub holder-some : (h : Holder) → h ≡ holderIn e t d c → h ≡ Nobody → ⊥
   unfolding holderIn
-  holder-some h q n = let p = rw held at q in let z : _≡_ {A = ℕ} 0 1 = cc in zero-one z
+  holder-some h q n = let p = rw held at q in let z : _≡_ {A = ℕ} 0 1 = cc in omega arith
 
 -- at the depth where the search ends, by the entry that it found there: a copy is its own source, and the source of a via parent entry is
 -- that of the next depth out
@@ -96,19 +98,19 @@ module _ (e : ℕ) (t : List ℕ) (d c : ℕ) (held : heldFrom e t d c ≡ true)
   pub source-out : (w s : ℕ) → w ≡ word1 e t i → (viaOf w ≡ 0 → ⊥) → s ≡ sourceIn e t (x - 1) c → s ≡ sourceIn e t (d + stepsIn e t d c) c
   source-out w s r v z = z ∙ sym (source-via-at e t x c i holder-deep (sym (facts .entry)) holder-slot (λ u. v (ap viaOf r ∙ u))) ∙ there
 
--- ---- a cell, with or without a mark
+-- ---- a cell, held or not
 
-module _ (m e : ℕ) (t : List ℕ) (d c mark : ℕ) (bodies memory : List ℕ) (k : ℕ) (ok : ruleOk m e (cellsOf (length bodies)) t ≡ true) (low : 1 ≤ d)
-    (says : mark ≡ markFrom e t d c) where
+module _ (m e : ℕ) (t : List ℕ) (d c : ℕ) (held : Bool) (bodies memory : List ℕ) (k : ℕ) (ok : ruleOk m e (cellsOf (length bodies)) t ≡ true) (low : 1 ≤ d)
+    (says : held ≡ heldFrom e t d c) where
   rule : Rule m e (cellsOf (length bodies)) t
   rule = ok-facts m e (cellsOf (length bodies)) t ok
 
-  pub put-none : mark ≡ 0 → (0 ≡ length (backPlan e t d bodies c)) × ((_≤_ 0 64) × (memory ≡ stores (take k (backPlan e t d bodies c)) memory))
-  put-none z = rw (unmarked-lacking m e (cellsOf (length bodies)) t rule d c low mark says z) (refl, (omega arith, stores-none k memory))
+  pub put-none : not held ≡ true → (0 ≡ length (backPlan e t d bodies c)) × ((_≤_ 0 64) × (memory ≡ stores (take k (backPlan e t d bodies c)) memory))
+  put-none z = rw (sym says ∙ not-true held z) (refl, (omega arith, stores-none k memory))
 
-  module _ (set : mark ≡ 0 → ⊥) where
+  module _ (yes : not held ≡ false) where
     pub put-held : heldFrom e t d c ≡ true
-    put-held = marked-held m e (cellsOf (length bodies)) t rule d c low mark says set
+    put-held = sym says ∙ not-false held yes
 
     pub put-source : sourceIn e t (d + stepsIn e t d c) c < e
     put-source = held-source m e (cellsOf (length bodies)) t rule d c low put-held
@@ -135,16 +137,13 @@ module _ (m e : ℕ) (t : List ℕ) (d c mark : ℕ) (bodies memory : List ℕ) 
 
 -- ---- a group of cells
 
--- one whose cells have no mark has nothing to be put back
-pub put-group-none : (m e : ℕ) (t : List ℕ) (d : ℕ) (marks bodies memory : List ℕ) (from n k : ℕ) → ruleOk m e (cellsOf (length bodies)) t ≡ true → 1 ≤ d
-    → from + n ≤ maxCells → ((c : ℕ) → c < maxCells → getD marks c 0 ≡ markFrom e t d c) → ((j : ℕ) → j < n → getD marks (from + j) 0 ≡ 0)
+-- one with no held cell has nothing to be put back
+pub put-group-none : (e : ℕ) (t : List ℕ) (d limit : ℕ) (seen bodies memory : List ℕ) (from n k : ℕ) → Tells e t d limit seen
+    → ((j : ℕ) → j < n → leb limit (getD seen (from + j) 0) ≡ false)
     → (0 ≡ length (groupPlan e t d bodies from n)) × ((_≤_ 0 (64 * n)) × (memory ≡ stores (take k (groupPlan e t d bodies from n)) memory))
-put-group-none m e t d marks bodies memory from n k ok low fits says clear =
+put-group-none e t d limit seen bodies memory from n k says clear =
     let nothing : groupPlan e t d bodies from n ≡ [] =
-    gather-none n (λ j. backPlan e t d bodies (from + j))
-    (λ j l.
-    rw (unmarked-lacking m e (cellsOf (length bodies)) t (ok-facts m e (cellsOf (length bodies)) t ok) d (from + j) low (getD marks (from + j) 0)
-    (says (from + j) (omega arith)) (clear j l))) in
+    gather-none n (λ j. backPlan e t d bodies (from + j)) (λ j l. rw (sym (says (from + j)) ∙ clear j l)) in
     rw nothing (refl, (omega arith, stores-none k memory))
 
 -- ---- all cells

@@ -1,30 +1,15 @@
--- The cells that restore puts back, as one mark a cell, and one mark a group of 64 cells.
-use Prim.Native.Nat.{ℕ, _<_, _/_}
-use mathlib.Core.Bool.{Bool, cond, _&&_}
+-- The cells that restore puts back, by the marks of all entries.
+use Prim.Native.Nat.{ℕ, _/_, _^_}
 use mathlib.Core.List.{List}
 use mathlib.Core.Path.{_≡_}
-use lib.Dec.{ltb, leb, eqb}
+use lib.Dec.{leb}
 use lib.ListN.{getD}
-use Rattle.words.specs.Layout.{maxCells}
-use Rattle.words.specs.Scan.{first}
-use Rattle.table.specs.Entry.{word1, depthOf, cellOf}
+use Rattle.search.specs.Search.{heldFrom}
 
--- does an entry of depth d or deeper name cell c?
-abbrev pub namesFrom : (d c w : ℕ) → Bool
-namesFrom d c w = leb d (depthOf w) && eqb (cellOf w) c
+-- the mark that has depth d alone: a mark is less exactly if it has neither d nor a deeper one
+abbrev pub leastMark : ℕ → ℕ
+leastMark d = 2 ^ d / 2
 
--- 1 where one of the e entries does
-unfoldable pub markFrom : ℕ → List ℕ → (d c : ℕ) → ℕ
-markFrom e t d c = cond (ltb (first e (λ i. namesFrom d c (word1 e t i))) e) 1 0
-
--- ---- groups of cells, so that the cells of a group in which none is to be put back are passed over at once
-
-abbrev pub groupOf : ℕ → ℕ
-groupOf c = c / 64
-
-abbrev pub maxGroups : ℕ
-maxGroups = 1_024
-
--- a group without a mark has no cell with one
-abbrev pub Grouped : (marks groups : List ℕ) → Type 0
-Grouped marks groups = (c : ℕ) → c < maxCells → getD groups (groupOf c) 0 ≡ 0 → getD marks c 0 ≡ 0
+-- the marks that are not less are those of the cells held by depth d or one inside it
+abbrev pub Tells : ℕ → List ℕ → (d limit : ℕ) → (seen : List ℕ) → Type 0
+Tells e t d limit seen = (c : ℕ) → leb limit (getD seen c 0) ≡ heldFrom e t d c

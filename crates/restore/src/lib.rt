@@ -1,18 +1,21 @@
 // Restore: it puts back each cell held by the named domain or one inside it, with the value of the outermost of these holders, and then ends
 // the domains inside.
 //
-// One pass over the entries marks the cells to be put back, and the groups of 64 cells that these lie in; then the cells are walked in their
-// order, past the groups without a mark, with one search for the holder of each marked cell. Memory is whole before any word of the table
-// changes.
+// The questions leave a mark for each cell, with the depths that hold it. Then the cells are walked in their order, past the groups of 64 in
+// which the marks have no depth from the domain's inwards, with one search for the holder of each cell that is put back. Memory is whole
+// before any word of the table changes.
 use search::Holder;
 use search::find_domain;
 use search::find_holder;
 use search::find_source;
-use search::no_marks;
 use store::Answer;
 use store::answer_of;
 use store::store_check;
+use table::FEW_CELLS;
+use table::few_marks;
 use table::first_word;
+use table::many_marks;
+use table::no_bodies;
 use table::second_word;
 use table::write_entry;
 use words::copy_bytes;
@@ -27,30 +30,40 @@ use words::remaining;
 use words::wide;
 use words::write_pair;
 ghost use mathlib.Core.Path.{_≡_};
-ghost use mathlib.Core.Bool.{true, cond};
+ghost use mathlib.Core.Bool.{true, false};
 ghost use Prim.Native.Nat.{ℕ, _+_, _-_, _*_, _≤_, _<_, min};
-ghost use lib.ListN.{length, take, getD, set};
+ghost use lib.ListN.{length, take, getD};
 ghost use lib.Dec.{leb};
-ghost use Rattle.words.specs.Layout.{cellAt, cellsOf, pairsAt, slotsOf, tableWords, maxSlots, maxLive, maxCells};
+ghost use Rattle.words.specs.Layout.{cellAt, cellsOf, pairsAt, slotsOf, tableWords, maxSlots, maxLive, maxCells, maxBodies};
 ghost use Rattle.words.specs.Stores.{stores, gather};
 ghost use Rattle.words.specs.Journal.{pairPlans, journal, journalSteps};
 ghost use Rattle.words.specs.Cells.{cellPlan};
-ghost use Rattle.table.specs.Entry.{live, depthOf, cellOf};
+ghost use Rattle.table.specs.Entry.{live};
 ghost use Rattle.table.specs.Changes.{entryStores, entryChanges};
-ghost use Rattle.table.specs.Marks.{zeros};
+ghost use Rattle.table.specs.Marks.{Blank, Marked, AllMarked};
 ghost use Rattle.table.specs.Rule.{ruleOk};
 ghost use Rattle.search.specs.Search.{stepsIn, heldFrom, sourceIn, bodyFrom};
 ghost use Rattle.store.specs.Outcome.{buffers, report, leaves, outcome};
 ghost use Rattle.store.specs.Means.{seen};
 ghost use Rattle.restore.specs.Restore.{restoreCheck, restoreBytes, restoreChange, restoreWords, restoreCall, restoreMeans};
-ghost use Rattle.restore.specs.Marks.{markFrom, maxGroups, groupOf, Grouped};
+ghost use Rattle.restore.specs.Marks.{leastMark, Tells};
 ghost use Rattle.restore.specs.Parts.{backPlan, groupPlan, headWords, endingWords};
 
-// The questions put to restore: 0, or the number of the first no.
-fn restore_check(memory: usize, bodies: usize, table: &[u32], handle: u32) -> u32
-    ensures { λ r. ⌜ r ≡ restoreCheck memory bodies (now (table .entry)) handle ⌝ }
+// The questions put to restore: 0, or the number of the first no. It leaves the marks of all entries where it says 0.
+fn restore_check(
+    memory: usize,
+    bodies: usize,
+    table: &[u32],
+    handle: u32,
+    seen: &mut [u8],
+    used: &mut [u8],
+) -> u32
+    requires room { ⌜ (min (cellsOf memory) maxCells ≤ length (now seen)) × (length (now used) ≡ maxBodies) ⌝ }
+    requires blank { ⌜ Blank (now seen) × Blank (now used) ⌝ }
+    ensures no { λ r. ⌜ r ≡ restoreCheck memory bodies (now (table .entry)) handle ⌝ }
+    ensures marks { λ r. ⌜ (r ≡ 0 → AllMarked (slotsOf (length (now (table .entry)))) (now (table .entry)) (now (seen .exit)) (now (used .exit))) ⌝ }
 {
-    let no = store_check(memory, bodies, table);
+    let no = store_check(memory, bodies, table, seen, used);
     if no != 0 {
         return no;
     }
@@ -62,39 +75,38 @@ fn restore_check(memory: usize, bodies: usize, table: &[u32], handle: u32) -> u3
 
 // ---- memory
 
-// Marks the cell of an entry with this first word, and the cell's group, if it is of this depth or deeper.
-fn mark_deep(marks: &mut [u8], groups: &mut [u8], word: u32, depth: u32)
-    requires { ⌜ (length (now marks) ≡ maxCells) × (length (now groups) ≡ maxGroups) ⌝ }
-    ensures cells { λ _. ⌜ now (marks .exit) ≡ cond (leb depth (depthOf word)) (set (now (marks .entry)) (cellOf word) 1) (now (marks .entry)) ⌝ }
-    ensures groups { λ _. ⌜ now (groups .exit) ≡ cond (leb depth (depthOf word)) (set (now (groups .entry)) (groupOf (cellOf word)) 1) (now (groups .entry)) ⌝ }
+// The mark that has this depth alone. The marks that are less have neither this depth nor a deeper one.
+fn least_mark(depth: u32) -> u8
+    requires { ⌜ depth ≤ maxLive ⌝ }
+    ensures { λ r. ⌜ r ≡ leastMark depth ⌝ }
 {
-    if word / 268435456 < depth {
-        return;
-    }
-    let cell = wide(word % 65536);
-    marks[cell] = 1;
-    groups[cell / 64] = 1;
+    ((1u32 << depth) / 2) as u8
 }
 
-// Marks each cell that an entry of this depth or deeper names, and the groups of these cells.
-fn mark_from(table: &[u32], slots: usize, depth: u32, marks: &mut [u8], groups: &mut [u8])
-    requires { ⌜ (slots ≤ maxSlots) × (pairsAt slots ≤ length (now table)) × (length (now marks) ≡ maxCells) × (length (now groups) ≡ maxGroups) ⌝ }
-    requires { ⌜ ((c : ℕ) → getD (now marks) c 0 ≡ 0) ⌝ }
-    ensures cells { λ _. ⌜ ((c : ℕ) → c < maxCells → getD (now (marks .exit)) c 0 ≡ markFrom slots (now (table .entry)) depth c) ⌝ }
-    ensures groups { λ _. ⌜ Grouped (now (marks .exit)) (now (groups .exit)) ⌝ }
+// Is one of 64 marks not less than this one? All of them are compared, so that the compiler can compare many at once.
+fn any_from(marks: &[u8], limit: u8) -> bool
+    requires { ⌜ length (now marks) ≡ 64 ⌝ }
+    ensures { λ r. ⌜ (r ≡ false → (j : ℕ) → j < 64 → leb limit (getD (now (marks .entry)) j 0) ≡ false) ⌝ }
 {
-    let mut i: usize = 0;
-    while i < slots {
-        mark_deep(marks, groups, first_word(table, slots, i), depth);
-        i += 1;
+    let mut any = false;
+    let mut j: usize = 0;
+    while j < 64 {
+        any = any | (limit <= marks[j]);
+        j += 1;
     }
+    any
 }
 
-// No group is marked. A function of its own, so that the checker does not write the list out.
-fn no_groups() -> [u8; 1024]
-    ensures { λ r. ⌜ r ≡ zeros 1024 ⌝ }
+// May a cell of this group be one to be put back? The cells of a group that is not full, which only the last can be, are not asked for all
+// at once.
+fn group_held(seen: &[u8], from: usize, n: usize, limit: u8) -> bool
+    requires { ⌜ (n ≤ 64) × (from + n ≤ length (now seen)) ⌝ }
+    ensures { λ r. ⌜ (r ≡ false → (j : ℕ) → j < n → leb limit (getD (now (seen .entry)) (from + j) 0) ≡ false) ⌝ }
 {
-    [0u8; 1024]
+    if n < 64 {
+        return true;
+    }
+    any_from(&seen[from..from + 64], limit)
 }
 
 // The body behind what the first holder of a held cell, from this depth inwards, holds of it.
@@ -125,24 +137,24 @@ fn put_cell(bytes: &[u8], memory: &mut [u8], cell: usize, budget: usize)
     copy_bytes(bytes, &mut memory[at..at + 64], budget);
 }
 
-// Puts a marked cell back, at most budget bytes of it, and gives how many bytes that is uncut: none where the cell has no mark.
-fn put_marked(
+// Puts a cell back where it is held, at most budget bytes of it, and gives how many bytes that is uncut.
+fn put_held(
     memory: &mut [u8],
     bodies: &[u8],
     table: &[u32],
     slots: usize,
     depth: u32,
     cell: usize,
-    mark: u8,
+    held: bool,
     budget: usize,
 ) -> usize
     requires { ⌜ (slots ≤ maxSlots) × (pairsAt slots ≤ length (now table)) × (1 ≤ depth) × (cell < maxCells) × (cellAt cell + 64 ≤ length (now memory)) ⌝ }
-    requires { ⌜ (ruleOk (cellsOf (length (now memory))) slots (cellsOf (length (now bodies))) (now table) ≡ true) × (mark ≡ markFrom slots (now table) depth cell) ⌝ }
+    requires { ⌜ (ruleOk (cellsOf (length (now memory))) slots (cellsOf (length (now bodies))) (now table) ≡ true) × (held ≡ heldFrom slots (now table) depth cell) ⌝ }
     ensures made { λ r. ⌜ r ≡ length (backPlan slots (now (table .entry)) depth (now (bodies .entry)) cell) ⌝ }
     ensures few { λ r. ⌜ r ≤ 64 ⌝ }
     ensures bytes { λ _. ⌜ now (memory .exit) ≡ stores (take budget (backPlan slots (now (table .entry)) depth (now (bodies .entry)) cell)) (now (memory .entry)) ⌝ }
 {
-    if mark == 0 {
+    if !held {
         return 0;
     }
     let at = cell_at(find_body(table, slots, depth, cell as u32));
@@ -150,41 +162,40 @@ fn put_marked(
     64
 }
 
-// Puts back the marked ones of n cells from `from` on, in their order, and gives how many bytes that is uncut: none where their group has no
-// mark.
+// Puts back the held ones of n cells from `from` on, in their order, and gives how many bytes that is uncut.
 fn put_group(
     memory: &mut [u8],
     bodies: &[u8],
     table: &[u32],
     slots: usize,
     depth: u32,
-    marks: &[u8],
-    mark: u8,
+    seen: &[u8],
+    limit: u8,
     from: usize,
     n: usize,
     budget: usize,
 ) -> usize
-    requires { ⌜ (slots ≤ maxSlots) × (pairsAt slots ≤ length (now table)) × (1 ≤ depth) × (cellsOf (length (now memory)) ≤ maxCells) × (length (now marks) ≡ maxCells) × (from + n ≤ cellsOf (length (now memory))) ⌝ }
-    requires { ⌜ (ruleOk (cellsOf (length (now memory))) slots (cellsOf (length (now bodies))) (now table) ≡ true) × ((c : ℕ) → c < maxCells → getD (now marks) c 0 ≡ markFrom slots (now table) depth c) × (mark ≡ 0 → (j : ℕ) → j < n → getD (now marks) (from + j) 0 ≡ 0) ⌝ }
+    requires { ⌜ (slots ≤ maxSlots) × (pairsAt slots ≤ length (now table)) × (1 ≤ depth) × (cellsOf (length (now memory)) ≤ maxCells) × (n ≤ 64) × (from + n ≤ length (now seen)) × (from + n ≤ cellsOf (length (now memory))) ⌝ }
+    requires { ⌜ (ruleOk (cellsOf (length (now memory))) slots (cellsOf (length (now bodies))) (now table) ≡ true) × Tells slots (now table) depth limit (now seen) ⌝ }
     ensures made { λ r. ⌜ r ≡ length (groupPlan slots (now (table .entry)) depth (now (bodies .entry)) from n) ⌝ }
     ensures few { λ r. ⌜ r ≤ 64 * n ⌝ }
     ensures bytes { λ _. ⌜ now (memory .exit) ≡ stores (take budget (groupPlan slots (now (table .entry)) depth (now (bodies .entry)) from n)) (now (memory .entry)) ⌝ }
 {
-    if mark == 0 {
+    if !group_held(seen, from, n, limit) {
         return 0;
     }
     let mut bytes: usize = 0;
     let mut j: usize = 0;
     while j < n {
         let cell = from + j;
-        bytes += put_marked(
+        bytes += put_held(
             memory,
             bodies,
             table,
             slots,
             depth,
             cell,
-            marks[cell],
+            limit <= seen[cell],
             remaining(budget, bytes),
         );
         j += 1;
@@ -201,21 +212,19 @@ fn group_size(from: usize, cells: usize) -> usize
     if n < 64 { n } else { 64 }
 }
 
-// Puts back every marked cell, in the order of the cells, and gives how many bytes that is uncut.
+// Puts back every held cell, in the order of the cells, and gives how many bytes that is uncut.
 fn put_back(
     memory: &mut [u8],
     bodies: &[u8],
     table: &[u32],
     slots: usize,
     depth: u32,
-    marks: &[u8],
-    groups: &[u8],
+    seen: &[u8],
+    limit: u8,
     budget: usize,
 ) -> usize
-    requires { ⌜ (slots ≤ maxSlots) × (pairsAt slots ≤ length (now table)) × (1 ≤ depth) × (cellsOf (length (now memory)) ≤ maxCells) × (length (now marks) ≡ maxCells) × (length (now groups) ≡ maxGroups) ⌝ }
-    requires { ⌜ ruleOk (cellsOf (length (now memory))) slots (cellsOf (length (now bodies))) (now table) ≡ true ⌝ }
-    requires { ⌜ ((c : ℕ) → c < maxCells → getD (now marks) c 0 ≡ markFrom slots (now table) depth c) ⌝ }
-    requires { ⌜ Grouped (now marks) (now groups) ⌝ }
+    requires { ⌜ (slots ≤ maxSlots) × (pairsAt slots ≤ length (now table)) × (1 ≤ depth) × (cellsOf (length (now memory)) ≤ maxCells) × (cellsOf (length (now memory)) ≤ length (now seen)) ⌝ }
+    requires { ⌜ (ruleOk (cellsOf (length (now memory))) slots (cellsOf (length (now bodies))) (now table) ≡ true) × Tells slots (now table) depth limit (now seen) ⌝ }
     ensures made { λ r. ⌜ r ≡ length (gather (cellsOf (length (now (memory .entry)))) (backPlan slots (now (table .entry)) depth (now (bodies .entry)))) ⌝ }
     ensures few { λ r. ⌜ r ≤ 64 * maxCells ⌝ }
     ensures bytes { λ _. ⌜ now (memory .exit) ≡ stores (take budget (gather (cellsOf (length (now (memory .entry)))) (backPlan slots (now (table .entry)) depth (now (bodies .entry))))) (now (memory .entry)) ⌝ }
@@ -231,8 +240,8 @@ fn put_back(
             table,
             slots,
             depth,
-            marks,
-            groups[cell / 64],
+            seen,
+            limit,
             cell,
             n,
             remaining(budget, bytes),
@@ -242,25 +251,24 @@ fn put_back(
     bytes
 }
 
-// Restore's part on memory, and its steps uncut.
+// Restore's part on memory, and its steps uncut, by the marks of all entries.
 fn restore_memory(
     memory: &mut [u8],
     bodies: &[u8],
     table: &[u32],
     depth: u32,
+    seen: &[u8],
     budget: usize,
 ) -> usize
-    requires { ⌜ (slotsOf (length (now table)) ≤ maxSlots) × (pairsAt (slotsOf (length (now table))) ≤ length (now table)) × (1 ≤ depth) × (cellsOf (length (now memory)) ≤ maxCells) ⌝ }
-    requires { ⌜ ruleOk (cellsOf (length (now memory))) (slotsOf (length (now table))) (cellsOf (length (now bodies))) (now table) ≡ true ⌝ }
+    requires { ⌜ (slotsOf (length (now table)) ≤ maxSlots) × (pairsAt (slotsOf (length (now table))) ≤ length (now table)) × (1 ≤ depth) × (depth ≤ maxLive) × (cellsOf (length (now memory)) ≤ maxCells) × (cellsOf (length (now memory)) ≤ length (now seen)) ⌝ }
+    requires { ⌜ (ruleOk (cellsOf (length (now memory))) (slotsOf (length (now table))) (cellsOf (length (now bodies))) (now table) ≡ true) × Marked (slotsOf (length (now table))) (now table) (slotsOf (length (now table))) (now seen) ⌝ }
     ensures made { λ r. ⌜ r ≡ length (restoreBytes (cellsOf (length (now (memory .entry)))) depth (now (bodies .entry)) (now (table .entry))) ⌝ }
     ensures few { λ r. ⌜ r ≤ 64 * maxCells ⌝ }
     ensures bytes { λ _. ⌜ now (memory .exit) ≡ stores (take budget (restoreBytes (cellsOf (length (now (memory .entry)))) depth (now (bodies .entry)) (now (table .entry)))) (now (memory .entry)) ⌝ }
 {
     let slots = slots_of(table.len());
-    let mut marks = no_marks();
-    let mut groups = no_groups();
-    mark_from(table, slots, depth, &mut marks, &mut groups);
-    put_back(memory, bodies, table, slots, depth, &marks, &groups, budget)
+    let limit = least_mark(depth);
+    put_back(memory, bodies, table, slots, depth, seen, limit, budget)
 }
 
 // ---- the table
@@ -356,6 +364,69 @@ fn restore_words(table: &mut [u32], depth: u32, budget: usize) -> usize
     finish_journal(table, pairs_at(slots), p, budget)
 }
 
+// ---- the call
+
+// Restore with marks that are lent for it, none made yet: the questions leave them made, and the cells are put back by them.
+fn restore_marked(
+    memory: &mut [u8],
+    bodies: &[u8],
+    table: &mut [u32],
+    handle: u32,
+    seen: &mut [u8],
+    used: &mut [u8],
+    budget: usize,
+) -> Answer
+    requires room { ⌜ (min (cellsOf (length (now memory))) maxCells ≤ length (now seen)) × (length (now used) ≡ maxBodies) ⌝ }
+    requires blank { ⌜ Blank (now seen) × Blank (now used) ⌝ }
+    ensures { λ r. ⌜ leaves (report r) (buffers (now (memory .exit)) (now (bodies .entry)) (now (table .exit)))
+        ≡ outcome (restoreCall handle (buffers (now (memory .entry)) (now (bodies .entry)) (now (table .entry)))) budget
+        (buffers (now (memory .entry)) (now (bodies .entry)) (now (table .entry))) ⌝ }
+{
+    let no = restore_check(memory.len(), bodies.len(), table, handle, seen, used);
+    if no != 0 {
+        return Answer::Refused(no);
+    }
+    let depth = find_domain(table, handle);
+    let bytes = restore_memory(memory, bodies, table, depth, seen, budget);
+    let words = restore_words(table, depth, remaining(budget, bytes));
+    answer_of(bytes + words, 0, budget)
+}
+
+// Restore in a small memory, where clearing marks for the largest would take longer than all else.
+fn restore_few(
+    memory: &mut [u8],
+    bodies: &[u8],
+    table: &mut [u32],
+    handle: u32,
+    budget: usize,
+) -> Answer
+    requires { ⌜ cellsOf (length (now memory)) ≤ 1024 ⌝ }
+    ensures { λ r. ⌜ leaves (report r) (buffers (now (memory .exit)) (now (bodies .entry)) (now (table .exit)))
+        ≡ outcome (restoreCall handle (buffers (now (memory .entry)) (now (bodies .entry)) (now (table .entry)))) budget
+        (buffers (now (memory .entry)) (now (bodies .entry)) (now (table .entry))) ⌝ }
+{
+    let mut seen = few_marks();
+    let mut used = no_bodies();
+    restore_marked(memory, bodies, table, handle, &mut seen, &mut used, budget)
+}
+
+// Restore in any memory.
+fn restore_many(
+    memory: &mut [u8],
+    bodies: &[u8],
+    table: &mut [u32],
+    handle: u32,
+    budget: usize,
+) -> Answer
+    ensures { λ r. ⌜ leaves (report r) (buffers (now (memory .exit)) (now (bodies .entry)) (now (table .exit)))
+        ≡ outcome (restoreCall handle (buffers (now (memory .entry)) (now (bodies .entry)) (now (table .entry)))) budget
+        (buffers (now (memory .entry)) (now (bodies .entry)) (now (table .entry))) ⌝ }
+{
+    let mut seen = many_marks();
+    let mut used = no_bodies();
+    restore_marked(memory, bodies, table, handle, &mut seen, &mut used, budget)
+}
+
 // Puts memory back as the named domain and those inside it hold it, and ends those inside.
 pub fn restore(
     memory: &mut [u8],
@@ -370,12 +441,8 @@ pub fn restore(
     ensures means { λ r. ⌜ seen (report r) (buffers (now (memory .exit)) (now (bodies .entry)) (now (table .exit)))
         ≡ restoreMeans handle budget (buffers (now (memory .entry)) (now (bodies .entry)) (now (table .entry))) ⌝ }
 {
-    let no = restore_check(memory.len(), bodies.len(), table, handle);
-    if no != 0 {
-        return Answer::Refused(no);
+    if cells_of(memory.len()) <= FEW_CELLS {
+        return restore_few(memory, bodies, table, handle, budget);
     }
-    let depth = find_domain(table, handle);
-    let bytes = restore_memory(memory, bodies, table, depth, budget);
-    let words = restore_words(table, depth, remaining(budget, bytes));
-    answer_of(bytes + words, 0, budget)
+    restore_many(memory, bodies, table, handle, budget)
 }

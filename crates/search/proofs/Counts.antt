@@ -1,17 +1,17 @@
 -- In a right table as many entries of a depth pass a test on their first word as cells that this depth holds with such an entry.
 -- Assumes nothing.
-use Prim.Native.Nat.{ℕ, zero, suc, _+_, _≤_, _<_}
-use mathlib.Core.Bool.{Bool, true, false, _&&_}
+use Prim.Native.Nat.{ℕ, _≤_, _<_}
+use mathlib.Core.Bool.{Bool, true, _&&_}
 use mathlib.Core.List.{List}
-use mathlib.Core.Path.{_≡_, refl, sym, ap, subst, _∙_}
+use mathlib.Core.Path.{_≡_, sym, ap, _∙_}
 use native.Mathlib.Omega.{arith}
-use borrow.Author.Tests.{eq-eqb, eqb-true, eqb-false}
+use borrow.Author.Tests.{eq-eqb, eqb-true}
 use lib.Dec.{eqb}
 use Rattle.words.specs.Scan.{count}
-use Rattle.words.proofs.Scan.{by-bool, and-split, and-join, is-false, true≢, count-ext}
-use Rattle.words.proofs.Image.{meets, meets-make, meets-some, meets-none, Distinctly, count-image}
-use Rattle.table.specs.Entry.{word1, depthOf, cellOf, names, findIn, holdsIn}
-use Rattle.table.proofs.Entry.{names-both, names-make, find-hit, find-some, holds-true, holds-found}
+use Rattle.words.proofs.Scan.{by-bool, and-split, and-join, true≢, count-ext}
+use Rattle.words.proofs.Image.{meets, meets-make, meets-none, Distinctly, count-image}
+use Rattle.table.specs.Entry.{word1, depthOf, cellOf, findIn, holdsIn}
+use Rattle.table.proofs.Entry.{names-make, find-hit, find-some, holds-true, holds-found}
 use Rattle.table.proofs.Rule.{Rule}
 use Rattle.table.proofs.Change.{only-one}
 

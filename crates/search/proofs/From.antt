@@ -6,8 +6,9 @@ use mathlib.Core.Path.{_≡_, sym, ap, subst}
 use native.Mathlib.Omega.{arith}
 use borrow.Author.Tests.{eqb-true, eqb-false, ltb-true, ltb-false}
 use lib.Dec.{ltb, eqb}
+use mir.Val.{boolByte}
 use Rattle.words.specs.Scan.{first, count}
-use Rattle.words.proofs.Scan.{first-at, first-le, first-hit, first-miss, first-ext, by-bool}
+use Rattle.words.proofs.Scan.{first-at, first-le, first-hit, first-miss, by-bool, by-le}
 use Rattle.words.proofs.Scan.{count-more}
 
 abbrev pub firstFrom : ℕ → ℕ → (ℕ → Bool) → ℕ
@@ -28,6 +29,9 @@ failing-more f from i h here k l s =
     by-bool (eqb k i)
     (λ p. rw (eqb-true k i p) here)
     (λ p. h k l (omega (arith, eqb-false k i p)))
+
+pub failing-join : (f : ℕ → Bool) (from i n : ℕ) → Failing f from i → Failing f i n → Failing f from n
+failing-join f from i n h s k l b = by-le i k (λ a. s k a b) (λ a. h k l a)
 
 module _ (n from : ℕ) (f : ℕ → Bool) where
   pub from-at : (i : ℕ) → from ≤ i → i ≤ n → Failing f from i → (i < n → f i ≡ true) → firstFrom n from f ≡ i
@@ -51,9 +55,6 @@ module _ (n from : ℕ) (f : ℕ → Bool) where
   pub from-le : from ≤ n → firstFrom n from f ≤ n
   from-le l = omega (arith, first-le (n - from) (λ k. f (from + k)))
 
-pub from-ext : (n from : ℕ) (f g : ℕ → Bool) → ((k : ℕ) → from ≤ k → k < n → f k ≡ g k) → firstFrom n from f ≡ firstFrom n from g
-from-ext n from f g h = ap (λ (x : ℕ). from + x) (first-ext (n - from) _ _ (λ k l. h (from + k) (omega arith) (omega arith)))
-
 -- ---- how many lie before and behind
 
 -- a loop that counts: the next number passes, or it does not
@@ -63,6 +64,15 @@ module _ (f : ℕ → Bool) (i n : ℕ) (so-far : n ≡ count i f) where
 
   pub count-no : f i ≡ false → n ≡ count (i + 1) f
   count-no h = rw (count-more, h, so-far)
+
+  -- the same in a loop that adds the answer as a number
+  pub count-byte : (b : Bool) → b ≡ f i → n + boolByte b ≡ count (i + 1) f
+  count-byte true q = count-yes (sym q)
+  count-byte false q = let h = count-no (sym q) in omega arith
+
+pub byte-small : (b : Bool) → boolByte b ≤ 1
+byte-small true = omega arith
+byte-small false = omega arith
 
 pub count-stop : (n from : ℕ) (f : ℕ → Bool) → from ≤ n → Failing f from n → count n f ≡ count from f
 unfolding count

@@ -36,6 +36,9 @@ module _ (e : ℕ) (t : List ℕ) (from c : ℕ) where
       first-at _ _ _ (omega arith) (λ j k. h j (omega arith)) (λ k. absurd (not-lt _ _ k (omega arith))) in
       rw (le-ltb (first (suc (live t) - from) (λ k. holdsIn e t (from + k) c)) (suc (live t) - from) (omega arith))
 
+  pub holder-none : ((d : ℕ) → findIn e t d c ≡ e) → holderIn e t from c ≡ Nobody
+  holder-none h = holder-nobody (from + suc (live t)) (omega arith) (omega arith) (λ k l. holds-false e t (from + k) c (omega (arith, h (from + k))))
+
   pub holder-at : (d i : ℕ) → from ≤ d → d ≤ live t → Lacking e t from c (d - from) → findIn e t d c ≡ i → i < e → holderIn e t from c ≡ At d i
   unfolding holderIn stepsIn
   holder-at d i l s h q r =

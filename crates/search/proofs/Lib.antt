@@ -1,8 +1,10 @@
 -- Laws that belong to no one function.
 pub mod From
+pub mod Keys
 pub mod Holders
 pub mod Value
 pub mod Change
 pub mod Free
 pub mod Domain
 pub mod Counts
+pub mod Writable

@@ -28,13 +28,6 @@ usedSlots e t = count e (λ i. not (slotFree e t i))
 unfoldable pub copies : ℕ → List ℕ → ℕ
 copies e t = count e (isCopy e t)
 
--- the lowest free slot from `from` on, or e; the lowest free one of b bodies from `from` on, or b
-unfoldable pub freeSlotFrom : ℕ → List ℕ → ℕ → ℕ
-freeSlotFrom e t from = from + first (e - from) (λ k. slotFree e t (from + k))
-
-unfoldable pub freeBodyFrom : ℕ → ℕ → List ℕ → ℕ → ℕ
-freeBodyFrom e b t from = from + first (b - from) (λ k. bodyFree e t (from + k))
-
 -- of b bodies, the lowest from `from` on that has not the mark 1 of a body in use, or b
 unfoldable pub unmarkedFrom : ℕ → List ℕ → ℕ → ℕ
 unmarkedFrom b used from = from + first (b - from) (λ k. not (eqb (getD used (from + k) 0) 1))

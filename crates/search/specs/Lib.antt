@@ -2,3 +2,4 @@
 pub mod Search
 pub mod Free
 pub mod Domain
+pub mod Writable

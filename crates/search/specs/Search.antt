@@ -1,13 +1,36 @@
 -- What a table means: the first holder of a cell from a domain inwards, and the value behind a via parent chain.
-use Prim.Native.Nat.{ℕ, zero, suc, _+_, _-_}
-use mathlib.Core.Bool.{Bool, cond}
+use Prim.Native.Nat.{ℕ, zero, suc, _+_, _-_, _%_, _≤_, _<_}
+use mathlib.Core.Bool.{Bool, false, cond}
 use mathlib.Core.List.{List}
+use mathlib.Core.Path.{_≡_}
 use lib.Dec.{ltb, eqb}
 use Rattle.words.specs.Scan.{first}
+use Rattle.words.specs.Layout.{maxCells}
 use Rattle.words.specs.Cells.{cellBytes}
-use Rattle.table.specs.Entry.{live, word1, word2, viaOf, findIn, holdsIn}
+use Rattle.table.specs.Entry.{live, word1, word2, depthOf, viaOf, cellOf, names, findIn, holdsIn}
 use Rattle.search.specs.declared.Holder.{Holder}
 use Rattle.search.specs.declared.Holder.the-variants.{At, Nobody}
+
+-- ---- the search for an entry by its key
+
+-- a word whose depth and cell are all that it has
+abbrev pub Bare : ℕ → Type 0
+Bare key = key % 268_435_456 < maxCells
+
+pub record IsKey (d c key : ℕ) : Type 0 where
+  pub bare : Bare key
+  pub depth : depthOf key ≡ d
+  pub cell : cellOf key ≡ c
+
+-- does an entry's first word name the depth and the cell of a key?
+abbrev pub namedBy : ℕ → ℕ → Bool
+namedBy key w = names (depthOf key) (cellOf key) w
+
+-- it does in none of the entries from i on and before n
+abbrev pub Unnamed : ℕ → List ℕ → ℕ → ℕ → ℕ → Type 0
+Unnamed e t key i n = (k : ℕ) → i ≤ k → k < n → namedBy key (word1 e t k) ≡ false
+
+-- ---- the first holder, and the value
 
 -- "the search runs from the named domain inwards and ends at the first holder": the depths before that holder, or all of them
 unfoldable pub stepsIn : ℕ → List ℕ → ℕ → ℕ → ℕ

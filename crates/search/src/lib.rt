@@ -1,21 +1,21 @@
 // What a table means: which entry is found for a depth and a cell, the first holder from a domain inwards, the copy behind a via parent
 // chain; and which entry slots and bodies are free.
 use table::first_word;
-use table::named;
 use words::layout::LIVE_AT;
 use words::layout::handle_at;
 use words::wide;
 ghost use mathlib.Core.Path.{_≡_};
-ghost use mathlib.Core.Bool.{cond};
-ghost use Prim.Native.Nat.{ℕ, _+_, _-_, _*_, _<_, _≤_};
+ghost use mathlib.Core.Bool.{false, cond};
+ghost use Prim.Native.Nat.{ℕ, _+_, _-_, _*_, _/_, _^_, _<_, _≤_};
 ghost use lib.ListN.{length, getD, set};
 ghost use lib.Dec.{eqb};
 ghost use Rattle.words.specs.Layout.{pairsAt, handleAt, maxSlots, maxLive, maxBodies, maxCells};
 ghost use Rattle.table.specs.Entry.{live, depthOf, cellOf, findIn};
-ghost use Rattle.table.specs.Marks.{zeros};
-ghost use Rattle.search.specs.Search.{holderIn, sourceIn};
-ghost use Rattle.search.specs.Free.{usedSlots, copies, freeSlotFrom, unmarkedFrom};
-ghost use Rattle.search.specs.Domain.{depthNamed, markOf, markIn};
+ghost use Rattle.table.specs.Marks.{markAt, Marked, CellsOnce, cellIn};
+ghost use Rattle.search.specs.Search.{Bare, IsKey, namedBy, Unnamed, holderIn, sourceIn};
+ghost use Rattle.search.specs.Free.{usedSlots, copies, unmarkedFrom};
+ghost use Rattle.search.specs.Domain.{depthNamed};
+ghost use Rattle.search.specs.Writable.{takenBy, keepCell, TellWritable};
 
 // The first holder of a cell in a search inwards: its depth and its entry.
 pub enum Holder {
@@ -23,14 +23,68 @@ pub enum Holder {
     Nobody,
 }
 
-// The entry of this depth and cell, or `slots` where there is none.
+// ---- the search for an entry
+//
+// An entry is looked for by a key: the word with its depth and its cell and no other bit.
+
+// The key of a depth and a cell.
+fn key_of(depth: u32, cell: u32) -> u32
+    requires { ⌜ (depth < 16) × (cell < maxCells) ⌝ }
+    ensures { λ r. ⌜ IsKey depth cell r ⌝ }
+{
+    268435456 * depth + cell
+}
+
+// Does an entry's first word name the depth and the cell of a key? It does where the two differ in label, kind and unused bits alone, which
+// the difference shows in one test.
+fn is_named(word: u32, key: u32) -> bool
+    requires { ⌜ Bare key ⌝ }
+    ensures { λ r. ⌜ r ≡ namedBy key word ⌝ }
+{
+    let apart = std::num::wrapping_sub_u32(word, key);
+    (apart / 268435456 == 0) & (apart % 65536 == 0)
+}
+
+// Is one of the four entries from `i` on named? All four are asked, with no branch.
+fn four_named(table: &[u32], slots: usize, key: u32, i: usize) -> bool
+    requires { ⌜ (slots ≤ maxSlots) × (pairsAt slots ≤ length (now table)) × Bare key × (i + 4 ≤ slots) ⌝ }
+    ensures { λ r. ⌜ (r ≡ false → Unnamed slots (now (table .entry)) key i (i + 4)) ⌝ }
+{
+    let a = is_named(first_word(table, slots, i), key);
+    let b = is_named(first_word(table, slots, i + 1), key);
+    let c = is_named(first_word(table, slots, i + 2), key);
+    let d = is_named(first_word(table, slots, i + 3), key);
+    (a | b) | (c | d)
+}
+
+// How many entries from the front can be passed over, eight at a time, since none of them is named. A search of a long table spends nearly all
+// its time here.
+fn pass_over(table: &[u32], slots: usize, key: u32) -> usize
+    requires { ⌜ (slots ≤ maxSlots) × (pairsAt slots ≤ length (now table)) × Bare key ⌝ }
+    ensures { λ r. ⌜ (r ≤ slots) × Unnamed slots (now (table .entry)) key 0 r ⌝ }
+{
+    let mut i: usize = 0;
+    while i + 8 <= slots {
+        if four_named(table, slots, key, i) | four_named(table, slots, key, i + 4) {
+            return i;
+        }
+        i += 8;
+    }
+    i
+}
+
+// The entry of this depth and cell, or `slots` where there is none. A depth or a cell that no word can hold has none.
 pub fn find_entry(table: &[u32], slots: usize, depth: u32, cell: u32) -> usize
     requires { ⌜ (slots ≤ maxSlots) × (pairsAt slots ≤ length (now table)) ⌝ }
     ensures { λ r. ⌜ r ≡ findIn slots (now (table .entry)) depth cell ⌝ }
 {
-    let mut i: usize = 0;
+    if (16 <= depth) | (65536 <= cell) {
+        return slots;
+    }
+    let key = key_of(depth, cell);
+    let mut i = pass_over(table, slots, key);
     while i < slots {
-        if named(first_word(table, slots, i), depth, cell) {
+        if is_named(first_word(table, slots, i), key) {
             return i;
         }
         i += 1;
@@ -43,15 +97,19 @@ pub fn find_holder(table: &[u32], slots: usize, from: u32, cell: u32) -> Holder
     requires { ⌜ (slots ≤ maxSlots) × (pairsAt slots ≤ length (now table)) × (live (now table) ≤ maxLive) ⌝ }
     ensures { λ r. ⌜ r ≡ holderIn slots (now (table .entry)) from cell ⌝ }
 {
+    if 65536 <= cell {
+        return Holder::Nobody;
+    }
     let live = table[LIVE_AT];
     let mut depth = from;
     'search: loop {
         if live < depth {
             break 'search Holder::Nobody;
         }
-        let mut i: usize = 0;
+        let key = key_of(depth, cell);
+        let mut i = pass_over(table, slots, key);
         while i < slots {
-            if named(first_word(table, slots, i), depth, cell) {
+            if is_named(first_word(table, slots, i), key) {
                 break 'search Holder::At(depth, i);
             }
             i += 1;
@@ -81,52 +139,32 @@ pub fn find_source(table: &[u32], slots: usize, depth: u32, cell: u32) -> usize
 
 // ---- free entry slots and free bodies
 
-// How many entries are in use.
-pub fn used_slots(table: &[u32], slots: usize) -> usize
-    requires { ⌜ (slots ≤ maxSlots) × (pairsAt slots ≤ length (now table)) ⌝ }
-    ensures { λ r. ⌜ r ≡ usedSlots slots (now (table .entry)) ⌝ }
-{
-    let mut n: usize = 0;
-    let mut i: usize = 0;
-    while i < slots {
-        if first_word(table, slots, i) != 0 {
-            n += 1;
-        }
-        i += 1;
-    }
-    n
+// How many entries are in use, and how many of these have a body.
+pub struct InUse {
+    pub entries: usize,
+    pub copies: usize,
 }
 
-// How many entries have a body: those in use that are not via parent.
-pub fn copies_used(table: &[u32], slots: usize) -> usize
+// Both in one pass, which takes no branch on what an entry holds. It counts in numbers as wide as a word, so that the compiler can count
+// several entries at once.
+pub fn count_used(table: &[u32], slots: usize) -> InUse
     requires { ⌜ (slots ≤ maxSlots) × (pairsAt slots ≤ length (now table)) ⌝ }
-    ensures { λ r. ⌜ r ≡ copies slots (now (table .entry)) ⌝ }
+    ensures { λ r. ⌜ (r .entries ≡ usedSlots slots (now (table .entry))) × (r .copies ≡ copies slots (now (table .entry))) ⌝ }
 {
-    let mut n: usize = 0;
+    let mut entries: u32 = 0;
+    let mut copies: u32 = 0;
     let mut i: usize = 0;
     while i < slots {
-        let w = first_word(table, slots, i);
-        if (w != 0) & (w / 67108864 % 2 == 0) {
-            n += 1;
-        }
+        let word = first_word(table, slots, i);
+        let used = word != 0;
+        entries += used as u32;
+        copies += (used & (word / 67108864 % 2 == 0)) as u32;
         i += 1;
     }
-    n
-}
-
-// The lowest free entry slot from `from` on, or `slots` where none is left.
-pub fn next_free_slot(table: &[u32], slots: usize, from: usize) -> usize
-    requires { ⌜ (slots ≤ maxSlots) × (pairsAt slots ≤ length (now table)) × (from ≤ slots) ⌝ }
-    ensures { λ r. ⌜ r ≡ freeSlotFrom slots (now (table .entry)) from ⌝ }
-{
-    let mut i = from;
-    while i < slots {
-        if first_word(table, slots, i) == 0 {
-            return i;
-        }
-        i += 1;
+    InUse {
+        entries: wide(entries),
+        copies: wide(copies),
     }
-    i
 }
 
 // The lowest body from `from` on that has no mark, or `bodies` where none is left. `used` has the mark 1 at each body in use, so that
@@ -145,7 +183,7 @@ pub fn next_free_body(used: &[u8], bodies: usize, from: usize) -> usize
     k
 }
 
-// ---- a domain by its handle, and what it holds
+// ---- a domain by its handle
 
 // The depth of the live domain with this handle, or of the innermost for 0; 0 where there is none.
 pub fn find_domain(table: &[u32], handle: u32) -> u32
@@ -166,34 +204,41 @@ pub fn find_domain(table: &[u32], handle: u32) -> u32
     0
 }
 
-// Marks the cell of an entry of this depth: 1, and 1 more for read-write, and 2 more for via parent.
-fn mark_entry(marks: &mut [u8], word: u32, depth: u32)
-    requires { ⌜ length (now marks) ≡ maxCells ⌝ }
-    ensures { λ _. ⌜ now (marks .exit) ≡ cond (eqb (depthOf word) depth) (set (now (marks .entry)) (cellOf word) (markOf word)) (now (marks .entry)) ⌝ }
+// ---- which cells a domain holds read-write, from the marks of all entries
+
+// What an entry of this depth takes out of its cell's mark: the depth's bit if the entry is read-only, else nothing. The product takes no
+// branch, where mixed labels would be guessed wrong.
+fn taken_bit(word: u32, depth: u32) -> u8
+    requires { ⌜ (depth ≤ maxLive) × (depthOf word ≡ depth) ⌝ }
+    ensures { λ r. ⌜ r ≡ 2 ^ takenBy depth word / 2 ⌝ }
+{
+    ((1u32 << depth) / 2 * (1 - word / 134217728 % 2)) as u8
+}
+
+// Takes this depth out of the mark of a read-only entry's cell. Entries of another depth, and free ones, are left out: a free entry's word
+// names cell 0, and storing its mark once for each would hold up the next.
+fn keep_entry(seen: &mut [u8], word: u32, depth: u32)
+    requires { ⌜ (depth ≤ maxLive) × (cellOf word < length (now seen)) × (2 ^ takenBy depth word / 2 ≤ markAt (now seen) word) ⌝ }
+    ensures { λ _. ⌜ now (seen .exit) ≡ cond (eqb (depthOf word) depth) (keepCell depth word (now (seen .entry))) (now (seen .entry)) ⌝ }
 {
     if word / 268435456 != depth {
         return;
     }
-    marks[wide(word % 65536)] = (1 + word / 134217728 % 2 + 2 * (word / 67108864 % 2)) as u8;
+    let cell = wide(word % 65536);
+    let mark = seen[cell];
+    seen[cell] = mark - taken_bit(word, depth);
 }
 
-// Marks each cell that the domain at this depth holds, in one pass over the entries. The pass goes from the last entry to the first,
-// so that the mark left at a cell is that of the entry which `find_entry` finds.
-pub fn mark_held(table: &[u32], slots: usize, depth: u32, marks: &mut [u8])
-    requires { ⌜ (slots ≤ maxSlots) × (pairsAt slots ≤ length (now table)) × (length (now marks) ≡ maxCells) ⌝ }
-    requires { ⌜ ((c : ℕ) → getD (now marks) c 0 ≡ 0) ⌝ }
-    ensures { λ _. ⌜ ((c : ℕ) → c < maxCells → getD (now (marks .exit)) c 0 ≡ markIn slots (now (table .entry)) depth c) ⌝ }
+// Takes this depth out of the mark of each cell that the domain at this depth holds read-only, so that the marks tell of this depth which
+// cells it holds read-write.
+pub fn keep_writable(table: &[u32], slots: usize, depth: u32, seen: &mut [u8])
+    requires { ⌜ (slots ≤ maxSlots) × (pairsAt slots ≤ length (now table)) × (1 ≤ depth) × (depth ≤ maxLive) ⌝ }
+    requires { ⌜ ((i : ℕ) → i < slots → cellIn slots (now table) i < length (now seen)) × Marked slots (now table) slots (now seen) × CellsOnce slots (now table) slots ⌝ }
+    ensures { λ _. ⌜ TellWritable slots (now (table .entry)) depth (now (seen .entry)) (now (seen .exit)) ⌝ }
 {
-    let mut i = slots;
-    while 0 < i {
-        i -= 1;
-        mark_entry(marks, first_word(table, slots, i), depth);
+    let mut i: usize = 0;
+    while i < slots {
+        keep_entry(seen, first_word(table, slots, i), depth);
+        i += 1;
     }
-}
-
-// No cell is marked. A function of its own, so that the checker does not write the list out.
-pub fn no_marks() -> [u8; 65536]
-    ensures { λ r. ⌜ r ≡ zeros 65536 ⌝ }
-{
-    [0u8; 65536]
 }

@@ -18,7 +18,7 @@ use Rattle.table.specs.Rule.{pairsOk, ruleOk, tableOk}
 use Rattle.table.proofs.Rule.{Rule, ok-facts, ok-make}
 use Rattle.table.proofs.Checks.{Lengths, lengths-facts}
 use Rattle.model.specs.Answer.{ask, orElse}
-use Rattle.store.specs.Checks.{shapeCheck, tableCheck, makeCheck, openCheck, storeCheck, createCheck}
+use Rattle.store.specs.Checks.{shapeCheck, tableCheck, makeCheck, openCheck, idleCheck, storeCheck, createCheck}
 
 -- ---- one question after another
 
@@ -47,6 +47,12 @@ pub orElse-stop : (m n : ℕ) → (m ≡ 0 → ⊥) → orElse m n ≡ m
 orElse-stop zero n e = absurd (e refl)
 orElse-stop (suc m) n e = refl
 
+orElse-ask : (m : ℕ) (b : Bool) (n rest : ℕ) → 0 < n → orElse m (ask b n rest) ≡ orElse (orElse m (ask b n 0)) rest
+orElse-ask zero true n rest h = refl
+orElse-ask zero false zero rest h = absurd (omega arith)
+orElse-ask zero false (suc n) rest h = refl
+orElse-ask (suc m) b n rest h = refl
+
 pub orElse-both : (m n : ℕ) → orElse m n ≡ 0 → (m ≡ 0) × (n ≡ 0)
 orElse-both zero n e = (refl, e)
 orElse-both (suc m) n e = absurd (omega arith)
@@ -70,6 +76,17 @@ module _ (memory bodies : ℕ) (t : List ℕ) where
   pub shape-make : lengthsOk memory bodies (length t) ≡ true → headerOk memory bodies t ≡ true → shapeCheck memory bodies t ≡ 0
   unfolding shapeCheck
   shape-make p q = rw (p, q)
+
+  -- questions 1 to 3 and then question 4
+  pub store-parts : storeCheck memory bodies t ≡ orElse (idleCheck memory bodies t) (tableCheck memory bodies t)
+  unfolding storeCheck idleCheck
+  store-parts = orElse-ask (shapeCheck memory bodies t) (eqb (pending t) 0) 3 (tableCheck memory bodies t) (omega arith)
+
+  pub idle-facts : idleCheck memory bodies t ≡ 0 → (shapeCheck memory bodies t ≡ 0) × (pending t ≡ 0)
+  unfolding idleCheck
+  idle-facts e =
+      let both = orElse-both (shapeCheck memory bodies t) (ask (eqb (pending t) 0) 3 0) e in
+      (both .0, eqb-true (pending t) 0 (ask-yes (eqb (pending t) 0) 3 0 (omega arith) (both .1)))
 
   pub table-yes : tableCheck memory bodies t ≡ 0 → tableOk (cellsOf memory) (slotsOf (length t)) (cellsOf bodies) t ≡ true
   unfolding tableCheck

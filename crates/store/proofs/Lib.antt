@@ -15,3 +15,4 @@ pub mod Bounds
 pub mod Domains
 pub mod Raw
 pub mod Outermost
+pub mod Checked

@@ -26,6 +26,10 @@ makeCheck memory bodies t = ask (lengthsOk memory bodies (length t)) 1 0
 unfoldable pub openCheck : ℕ → ℕ → List ℕ → ℕ
 openCheck memory bodies t = orElse (shapeCheck memory bodies t) (tableCheck memory bodies t)
 
+-- questions 1 to 3
+unfoldable pub idleCheck : ℕ → ℕ → List ℕ → ℕ
+idleCheck memory bodies t = orElse (shapeCheck memory bodies t) (ask (eqb (pending t) 0) 3 0)
+
 -- questions 1 to 4, which are put to every other call; they are all that is put to list
 unfoldable pub storeCheck : ℕ → ℕ → List ℕ → ℕ
 storeCheck memory bodies t =

@@ -3,8 +3,12 @@
 // Every call may be given any buffers and any numbers. It puts document 01's questions first, in one function that only reads, and
 // refuses with the number of the first no. A changing call takes a budget of steps; it makes as many of its stores as the budget
 // allows, and whether it was done or stopped is decided once, at the end.
+use table::FEW_CELLS;
+use table::few_marks;
 use table::header_ok;
 use table::lengths_ok;
+use table::many_marks;
+use table::no_bodies;
 use table::table_ok;
 use words::apply_pending;
 use words::finish_journal;
@@ -17,6 +21,7 @@ use words::layout::MAX_LIVE;
 use words::layout::NEXT_AT;
 use words::layout::PENDING_AT;
 use words::layout::SLOTS_AT;
+use words::layout::cells_of;
 use words::layout::handle_at;
 use words::layout::pairs_at;
 use words::layout::slots_of;
@@ -25,15 +30,16 @@ use words::remaining;
 use words::wide;
 use words::write_pair;
 ghost use mathlib.Core.Path.{_≡_};
-ghost use Prim.Native.Nat.{ℕ, _+_, _-_, _*_, _≤_, _<_};
+ghost use Prim.Native.Nat.{ℕ, _+_, _-_, _*_, _≤_, _<_, min};
 ghost use lib.ListN.{length, take, getD};
-ghost use Rattle.words.specs.Layout.{pairsAt, slotsOf, tableWords, maxSlots, maxLive, maxCells, maxBodies, handleAt};
+ghost use Rattle.words.specs.Layout.{pairsAt, cellsOf, slotsOf, tableWords, maxSlots, maxLive, maxCells, maxBodies, handleAt};
 ghost use Rattle.words.specs.Stores.{stores, tab};
 ghost use Rattle.table.specs.Entry.{handle};
-ghost use Rattle.words.specs.Journal.{pairPlans, journal};
+ghost use Rattle.table.specs.Marks.{Blank, AllMarked};
+ghost use Rattle.words.specs.Journal.{pairPlans, journal, pending};
 ghost use Rattle.model.specs.Answer.{ended};
 ghost use Rattle.store.specs.Outcome.{buffers, report, leaves, outcome};
-ghost use Rattle.store.specs.Checks.{shapeCheck, tableCheck, openCheck, storeCheck, createCheck};
+ghost use Rattle.store.specs.Checks.{shapeCheck, tableCheck, openCheck, idleCheck, storeCheck, createCheck};
 ghost use Rattle.store.specs.Calls.{freshWord, makePlan, makeCall, openCall, domainWords, createWords, createCall};
 ghost use Rattle.store.specs.Means.{seen, makeMeans, openMeans, createMeans, listing, listMeans};
 
@@ -67,16 +73,53 @@ fn shape_check(memory: usize, bodies: usize, table: &[u32]) -> u32
     0
 }
 
-// Question 4, of a table whose length is allowed.
-fn table_check(memory: usize, bodies: usize, table: &[u32]) -> u32
+// Question 4, of a table whose length is allowed. The marks that it makes in what it is lent stay there for the caller.
+fn table_check(memory: usize, bodies: usize, table: &[u32], seen: &mut [u8], used: &mut [u8]) -> u32
+    requires { ⌜ (shapeCheck memory bodies (now table) ≡ 0) × (min (cellsOf memory) maxCells ≤ length (now seen)) × (length (now used) ≡ maxBodies) ⌝ }
+    requires { ⌜ Blank (now seen) × Blank (now used) ⌝ }
+    ensures { λ r. ⌜ r ≡ tableCheck memory bodies (now (table .entry)) ⌝ }
+    ensures marks { λ r. ⌜ (r ≡ 0 → pending (now (table .entry)) ≡ 0 → AllMarked (slotsOf (length (now (table .entry)))) (now (table .entry)) (now (seen .exit)) (now (used .exit))) ⌝ }
+{
+    let right = table_ok(
+        table,
+        cells_of(memory),
+        slots_of(table.len()),
+        cells_of(bodies),
+        seen,
+        used,
+    );
+    if right { 0 } else { 4 }
+}
+
+// The same with marks of its own, for a small memory.
+fn table_few(memory: usize, bodies: usize, table: &[u32]) -> u32
+    requires { ⌜ (shapeCheck memory bodies (now table) ≡ 0) × (cellsOf memory ≤ 1024) ⌝ }
+    ensures { λ r. ⌜ r ≡ tableCheck memory bodies (now (table .entry)) ⌝ }
+{
+    let mut seen = few_marks();
+    let mut used = no_bodies();
+    table_check(memory, bodies, table, &mut seen, &mut used)
+}
+
+// And for any memory.
+fn table_many(memory: usize, bodies: usize, table: &[u32]) -> u32
     requires { ⌜ shapeCheck memory bodies (now table) ≡ 0 ⌝ }
     ensures { λ r. ⌜ r ≡ tableCheck memory bodies (now (table .entry)) ⌝ }
 {
-    if table_ok(table, memory / 64, slots_of(table.len()), bodies / 64) {
-        0
-    } else {
-        4
+    let mut seen = many_marks();
+    let mut used = no_bodies();
+    table_check(memory, bodies, table, &mut seen, &mut used)
+}
+
+// Question 4 for a call that needs no marks.
+fn table_plain(memory: usize, bodies: usize, table: &[u32]) -> u32
+    requires { ⌜ shapeCheck memory bodies (now table) ≡ 0 ⌝ }
+    ensures { λ r. ⌜ r ≡ tableCheck memory bodies (now (table .entry)) ⌝ }
+{
+    if cells_of(memory) <= FEW_CELLS {
+        return table_few(memory, bodies, table);
     }
+    table_many(memory, bodies, table)
 }
 
 // The questions put to open.
@@ -87,12 +130,12 @@ fn open_check(memory: usize, bodies: usize, table: &[u32]) -> u32
     if no != 0 {
         return no;
     }
-    table_check(memory, bodies, table)
+    table_plain(memory, bodies, table)
 }
 
-// The questions put to every call but make and open.
-pub fn store_check(memory: usize, bodies: usize, table: &[u32]) -> u32
-    ensures { λ r. ⌜ r ≡ storeCheck memory bodies (now (table .entry)) ⌝ }
+// Questions 1 to 3.
+fn idle_check(memory: usize, bodies: usize, table: &[u32]) -> u32
+    ensures { λ r. ⌜ r ≡ idleCheck memory bodies (now (table .entry)) ⌝ }
 {
     let no = shape_check(memory, bodies, table);
     if no != 0 {
@@ -101,14 +144,46 @@ pub fn store_check(memory: usize, bodies: usize, table: &[u32]) -> u32
     if table[PENDING_AT] != 0 {
         return 3;
     }
-    table_check(memory, bodies, table)
+    0
+}
+
+// The questions put to every call but make and open. What is lent for marks has, once no question refuses the call, the marks of the table's
+// entries: the call goes on with these and makes none of its own.
+pub fn store_check(
+    memory: usize,
+    bodies: usize,
+    table: &[u32],
+    seen: &mut [u8],
+    used: &mut [u8],
+) -> u32
+    requires room { ⌜ (min (cellsOf memory) maxCells ≤ length (now seen)) × (length (now used) ≡ maxBodies) ⌝ }
+    requires blank { ⌜ Blank (now seen) × Blank (now used) ⌝ }
+    ensures no { λ r. ⌜ r ≡ storeCheck memory bodies (now (table .entry)) ⌝ }
+    ensures marks { λ r. ⌜ (r ≡ 0 → AllMarked (slotsOf (length (now (table .entry)))) (now (table .entry)) (now (seen .exit)) (now (used .exit))) ⌝ }
+{
+    let no = idle_check(memory, bodies, table);
+    if no != 0 {
+        return no;
+    }
+    table_check(memory, bodies, table, seen, used)
+}
+
+// The same for a call that needs no marks.
+pub fn plain_check(memory: usize, bodies: usize, table: &[u32]) -> u32
+    ensures { λ r. ⌜ r ≡ storeCheck memory bodies (now (table .entry)) ⌝ }
+{
+    let no = idle_check(memory, bodies, table);
+    if no != 0 {
+        return no;
+    }
+    table_plain(memory, bodies, table)
 }
 
 // The questions put to create.
 fn create_check(memory: usize, bodies: usize, table: &[u32]) -> u32
     ensures { λ r. ⌜ r ≡ createCheck memory bodies (now (table .entry)) ⌝ }
 {
-    let no = store_check(memory, bodies, table);
+    let no = plain_check(memory, bodies, table);
     if no != 0 {
         return no;
     }
@@ -294,7 +369,7 @@ fn read_handles(table: &[u32]) -> [u32; 8]
 pub fn list(memory: &[u8], bodies: &[u8], table: &[u32]) -> Listing
     ensures { λ r. ⌜ listing r ≡ listMeans (buffers (now (memory .entry)) (now (bodies .entry)) (now (table .entry))) ⌝ }
 {
-    let no = store_check(memory.len(), bodies.len(), table);
+    let no = plain_check(memory.len(), bodies.len(), table);
     if no != 0 {
         return Listing {
             answer: Answer::Refused(no),

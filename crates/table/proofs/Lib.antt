@@ -6,8 +6,8 @@ pub mod Change
 pub mod Keep
 pub mod Digits
 pub mod Marks
-pub mod Tail
 pub mod Parts
+pub mod Passing
 pub mod Pairs
 pub mod Checks
 pub mod Head

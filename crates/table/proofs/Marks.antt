@@ -1,5 +1,5 @@
 -- Laws of marks: what one more entry does to them, for any wanted entries, key and tag; then the passes over the cells and over the bodies. Assumes nothing.
-use Prim.Native.Nat.{ℕ, zero, suc, _+_, _-_, _≤_, _<_}
+use Prim.Native.Nat.{ℕ, zero, suc, _+_, _≤_, _<_}
 use mathlib.Core.Bool.{Bool, true, false, not, _&&_}
 use mathlib.Core.List.{List}
 use mathlib.Core.Path.{_≡_, refl, sym, ap, subst, _∙_}
@@ -7,19 +7,19 @@ use mathlib.Core.Logic.{⊎-elim}
 use native.Mathlib.Nat.{not-suc-le-zero, eq-or-lt-of-le, le-of-suc-le-suc}
 use native.Mathlib.Numerals.{add-one}
 use native.Mathlib.Omega.{arith}
-use borrow.Author.Tests.{eq-eqb, ne-eqb, eqb-true, eqb-false, not-true, not-false}
+use borrow.Author.Tests.{eq-eqb, ne-eqb, eqb-true, eqb-false, ltb-true, lt-ltb, not-true, not-false}
 use lib.ListN.{length, getD, set, replicate, length-replicate}
 use lib.Seq.{getD-set-same, getD-set-other}
-use lib.Dec.{eqb}
+use lib.Dec.{ltb, eqb}
 use Rattle.words.proofs.Scan.{by-bool, and-split, is-false, true≢}
-use Rattle.table.specs.Entry.{word1, word2, depthOf, viaOf, cellOf, parent, findIn}
+use Rattle.table.specs.Entry.{word1, word2, depthOf, viaOf, parent, findIn, holdsIn}
 use Rattle.table.specs.Rule.{parentOk}
-use Rattle.table.specs.Marks.{Marks, Distinct, zeros, has, withDepth, cellIn, markAt, markCell, Marked, CellsOnce, Markable, ViaInner, parentTold, IsCopy, copyWord, markBody, bodyFits}
-use Rattle.table.proofs.Digits.{has-none, has-zero, has-here, has-other}
+use Rattle.table.specs.Marks.{Marks, Distinct, zeros, has, withDepth, cellIn, markAt, markCell, Marked, CellsOnce, Blank, ViaInner, parentTold, IsCopy, copyWord, markBody, bodyFits}
+use Rattle.table.proofs.Digits.{has-zero, has-here, has-other}
 use Rattle.table.proofs.Entry.{find-some, find-hit}
 use Rattle.table.proofs.Rule.{outer-facts, outer-make}
 
-split : {C : Type 0} (n j : ℕ) → j < n + 1 → (j ≡ n → C) → (j < n → C) → C
+pub split : {C : Type 0} (n j : ℕ) → j < n + 1 → (j ≡ n → C) → (j < n → C) → C
 split n j l f g = ⊎-elim f g (eq-or-lt-of-le (le-of-suc-le-suc (subst (λ (m : ℕ). j < m) (add-one n) l)))
 
 -- ---- any marks
@@ -79,18 +79,20 @@ pub zeros-length : (n : ℕ) → length (zeros n) ≡ n
 unfolding zeros
 zeros-length n = length-replicate n 0
 
-pub zeros-marks : (Wanted : ℕ → Type 0) (key : ℕ → ℕ) (n : ℕ) → Marks Wanted key 1 0 (zeros n)
-zeros-marks Wanted key n = marks-none Wanted key 1 (zeros n) (λ k h. omega (arith, h, zeros-clear n k))
+pub blank-zeros : (n : ℕ) → Blank (zeros n)
+blank-zeros n k = zeros-clear n k
 
-pub zeros-marked : (e : ℕ) (t : List ℕ) (n : ℕ) → Marked e t 0 (zeros n)
-zeros-marked e t n =
-    record {
-      clear = λ d k low h j l. absurd (not-suc-le-zero l);
-      found = λ d k h. absurd (true≢ h (rw (zeros-clear n k) (has-none d)));
-    }
-
-pub fresh-marks : (e : ℕ) (t : List ℕ) (n : ℕ) (s : List ℕ) → s ≡ zeros n → Markable e t n → Markable e t (length s) × Marked e t 0 s
-fresh-marks e t n s q m = (rw (q, zeros-length n) m, rw q (zeros-marked e t n))
+pub marked-holds : (e : ℕ) (t seen : List ℕ) → Marked e t e seen → (d c : ℕ) → 1 ≤ d → has d (getD seen c 0) ≡ holdsIn e t d c
+unfolding holdsIn
+marked-holds e t seen m d c low =
+    by-bool (has d (getD seen c 0))
+    (λ h. let f = m .found d c h in h ∙ sym (lt-ltb (findIn e t d c) e (omega (arith, find-some e t d c (f .0) (f .1) (f .2) (f .3), f .1))))
+    (λ h.
+    h
+    ∙ sym (is-false (ltb (findIn e t d c) e) (λ y.
+    let f = ltb-true (findIn e t d c) e y in
+    let q = find-hit e t d c f in
+    m .clear d c low h (findIn e t d c) f (q .0) (q .1))))
 
 -- ---- the pass over the cells
 module _ (e : ℕ) (t : List ℕ) where

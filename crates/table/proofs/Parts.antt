@@ -2,16 +2,16 @@
 use Prim.Native.Nat.{ℕ, _≤_, _<_}
 use mathlib.Core.Bool.{Bool, true, false}
 use mathlib.Core.List.{List}
-use mathlib.Core.Path.{_≡_, refl, sym, _∙_}
+use mathlib.Core.Path.{_≡_, refl, sym}
 use native.Mathlib.Omega.{arith}
-use borrow.Author.Tests.{leb-true, eqb-true, eqb-false}
-use lib.Dec.{leb, eqb}
-use Rattle.words.specs.Layout.{maxLive, maxBodies, maxCells}
+use borrow.Author.Tests.{leb-true}
+use lib.Dec.{leb}
+use Rattle.words.specs.Layout.{maxLive}
 use Rattle.words.specs.Scan.{all}
-use Rattle.words.proofs.Scan.{all-at, all-make, and-split, by-bool, is-false, true≢}
-use Rattle.table.specs.Entry.{live, word1, word2, cellOf}
+use Rattle.words.proofs.Scan.{all-at, all-make, and-split, is-false, true≢}
+use Rattle.table.specs.Entry.{live, word2}
 use Rattle.table.specs.Rule.{headOk, entryOk, parentOk, apart, ruleOk}
-use Rattle.table.specs.Marks.{Distinct, CellsOk, Markable, ViaInner, IsCopy}
+use Rattle.table.specs.Marks.{Distinct, CellsOk, ViasMarkable, ViaInner, IsCopy}
 use Rattle.table.proofs.Rule.{Rule, ok-facts, ok-all, ok-not, parts, entry-used, apart-make, via-inner}
 
 module _ (m e b : ℕ) (t : List ℕ) where
@@ -49,17 +49,10 @@ module _ (m e b : ℕ) (t : List ℕ) where
     pub entries-inner : ViaInner e t
     entries-inner i l v = via-inner m e b t i (all-at e (entryOk m e b t) entries i l) v
 
-    pub entries-body : b ≤ maxBodies → (i : ℕ) → i < e → IsCopy e t i → word2 e t i < maxBodies
-    entries-body s i l u = omega (arith, entry-used m e b t i (all-at e (entryOk m e b t) entries i l) (u .0) .copy (u .1))
-
-    -- marks for every cell of memory, or for every cell that an entry can name, do
-    pub entries-markable : live t ≤ maxLive → (marks : ℕ) → 0 < marks → ((c : ℕ) → c < m → c < maxCells → c < marks) → Markable e t marks
-    entries-markable small marks any enough i l =
-        by-bool (eqb (word1 e t i) 0)
-        (λ z. let free = eqb-true (word1 e t i) 0 z in (omega (arith, free), omega (arith, free)))
-        (λ z.
-        let u = entry-used m e b t i (all-at e (entryOk m e b t) entries i l) (eqb-false _ _ z) in
-        (omega (arith, u .high), enough (cellOf (word1 e t i)) (u .cell) (omega arith)))
+    -- marks for every cell of memory do
+    pub entries-markable : (marks : ℕ) → m ≤ marks → ViasMarkable e t marks
+    entries-markable marks enough i l v =
+        omega (arith, entry-used m e b t i (all-at e (entryOk m e b t) entries i l) (λ z. v (rw z)) .cell)
 
     -- ---- all parts hold
     pub all-parts : headOk t ≡ true → CellsOk e t → Distinct (IsCopy e t) (word2 e t) e → ruleOk m e b t ≡ true

@@ -1,12 +1,11 @@
 -- The table's rule as facts, and that the computed test and the facts say the same. Assumes nothing.
-use Prim.Native.Nat.{ℕ, zero, suc, _+_, _-_, _*_, _/_, _%_, _≤_, _<_, min}
-use mathlib.Core.Bool.{Bool, true, false, cond, not, _&&_, _||_}
+use Prim.Native.Nat.{ℕ, _%_, _≤_, _<_, min}
+use mathlib.Core.Bool.{Bool, true, false, not, _&&_, _||_}
 use mathlib.Core.List.{List}
-use mathlib.Core.Path.{_≡_, refl, sym, ap, subst, _∙_}
+use mathlib.Core.Path.{_≡_, refl, sym, _∙_}
 use native.Mathlib.Omega.{arith}
-use lib.ListN.{getD}
 use lib.Dec.{ltb, leb, eqb}
-use borrow.Author.Tests.{lt-ltb, le-ltb, le-leb, lt-leb, eq-eqb, ne-eqb, ltb-true, ltb-false, leb-true, leb-false, eqb-true, eqb-false}
+use borrow.Author.Tests.{lt-ltb, le-ltb, le-leb, eq-eqb, ne-eqb, ltb-true, leb-true, eqb-true, eqb-false}
 use Rattle.words.specs.Layout.{maxLive, maxCells, pairsAt}
 use Rattle.words.specs.Journal.{effective}
 use Rattle.words.specs.Scan.{all}
@@ -38,27 +37,9 @@ pub record Rule (m e b : ℕ) (t : List ℕ) : Type 0 where
   pub apart-from : (i : ℕ) → i < e → (j : ℕ) → j < i → (word1 e t i ≡ 0 → ⊥) → (word1 e t j ≡ 0 → ⊥) → Apart e t j i
 
 -- ---- tests with no branch
-pub either : (b x y : Bool) → ((b && x) || (not b && y)) ≡ cond b x y
-either true true y = refl
-either true false y = refl
-either false x y = refl
-
-or-no : (x : Bool) → (x || false) ≡ x
-or-no true = refl
-or-no false = refl
-
--- the word 0 has depth 0, so that no word passes as free and in use
-pub free-or-used : (w : ℕ) (free used : Bool) → ((eqb w 0 && free) || (leb 1 (depthOf w) && used)) ≡ cond (eqb w 0) free (leb 1 (depthOf w) && used)
-free-or-used w free used =
-    by-bool (eqb w 0)
-    (λ z.
-    let low : leb 1 (depthOf w) ≡ false = lt-leb 1 (depthOf w) (omega (arith, eqb-true w 0 z)) in
-    rw (z, low) (or-no free))
-    (λ z. rw z)
-
 -- the bits below the kind are a cell's number where the unused ones are zero
-pub cell-alone : (w m : ℕ) (rest : Bool) → m ≤ maxCells → (ltb (w % 67_108_864) m && rest) ≡ (eqb (unusedOf w) 0 && (ltb (cellOf w) m && rest))
-cell-alone w m rest l =
+pub cell-alone : (w m : ℕ) → m ≤ maxCells → ltb (w % 67_108_864) m ≡ (eqb (unusedOf w) 0 && ltb (cellOf w) m)
+cell-alone w m l =
     by-bool (eqb (unusedOf w) 0)
     (λ z.
     let none = eqb-true (unusedOf w) 0 z in

@@ -4,12 +4,12 @@ use Prim.Native.Nat.{ℕ, _+_, _*_, _/_, _%_, _^_, _<_, _≤_}
 use mathlib.Core.Bool.{Bool, true, false, cond, not, _&&_, _||_}
 use mathlib.Core.Path.{_≡_}
 use mathlib.Core.List.{List}
-use lib.Dec.{eqb}
+use lib.Dec.{ltb, leb, eqb}
 use lib.ListN.{getD, set, replicate}
 use Rattle.words.specs.Layout.{maxLive}
 use Rattle.words.specs.Scan.{all}
-use Rattle.table.specs.Entry.{word1, word2, depthOf, viaOf, cellOf, parent}
-use Rattle.table.specs.Rule.{parentOk}
+use Rattle.table.specs.Entry.{word1, word2, depthOf, viaOf, unusedOf, cellOf, parent}
+use Rattle.table.specs.Rule.{entryOk, parentOk}
 
 module _ (Wanted : ℕ → Type 0) (key : ℕ → ℕ) (tag : ℕ) where
   pub record Marks (n : ℕ) (seen : List ℕ) : Type 0 where
@@ -20,9 +20,9 @@ module _ (Wanted : ℕ → Type 0) (key : ℕ → ℕ) (tag : ℕ) where
 abbrev pub Distinct : (ℕ → Type 0) → (ℕ → ℕ) → ℕ → Type 0
 Distinct Wanted key n = (i : ℕ) → i < n → (j : ℕ) → j < i → Wanted i → Wanted j → key j ≡ key i → ⊥
 
--- the entries from the n-th on are free
-abbrev pub FreeFrom : ℕ → List ℕ → ℕ → Type 0
-FreeFrom e t n = (i : ℕ) → n ≤ i → i < e → word1 e t i ≡ 0
+-- no mark is made yet
+abbrev pub Blank : List ℕ → Type 0
+Blank marks = (k : ℕ) → getD marks k 0 ≡ 0
 
 unfoldable pub zeros : ℕ → List ℕ
 zeros n = replicate n 0
@@ -66,9 +66,9 @@ pub record CellsOk (e : ℕ) (t : List ℕ) : Type 0 where
   pub once : CellsOnce e t e
   pub rests : all e (parentOk e t) ≡ true
 
--- every entry's depth has a bit, and its cell a mark
-abbrev pub Markable : ℕ → List ℕ → ℕ → Type 0
-Markable e t marks = (i : ℕ) → i < e → (depthOf (word1 e t i) ≤ maxLive) × (cellIn e t i < marks)
+-- the cell of every via parent entry has a mark
+abbrev pub ViasMarkable : ℕ → List ℕ → ℕ → Type 0
+ViasMarkable e t marks = (i : ℕ) → i < e → (viaOf (word1 e t i) ≡ 0 → ⊥) → cellIn e t i < marks
 
 -- via parent entries are not outermost
 abbrev pub ViaInner : ℕ → List ℕ → Type 0
@@ -90,3 +90,34 @@ markBody w v used = cond (copyWord w) (set used v 1) used
 -- may that entry stand: no copy before it has its body
 unfoldable pub bodyFits : ℕ → ℕ → List ℕ → Bool
 bodyFits w v used = cond (copyWord w) (not (eqb (getD used v 0) 1)) true
+
+-- ---- the pass over the entries, in a table for m cells, e entry slots and b bodies
+
+-- a first word of one of `live` depths and of one of m cells, with no other bit below its kind
+abbrev pub placed : ℕ → ℕ → ℕ → Bool
+placed m live w = leb 1 (depthOf w) && (leb (depthOf w) live && (eqb (unusedOf w) 0 && ltb (cellOf w) m))
+
+-- the second word is the body of a copy; of via parent, which is not outermost, 0
+abbrev pub kindTold : ℕ → ℕ → ℕ → Bool
+kindTold b w v = cond (eqb (viaOf w) 0) (ltb v b) (eqb v 0 && leb 2 (depthOf w))
+
+-- the entries from the n-th to the one before the k-th are free
+abbrev pub FreeRun : ℕ → List ℕ → ℕ → ℕ → Type 0
+FreeRun e t n k = (i : ℕ) → n ≤ i → i < k → (word1 e t i ≡ 0) × (word2 e t i ≡ 0)
+
+-- the first n entries are right, by themselves and beside each other, and marked
+pub record Passed (m e b : ℕ) (t : List ℕ) (n : ℕ) (seen used : List ℕ) : Type 0 where
+  pub right : (i : ℕ) → i < n → entryOk m e b t i ≡ true
+  pub once : CellsOnce e t n
+  pub single : Distinct (IsCopy e t) (word2 e t) n
+  pub cells : Marked e t n seen
+  pub copies : Marks (IsCopy e t) (word2 e t) 1 n used
+
+-- where so many are via parent, none is, if that is 0
+abbrev pub NoVias : ℕ → List ℕ → ℕ → ℕ → Type 0
+NoVias e t n vias = vias ≡ 0 → (i : ℕ) → i < n → viaOf (word1 e t i) ≡ 0
+
+-- the marks of all entries: of their cells, and of their copies' bodies
+pub record AllMarked (e : ℕ) (t : List ℕ) (seen used : List ℕ) : Type 0 where
+  pub cells : Marked e t e seen
+  pub copies : Marks (IsCopy e t) (word2 e t) 1 e used

@@ -33,12 +33,15 @@ ghost use lib.Dec.{ltb, leb, eqb};
 ghost use Rattle.words.specs.Layout.{pairsAt, tableWords, maxSlots, maxBodies, maxCells, maxLive, handleAt};
 ghost use Rattle.words.specs.Scan.{all};
 ghost use Rattle.words.specs.Stores.{stores};
-ghost use Rattle.words.specs.Journal.{nameOk, namesOk, pairs, pairPlans, effective};
+ghost use Rattle.words.specs.Journal.{nameOk, namesOk, pairs, pairPlans, effective, pending};
 ghost use Rattle.table.specs.Changes.{put, entryStores};
-ghost use Rattle.table.specs.Entry.{names, word1, word2, viaOf, depthOf, cellOf, parent};
+ghost use Rattle.table.specs.Entry.{live, word1, word2, viaOf, depthOf, cellOf, parent};
 ghost use Rattle.table.specs.Checks.{lengthsOk, headerOk};
 ghost use Rattle.table.specs.Rule.{handleOk, headOk, entryOk, parentOk, pairsOk, ruleOk, tableOk};
-ghost use Rattle.table.specs.Marks.{Marks, Distinct, FreeFrom, has, withDepth, markAt, markCell, Marked, CellsOnce, CellsOk, Markable, ViaInner, parentTold, IsCopy, copyWord, markBody, bodyFits, zeros};
+ghost use Rattle.table.specs.Marks.{has, withDepth, markAt, markCell, Marked, ViasMarkable, ViaInner, parentTold, placed, kindTold, markBody, bodyFits, zeros, Blank, FreeRun, NoVias, Passed, AllMarked};
+
+// So many cells count as few: marks for them are cleared in no time.
+pub const FEW_CELLS: usize = 1024;
 
 // ---- questions 1 and 2
 
@@ -84,13 +87,6 @@ pub fn second_word(table: &[u32], slots: usize, i: usize) -> u32
     table[second_at(slots, i)]
 }
 
-// Does an entry's first word name this depth and this cell?
-pub fn named(word: u32, depth: u32, cell: u32) -> bool
-    ensures { λ r. ⌜ r ≡ names depth cell word ⌝ }
-{
-    (word / 268435456 == depth) & (word % 65536 == cell)
-}
-
 // ---- the head
 
 // Is the word of handle k right: above the handle before it and below the next handle, or 0 where no domain is live?
@@ -134,28 +130,14 @@ pub fn head_ok(table: &[u32]) -> bool
 
 // ---- an entry by itself
 
-// Is the second word of an entry in use right for its kind: a body, or 0 for via parent, which is never outermost?
-fn kind_ok(word: u32, second: u32, bodies: u32) -> bool
-    ensures { λ r. ⌜ r ≡ cond (eqb (viaOf word) 0) (ltb second bodies) (eqb second 0 && leb 2 (depthOf word)) ⌝ }
+// Is an entry in use, with this first word, of a live depth and of a cell of memory? Below the kind, a word that names one of the cells has no
+// other bit.
+fn place_ok(word: u32, live: u32, cells: u32) -> bool
+    requires { ⌜ cells ≤ maxCells ⌝ }
+    ensures { λ r. ⌜ r ≡ placed cells live word ⌝ }
 {
-    let copy = word / 67108864 % 2 == 0;
-    (copy & (second < bodies)) | (!copy & ((second == 0) & (2 <= word / 268435456)))
-}
-
-// Are the two words of entry i right by themselves? The word 0 has depth 0, so that one of the two tests applies. Below the kind, a word that
-// names one of the cells has no other bit.
-fn entry_ok(table: &[u32], cells: u32, slots: usize, bodies: u32, i: usize) -> bool
-    requires { ⌜ (i < slots) × (slots ≤ maxSlots) × (pairsAt slots ≤ length (now table)) × (cells ≤ maxCells) ⌝ }
-    ensures { λ r. ⌜ r ≡ entryOk cells slots bodies (now (table .entry)) i ⌝ }
-{
-    let word = first_word(table, slots, i);
-    let second = second_word(table, slots, i);
     let depth = word / 268435456;
-    let free = (word == 0) & (second == 0);
-    free
-        | ((1 <= depth)
-            & ((depth <= table[LIVE_AT])
-                & ((word % 67108864 < cells) & kind_ok(word, second, bodies))))
+    (1 <= depth) & ((depth <= live) & (word % 67108864 < cells))
 }
 
 // So many cells as a word. More than an entry can name count as that.
@@ -165,40 +147,10 @@ fn cells_word(cells: usize) -> u32
     least(cells, MAX_CELLS) as u32
 }
 
-// Is every entry right by itself? All are asked, with no branch.
-fn entries_ok(table: &[u32], cells: usize, slots: usize, bodies: usize) -> bool
-    requires { ⌜ (slots ≤ maxSlots) × (pairsAt slots ≤ length (now table)) × (bodies ≤ maxBodies) ⌝ }
-    ensures { λ r. ⌜ r ≡ all slots (entryOk cells slots bodies (now (table .entry))) ⌝ }
-{
-    let most = cells_word(cells);
-    let mut right = true;
-    let mut i: usize = 0;
-    while i < slots {
-        right = right & entry_ok(table, most, slots, bodies as u32, i);
-        i += 1;
-    }
-    right
-}
-
-// How many entries there are up to the last one in use. Entries are taken from the front, so that a table with room to spare is short.
-fn last_in_use(table: &[u32], slots: usize) -> usize
-    requires { ⌜ (slots ≤ maxSlots) × (pairsAt slots ≤ length (now table)) ⌝ }
-    ensures { λ r. ⌜ (r ≤ slots) × FreeFrom slots (now (table .entry)) r ⌝ }
-{
-    let mut n = slots;
-    while 0 < n {
-        if first_word(table, slots, n - 1) != 0 {
-            return n;
-        }
-        n -= 1;
-    }
-    0
-}
-
 // ---- entries beside each other: the cells
 
 // Does a mark have this depth? The shift takes no branch, where scattered depths would be guessed wrong.
-fn has_depth(mark: u8, depth: u32) -> bool
+pub fn has_depth(mark: u8, depth: u32) -> bool
     requires { ⌜ depth < 16 ⌝ }
     ensures { λ r. ⌜ r ≡ has depth mark ⌝ }
 {
@@ -228,23 +180,6 @@ fn mark_cell(seen: &mut [u8], word: u32) -> bool
     true
 }
 
-// Marks the cells of all entries, up to the first that does not fit.
-fn mark_cells(table: &[u32], slots: usize, seen: &mut [u8]) -> bool
-    requires { ⌜ (slots ≤ maxSlots) × (pairsAt slots ≤ length (now table)) ⌝ }
-    requires { ⌜ Markable slots (now table) (length (now seen)) × Marked slots (now table) 0 (now seen) ⌝ }
-    ensures { λ r. ⌜ (r ≡ true → CellsOnce slots (now (table .entry)) slots × Marked slots (now (table .entry)) slots (now (seen .exit))) × (r ≡ false → CellsOnce slots (now (table .entry)) slots → ⊥) ⌝ }
-{
-    let mut i: usize = 0;
-    while i < slots {
-        let word = first_word(table, slots, i);
-        if !mark_cell(seen, word) {
-            return false;
-        }
-        i += 1;
-    }
-    true
-}
-
 // Does a mark have the depth outside this one: is the bit below its own set?
 fn has_parent(mark: u8, depth: u32) -> bool
     requires { ⌜ depth < 16 ⌝ }
@@ -255,17 +190,19 @@ fn has_parent(mark: u8, depth: u32) -> bool
 
 // Is an entry not via parent, or has its parent marked its cell?
 fn parent_marked(seen: &[u8], word: u32) -> bool
-    requires { ⌜ (cellOf word < length (now seen)) × ((viaOf word ≡ 0 → ⊥) → 2 ≤ depthOf word) ⌝ }
+    requires { ⌜ ((viaOf word ≡ 0 → ⊥) → (cellOf word < length (now seen)) × (2 ≤ depthOf word)) ⌝ }
     ensures { λ r. ⌜ r ≡ parentTold word (now (seen .entry)) ⌝ }
 {
-    let mark = seen[wide(word % 65536)];
-    (word / 67108864 % 2 == 0) | has_parent(mark, word / 268435456)
+    if word / 67108864 % 2 == 0 {
+        return true;
+    }
+    has_parent(seen[wide(word % 65536)], word / 268435456)
 }
 
-// Does every via parent entry rest on its parent? All are asked, with no branch.
+// Does every via parent entry rest on its parent?
 fn parents_ok(table: &[u32], slots: usize, seen: &[u8]) -> bool
     requires { ⌜ (slots ≤ maxSlots) × (pairsAt slots ≤ length (now table)) ⌝ }
-    requires { ⌜ Markable slots (now table) (length (now seen)) × Marked slots (now table) slots (now seen) × ViaInner slots (now table) ⌝ }
+    requires { ⌜ ViasMarkable slots (now table) (length (now seen)) × Marked slots (now table) slots (now seen) × ViaInner slots (now table) ⌝ }
     ensures { λ r. ⌜ r ≡ all slots (parentOk slots (now (table .entry))) ⌝ }
 {
     let mut rest = true;
@@ -278,95 +215,39 @@ fn parents_ok(table: &[u32], slots: usize, seen: &[u8]) -> bool
     rest
 }
 
-// Has no depth a cell twice, and does every via parent entry rest on its parent? With a mark for each cell, none made yet.
-fn marks_ok(table: &[u32], slots: usize, seen: &mut [u8]) -> bool
-    requires { ⌜ (slots ≤ maxSlots) × (pairsAt slots ≤ length (now table)) ⌝ }
-    requires { ⌜ Markable slots (now table) (length (now seen)) × Marked slots (now table) 0 (now seen) × ViaInner slots (now table) ⌝ }
-    ensures { λ r. ⌜ (r ≡ true → CellsOk slots (now (table .entry))) × (r ≡ false → CellsOk slots (now (table .entry)) → ⊥) ⌝ }
-{
-    if !mark_cells(table, slots, seen) {
-        return false;
-    }
-    parents_ok(table, slots, seen)
-}
-
-// No cell is marked. A function of its own, so that the checker does not write the list out.
-fn no_cells() -> [u8; 65536]
+// No cell is marked. Each list of marks is made by a function of its own, so that the checker does not write it out.
+pub fn many_marks() -> [u8; 65536]
     ensures { λ r. ⌜ r ≡ zeros 65536 ⌝ }
 {
     [0u8; 65536]
 }
 
 // The same for a small memory, where clearing marks for the largest would take longer than all else.
-fn no_few_cells() -> [u8; 1024]
+pub fn few_marks() -> [u8; 1024]
     ensures { λ r. ⌜ r ≡ zeros 1024 ⌝ }
 {
     [0u8; 1024]
 }
 
-// Are the entries' cells right, in a small memory?
-fn few_cells_ok(table: &[u32], slots: usize) -> bool
-    requires { ⌜ (slots ≤ maxSlots) × (pairsAt slots ≤ length (now table)) × Markable slots (now table) 1024 × ViaInner slots (now table) ⌝ }
-    ensures { λ r. ⌜ (r ≡ true → CellsOk slots (now (table .entry))) × (r ≡ false → CellsOk slots (now (table .entry)) → ⊥) ⌝ }
-{
-    let mut seen = no_few_cells();
-    marks_ok(table, slots, &mut seen)
-}
-
-// Are they, in any memory?
-fn many_cells_ok(table: &[u32], slots: usize) -> bool
-    requires { ⌜ (slots ≤ maxSlots) × (pairsAt slots ≤ length (now table)) × Markable slots (now table) 65536 × ViaInner slots (now table) ⌝ }
-    ensures { λ r. ⌜ (r ≡ true → CellsOk slots (now (table .entry))) × (r ≡ false → CellsOk slots (now (table .entry)) → ⊥) ⌝ }
-{
-    let mut seen = no_cells();
-    marks_ok(table, slots, &mut seen)
-}
-
-// Are they? Entries that are right by themselves name cells of memory.
-fn cells_ok(table: &[u32], cells: usize, slots: usize) -> bool
-    requires { ⌜ (slots ≤ maxSlots) × (pairsAt slots ≤ length (now table)) × ViaInner slots (now table) ⌝ }
-    requires { ⌜ Markable slots (now table) 65536 × (cells ≤ 1024 → Markable slots (now table) 1024) ⌝ }
-    ensures { λ r. ⌜ (r ≡ true → CellsOk slots (now (table .entry))) × (r ≡ false → CellsOk slots (now (table .entry)) → ⊥) ⌝ }
-{
-    if cells <= 1024 {
-        return few_cells_ok(table, slots);
-    }
-    many_cells_ok(table, slots)
-}
-
 // ---- entries beside each other: the bodies
 
-// Marks the body of an entry that is a copy. False where another copy has it already.
-fn mark_body(used: &mut [u8], word: u32, second: u32) -> bool
-    requires { ⌜ (copyWord word ≡ true → second < length (now used)) ⌝ }
-    ensures { λ r. ⌜ (r ≡ bodyFits word second (now (used .entry))) × (now (used .exit) ≡ markBody word second (now (used .entry))) ⌝ }
+// Is the second word of an entry in use right for its kind: 0 for via parent, which is never outermost, and for a copy a body that no other
+// has? Marks the body.
+fn mark_body(used: &mut [u8], word: u32, second: u32, bodies: u32) -> bool
+    requires { ⌜ (word ≡ 0 → ⊥) × (bodies ≤ length (now used)) ⌝ }
+    ensures right { λ r. ⌜ (r ≡ true → (kindTold bodies word second ≡ true) × (bodyFits word second (now (used .entry)) ≡ true) × (now (used .exit) ≡ markBody word second (now (used .entry)))) ⌝ }
+    ensures wrong { λ r. ⌜ (r ≡ false → kindTold bodies word second ≡ true → bodyFits word second (now (used .entry)) ≡ false) ⌝ }
 {
-    let copy = (word != 0) & (word / 67108864 % 2 == 0);
-    if !copy {
-        return true;
+    if word / 67108864 % 2 == 1 {
+        return (second == 0) & (2 <= word / 268435456);
+    }
+    if bodies <= second {
+        return false;
     }
     let body = wide(second);
     let before = used[body];
     used[body] = 1;
     before != 1
-}
-
-// Marks the bodies of all copies, also where two share one, and says whether none do.
-pub fn mark_bodies(table: &[u32], slots: usize, used: &mut [u8]) -> bool
-    requires { ⌜ (slots ≤ maxSlots) × (pairsAt slots ≤ length (now table)) × (length (now used) ≡ maxBodies) ⌝ }
-    requires { ⌜ ((i : ℕ) → i < slots → IsCopy slots (now table) i → word2 slots (now table) i < maxBodies) ⌝ }
-    requires { ⌜ Marks (IsCopy slots (now table)) (word2 slots (now table)) 1 0 (now used) ⌝ }
-    ensures { λ r. ⌜ Marks (IsCopy slots (now (table .entry))) (word2 slots (now (table .entry))) 1 slots (now (used .exit)) × (r ≡ true → Distinct (IsCopy slots (now (table .entry))) (word2 slots (now (table .entry))) slots) × (r ≡ false → Distinct (IsCopy slots (now (table .entry))) (word2 slots (now (table .entry))) slots → ⊥) ⌝ }
-{
-    let mut single = true;
-    let mut i: usize = 0;
-    while i < slots {
-        let word = first_word(table, slots, i);
-        let second = second_word(table, slots, i);
-        single = mark_body(used, word, second) & single;
-        i += 1;
-    }
-    single
 }
 
 // No body is marked. A function of its own, so that the checker does not write the list out.
@@ -376,34 +257,136 @@ pub fn no_bodies() -> [u8; 4096]
     [0u8; 4096]
 }
 
-// Do no two copies share a body?
-fn bodies_ok(table: &[u32], slots: usize) -> bool
-    requires { ⌜ (slots ≤ maxSlots) × (pairsAt slots ≤ length (now table)) ⌝ }
-    requires { ⌜ ((i : ℕ) → i < slots → IsCopy slots (now table) i → word2 slots (now table) i < maxBodies) ⌝ }
-    ensures { λ r. ⌜ (r ≡ true → Distinct (IsCopy slots (now (table .entry))) (word2 slots (now (table .entry))) slots) × (r ≡ false → Distinct (IsCopy slots (now (table .entry))) (word2 slots (now (table .entry))) slots → ⊥) ⌝ }
+// ---- the pass over the entries
+
+// Are the entries from i on, four of them, free?
+fn four_free(table: &[u32], slots: usize, i: usize) -> bool
+    requires { ⌜ (i + 4 ≤ slots) × (slots ≤ maxSlots) × (pairsAt slots ≤ length (now table)) ⌝ }
+    ensures { λ r. ⌜ (r ≡ true → FreeRun slots (now (table .entry)) i (i + 4)) ⌝ }
 {
-    let mut used = no_bodies();
-    mark_bodies(table, slots, &mut used)
+    (((first_word(table, slots, i) == 0) & (second_word(table, slots, i) == 0))
+        & ((first_word(table, slots, i + 1) == 0) & (second_word(table, slots, i + 1) == 0)))
+        & (((first_word(table, slots, i + 2) == 0) & (second_word(table, slots, i + 2) == 0))
+            & ((first_word(table, slots, i + 3) == 0) & (second_word(table, slots, i + 3) == 0)))
+}
+
+// Passes over free entries from `from` on, four at a time: most tables have room to spare, and the words of four free entries are asked at once.
+fn past_free(table: &[u32], slots: usize, from: usize) -> usize
+    requires { ⌜ (from ≤ slots) × (slots ≤ maxSlots) × (pairsAt slots ≤ length (now table)) ⌝ }
+    ensures { λ r. ⌜ (from ≤ r) × (r ≤ slots) × FreeRun slots (now (table .entry)) from r ⌝ }
+{
+    let mut i = from;
+    while i + 4 <= slots {
+        if !four_free(table, slots, i) {
+            return i;
+        }
+        i += 4;
+    }
+    i
+}
+
+// The entry to pass next, from `from` on: that one where it is in use, which is asked first, since entries in use mostly stand side by side.
+fn next_entry(table: &[u32], slots: usize, from: usize) -> usize
+    requires { ⌜ (from ≤ slots) × (slots ≤ maxSlots) × (pairsAt slots ≤ length (now table)) ⌝ }
+    ensures { λ r. ⌜ (from ≤ r) × (r ≤ slots) × FreeRun slots (now (table .entry)) from r ⌝ }
+{
+    if from == slots {
+        return slots;
+    }
+    if first_word(table, slots, from) != 0 {
+        return from;
+    }
+    past_free(table, slots, from)
+}
+
+// Is entry i right, by itself and beside those in front of it? Marks its cell and, of a copy, its body.
+fn pass_entry(
+    table: &[u32],
+    cells: u32,
+    slots: usize,
+    bodies: u32,
+    i: usize,
+    seen: &mut [u8],
+    used: &mut [u8],
+) -> bool
+    requires { ⌜ (i < slots) × (slots ≤ maxSlots) × (pairsAt slots ≤ length (now table)) × (live (now table) ≤ maxLive) × (cells ≤ maxCells) × (cells ≤ length (now seen)) × (bodies ≤ length (now used)) ⌝ }
+    requires { ⌜ Passed cells slots bodies (now table) i (now seen) (now used) ⌝ }
+    ensures right { λ r. ⌜ (r ≡ true → Passed cells slots bodies (now (table .entry)) (i + 1) (now (seen .exit)) (now (used .exit))) ⌝ }
+    ensures wrong { λ r. ⌜ (r ≡ false → ruleOk cells slots bodies (now (table .entry)) ≡ false) ⌝ }
+{
+    let word = first_word(table, slots, i);
+    let second = second_word(table, slots, i);
+    if word == 0 {
+        return second == 0;
+    }
+    if !place_ok(word, table[LIVE_AT], cells) {
+        return false;
+    }
+    if !mark_cell(seen, word) {
+        return false;
+    }
+    mark_body(used, word, second, bodies)
+}
+
+// What the pass over the entries found: whether they are right, by themselves and beside each other; and how many of them are via parent.
+pub struct Pass {
+    pub right: bool,
+    pub vias: usize,
+}
+
+// Passes over all entries, up to the first that is not right, and marks their cells and bodies.
+fn pass_entries(
+    table: &[u32],
+    cells: u32,
+    slots: usize,
+    bodies: u32,
+    seen: &mut [u8],
+    used: &mut [u8],
+) -> Pass
+    requires { ⌜ (slots ≤ maxSlots) × (pairsAt slots ≤ length (now table)) × (live (now table) ≤ maxLive) × (cells ≤ maxCells) × (cells ≤ length (now seen)) × (bodies ≤ length (now used)) ⌝ }
+    requires { ⌜ Blank (now seen) × Blank (now used) ⌝ }
+    ensures right { λ r. ⌜ (r .right ≡ true → Passed cells slots bodies (now (table .entry)) slots (now (seen .exit)) (now (used .exit)) × NoVias slots (now (table .entry)) slots (r .vias)) ⌝ }
+    ensures wrong { λ r. ⌜ (r .right ≡ false → ruleOk cells slots bodies (now (table .entry)) ≡ false) ⌝ }
+{
+    let mut vias: usize = 0;
+    let mut i = next_entry(table, slots, 0);
+    while i < slots {
+        if !pass_entry(table, cells, slots, bodies, i, seen, used) {
+            return Pass { right: false, vias };
+        }
+        vias += wide(first_word(table, slots, i) / 67108864 % 2);
+        i = next_entry(table, slots, i + 1);
+    }
+    Pass { right: true, vias }
 }
 
 // ---- the rule of a table with no pending pairs
 
-// Are words 4, 5, 8 to 15 and the entries right?
-pub fn rule_ok(table: &[u32], cells: usize, slots: usize, bodies: usize) -> bool
-    requires { ⌜ (slots ≤ maxSlots) × (pairsAt slots ≤ length (now table)) × (bodies ≤ maxBodies) ⌝ }
+// Are words 4, 5, 8 to 15 and the entries right? The marks that tell it are left in `seen`, of cells, and `used`, of bodies, for the caller to go on with.
+pub fn rule_ok(
+    table: &[u32],
+    cells: usize,
+    slots: usize,
+    bodies: usize,
+    seen: &mut [u8],
+    used: &mut [u8],
+) -> bool
+    requires { ⌜ (slots ≤ maxSlots) × (pairsAt slots ≤ length (now table)) × (bodies ≤ maxBodies) × (min cells maxCells ≤ length (now seen)) × (bodies ≤ length (now used)) ⌝ }
+    requires { ⌜ Blank (now seen) × Blank (now used) ⌝ }
     ensures { λ r. ⌜ r ≡ ruleOk cells slots bodies (now (table .entry)) ⌝ }
+    ensures marks { λ r. ⌜ (r ≡ true → AllMarked slots (now (table .entry)) (now (seen .exit)) (now (used .exit))) ⌝ }
 {
     if !head_ok(table) {
         return false;
     }
-    if !entries_ok(table, cells, slots, bodies) {
+    let pass = pass_entries(table, cells_word(cells), slots, bodies as u32, seen, used);
+    if !pass.right {
         return false;
     }
-    let used = last_in_use(table, slots);
-    if !cells_ok(table, cells, used) {
-        return false;
+    if pass.vias == 0 {
+        return true;
     }
-    bodies_ok(table, used)
+    parents_ok(table, slots, seen)
 }
 
 // ---- pending pairs
@@ -482,29 +465,46 @@ fn no_words() -> [u32; 8208]
 }
 
 // The rule of the table that pending pairs mean: of a copy in which they are in place.
-fn pending_ok(table: &[u32], cells: usize, slots: usize, bodies: usize) -> bool
-    requires { ⌜ (slots ≤ maxSlots) × (length (now table) ≡ tableWords slots) × (bodies ≤ maxBodies) × (pairsOk slots (now table) ≡ true) ⌝ }
+fn pending_ok(
+    table: &[u32],
+    cells: usize,
+    slots: usize,
+    bodies: usize,
+    seen: &mut [u8],
+    used: &mut [u8],
+) -> bool
+    requires { ⌜ (slots ≤ maxSlots) × (length (now table) ≡ tableWords slots) × (bodies ≤ maxBodies) × (pairsOk slots (now table) ≡ true) × (min cells maxCells ≤ length (now seen)) × (bodies ≤ length (now used)) ⌝ }
+    requires { ⌜ Blank (now seen) × Blank (now used) ⌝ }
     ensures { λ r. ⌜ r ≡ ruleOk cells slots bodies (effective (pairsAt slots) (now (table .entry))) ⌝ }
 {
     let first = pairs_at(slots);
     let mut copy = no_words();
     copy_words(table, first, &mut copy);
     put_pairs(table, first, wide(table[PENDING_AT]), &mut copy);
-    rule_ok(&copy, cells, slots, bodies)
+    rule_ok(&copy, cells, slots, bodies, seen, used)
 }
 
-// Question 4: is the table right, pending pairs included? With none pending it is its own meaning, and no copy is made.
-pub fn table_ok(table: &[u32], cells: usize, slots: usize, bodies: usize) -> bool
-    requires { ⌜ (slots ≤ maxSlots) × (length (now table) ≡ tableWords slots) × (bodies ≤ maxBodies) ⌝ }
+// Question 4: is the table right, pending pairs included? With none pending it is its own meaning, no copy is made, and the marks are its own.
+pub fn table_ok(
+    table: &[u32],
+    cells: usize,
+    slots: usize,
+    bodies: usize,
+    seen: &mut [u8],
+    used: &mut [u8],
+) -> bool
+    requires { ⌜ (slots ≤ maxSlots) × (length (now table) ≡ tableWords slots) × (bodies ≤ maxBodies) × (min cells maxCells ≤ length (now seen)) × (bodies ≤ length (now used)) ⌝ }
+    requires { ⌜ Blank (now seen) × Blank (now used) ⌝ }
     ensures { λ r. ⌜ r ≡ tableOk cells slots bodies (now (table .entry)) ⌝ }
+    ensures marks { λ r. ⌜ (r ≡ true → pending (now (table .entry)) ≡ 0 → AllMarked slots (now (table .entry)) (now (seen .exit)) (now (used .exit))) ⌝ }
 {
     if !pairs_ok(table, slots) {
         return false;
     }
     if table[PENDING_AT] == 0 {
-        return rule_ok(table, cells, slots, bodies);
+        return rule_ok(table, cells, slots, bodies, seen, used);
     }
-    pending_ok(table, cells, slots, bodies)
+    pending_ok(table, cells, slots, bodies, seen, used)
 }
 
 // ---- changes of entries

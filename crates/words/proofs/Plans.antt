@@ -10,7 +10,7 @@ use borrow.Rule.Slice.PartMut.{putMid, midOf, postOf, put-same}
 use lib.ListN.{length, getD, take, drop, set, length-set}
 use lib.Seq.{take-nil, getD-set-other, getD-set-same, set-getD, set-comm, take-set-le, take-set-lt, drop-set-add, drop-set-lt}
 use Rattle.words.specs.Stores.{tab, tabFrom, run, Store, _≔_, store, stores}
-use Rattle.words.specs.Cells.{copyPlan, cellPlan}
+use Rattle.words.specs.Cells.{copyPlan, cellPlan, Copied}
 
 -- ---- lists made by a rule
 
@@ -247,3 +247,10 @@ pub copy-turn : (s d₀ d : List ℕ) (j : ℕ) → j < 64 → d ≡ stores (tak
     → set d j (getD s j 0) ≡ stores (take (j + 1) (copyPlan s)) d₀
 unfolding copyPlan
 copy-turn s d₀ d j h e = rw e (run-take-tab store j 64 (λ i. i ≔ getD s i 0) d₀ h)
+
+-- and of one that stores a quarter of the bytes, from `at` on, which was read before
+pub quarter-turn : (s d₀ quarter d : List ℕ) (at j : ℕ) → at + 16 ≤ 64 → j < 16 → (j < 16 → getD quarter j 0 ≡ getD s (at + j) 0) → Copied s d₀ (at + j) d
+    → Copied s d₀ (at + (j + 1)) (set d (at + j) (getD quarter j 0))
+quarter-turn s d₀ quarter d at j fits l same h =
+    let next : at + j + 1 ≡ at + (j + 1) = omega arith in
+    ap (set d (at + j)) (same l) ∙ copy-turn s d₀ d (at + j) (omega arith) h ∙ ap (λ (n : ℕ). stores (take n (copyPlan s)) d₀) next

@@ -5,11 +5,12 @@
 // each table word, so that no store is dead to the compiler.
 ghost use mathlib.Core.Path.{_≡_};
 ghost use Prim.Native.Nat.{ℕ, _+_, _-_, _*_, _≤_, _<_, min};
+ghost use mathlib.Core.List.{List};
 ghost use lib.ListN.{length, take, getD};
 ghost use Rattle.words.specs.Layout.{cellAt, pendingAt};
 ghost use Rattle.words.specs.Stores.{stores};
 ghost use Rattle.words.specs.Journal.{pairPlan, applyPlan, publishPlan, finishPlan, journalSteps};
-ghost use Rattle.words.specs.Cells.{cellBytes, sameCell, copyPlan, cellPlan};
+ghost use Rattle.words.specs.Cells.{cellBytes, sameCell, copyPlan, cellPlan, Copied};
 
 pub mod layout;
 
@@ -60,17 +61,76 @@ pub fn same_cell(buffer: &[u8], cell: usize, others: &[u8], other: usize) -> boo
     same_bytes(&buffer[a..a + 64], &others[b..b + 64])
 }
 
-// Copies the 64 bytes of src over those of dst, at most budget of them.
-pub fn copy_bytes(src: &[u8], dst: &mut [u8], budget: usize)
-    requires { ⌜ (length (now src) ≡ 64) × (length (now dst) ≡ 64) ⌝ }
-    ensures { λ _. ⌜ now (dst .exit) ≡ stores (take budget (copyPlan (now (src .entry)))) (now (dst .entry)) ⌝ }
+// A quarter of the 64 bytes of src, from `at` on.
+fn quarter_of(src: &[u8], at: usize) -> [u8; 16]
+    requires { ⌜ (at + 16 ≤ 64) × (length (now src) ≡ 64) ⌝ }
+    ensures { λ r. ⌜ ((j : ℕ) → j < 16 → getD r j 0 ≡ getD (now (src .entry)) (at + j) 0) ⌝ }
 {
-    let n = least(budget, 64);
+    let mut quarter = [0u8; 16];
+    let mut j: usize = 0;
+    while j < 16 {
+        quarter[j] = src[at + j];
+        j += 1;
+    }
+    quarter
+}
+
+// Stores a quarter in dst from `at` on: where dst has the bytes of some s up to `at`, and the quarter is the next of s, it then has them up to
+// `at + 16`.
+fn put_quarter(quarter: &[u8; 16], dst: &mut [u8], at: usize)
+    requires { ⌜ (at + 16 ≤ 64) × (length (now dst) ≡ 64) ⌝ }
+    ensures { λ _. ⌜ ((s d : List ℕ) → ((j : ℕ) → j < 16 → getD (now (quarter .entry)) j 0 ≡ getD s (at + j) 0) → Copied s d at (now (dst .entry)) → Copied s d (at + 16) (now (dst .exit))) ⌝ }
+{
+    let mut j: usize = 0;
+    while j < 16 {
+        dst[at + j] = quarter[j];
+        j += 1;
+    }
+}
+
+// Copies a quarter of the 64 bytes of src over dst. It is read before its first byte is stored, so that the compiler moves it at once: it
+// cannot where a store might change a byte that is yet to be read.
+fn copy_quarter(src: &[u8], dst: &mut [u8], at: usize)
+    requires { ⌜ (at + 16 ≤ 64) × (length (now src) ≡ 64) × (length (now dst) ≡ 64) ⌝ }
+    ensures { λ _. ⌜ ((d : List ℕ) → Copied (now (src .entry)) d at (now (dst .entry)) → Copied (now (src .entry)) d (at + 16) (now (dst .exit))) ⌝ }
+{
+    let quarter = quarter_of(src, at);
+    put_quarter(&quarter, dst, at);
+}
+
+// Copies the 64 bytes of src over those of dst, quarter by quarter, so that the compiler keeps them in rising order.
+fn copy_whole(src: &[u8], dst: &mut [u8])
+    requires { ⌜ (length (now src) ≡ 64) × (length (now dst) ≡ 64) ⌝ }
+    ensures { λ _. ⌜ Copied (now (src .entry)) (now (dst .entry)) 64 (now (dst .exit)) ⌝ }
+{
+    copy_quarter(src, dst, 0);
+    copy_quarter(src, dst, 16);
+    copy_quarter(src, dst, 32);
+    copy_quarter(src, dst, 48);
+}
+
+// Copies the first n of the 64 bytes of src over those of dst, byte by byte.
+fn copy_first(src: &[u8], dst: &mut [u8], n: usize)
+    requires { ⌜ (n ≤ 64) × (length (now src) ≡ 64) × (length (now dst) ≡ 64) ⌝ }
+    ensures { λ _. ⌜ Copied (now (src .entry)) (now (dst .entry)) n (now (dst .exit)) ⌝ }
+{
     let mut j = 0;
     while j < n {
         dst[j] = src[j];
         j += 1;
     }
+}
+
+// Copies the 64 bytes of src over those of dst, at most budget of them.
+pub fn copy_bytes(src: &[u8], dst: &mut [u8], budget: usize)
+    requires { ⌜ (length (now src) ≡ 64) × (length (now dst) ≡ 64) ⌝ }
+    ensures { λ _. ⌜ now (dst .exit) ≡ stores (take budget (copyPlan (now (src .entry)))) (now (dst .entry)) ⌝ }
+{
+    if 64 <= budget {
+        copy_whole(src, dst);
+        return;
+    }
+    copy_first(src, dst, budget);
 }
 
 // Copies cell `from` of src over cell `to` of dst, at most budget bytes of it.

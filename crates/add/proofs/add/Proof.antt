@@ -1,15 +1,16 @@
 -- `add::add` meets its contract. Assumes nothing.
-use Prim.Native.Nat.{ℕ, _+_, _-_, _*_, _≤_, _<_}
-use mathlib.Core.Path.{_≡_, refl, sym, ap, subst, _∙_}
+use mathlib.Core.Path.{ap, _∙_}
 use Rattle.store.proofs.Means.{seenOf}
-use Rattle.add.proofs.Asking.{add-ready}
-use Rattle.add.proofs.Added.{add-means, add-refused, add-performed}
+use Rattle.add.proofs.Added.{add-means}
 use borrow.Author.Needs.{needs}
 use Rattle.add.proofs.add.Statement.{statement}
 use Rattle.add.proofs.add.Tie as tie
 
-add-check-requires : tie.Need-add-check-requires
-add-check-requires c κs = search needs
+cells-of-requires : tie.Need-cells-of-requires
+cells-of-requires c κs = search needs
+
+add-few-requires : tie.Need-add-few-requires
+add-few-requires c κs = search needs
 
 same-length : tie.Need-same-length
 same-length c = search needs
@@ -18,24 +19,10 @@ same-length-2 : tie.Need-same-length-2
 same-length-2 c = search needs
 
 returns : tie.Need-returns
-returns c =
-    let a = c .before .before .before .before .before .before .before .args in
-    let e = add-refused (a .memory .now) (a .bodies .now) (a .table .now) (a .handle) (a .first) (a .count) (a .kind) (a .label) (a .budget) _ (c .before .add-check .ensures) (c .if1 .taken) in
-    (e, ap seenOf e ∙ add-means (a .handle) (a .first) (a .count) (a .kind) (a .label) _ _)
+returns c = (c .before .before .before .before .add-few .ensures, ap seenOf (c .before .before .before .before .add-few .ensures) ∙ add-means (c .before .before .before .before .before .before .before .before .before .before .before .before .args .handle) (c .before .before .before .before .before .before .before .before .before .before .before .before .args .first) (c .before .before .before .before .before .before .before .before .before .before .before .before .args .count) (c .before .before .before .before .before .before .before .before .before .before .before .before .args .kind) (c .before .before .before .before .before .before .before .before .before .before .before .before .args .label) _ _)
 
-wide-requires : tie.Need-wide-requires
-wide-requires c κs = search needs
-
-wide-requires-2 : tie.Need-wide-requires-2
-wide-requires-2 c κs = search needs
-
-add-stores-requires : tie.Need-add-stores-requires
-add-stores-requires c κs =
-    let a = c .before .before .before .before .before .before .before .before .before .before .before .args in
-    rw (c .before .wide .ensures, c .wide2 .ensures) (add-ready (a .memory .now) (a .bodies .now) (a .table .now) (a .handle) (a .first) (a .count) (a .kind) (a .label) (sym (c .before .before .before .before .before .add-check .ensures) ∙ c .before .before .before .before .if1 .left))
-
-answer-of-requires : tie.Need-answer-of-requires
-answer-of-requires c κs = search needs
+add-many-requires : tie.Need-add-many-requires
+add-many-requires c κs = search needs
 
 same-length-3 : tie.Need-same-length-3
 same-length-3 c = search needs
@@ -44,24 +31,18 @@ same-length-4 : tie.Need-same-length-4
 same-length-4 c = search needs
 
 returns-2 : tie.Need-returns-2
-returns-2 c =
-    let a = c .before .before .before .before .before .before .before .before .before .before .before .before .before .before .before .before .before .args in
-    let s = rw (c .before .before .before .before .before .before .before .wide .ensures, c .before .before .before .before .before .before .wide2 .ensures) at (c .before .before .before .before .before .add-stores .ensures) in
-    let e = add-performed (a .memory .now) (a .bodies .now) (a .table .now) (a .handle) (a .first) (a .count) (a .kind) (a .label) (a .budget) (c .before .before .before .before .before .add-stores .result) _ _ _ (sym (c .before .before .before .before .before .before .before .before .before .before .before .add-check .ensures) ∙ c .before .before .before .before .before .before .before .before .before .before .if1 .left) (s .0) (s .1 .0) (s .1 .1) (c .answer-of .ensures) in
-    (e, ap seenOf e ∙ add-means (a .handle) (a .first) (a .count) (a .kind) (a .label) _ _)
+returns-2 c = (c .before .before .before .before .add-many .ensures, ap seenOf (c .before .before .before .before .add-many .ensures) ∙ add-means (c .before .before .before .before .before .before .before .before .before .before .before .before .args .handle) (c .before .before .before .before .before .before .before .before .before .before .before .before .args .first) (c .before .before .before .before .before .before .before .before .before .before .before .before .args .count) (c .before .before .before .before .before .before .before .before .before .before .before .before .args .kind) (c .before .before .before .before .before .before .before .before .before .before .before .before .args .label) _ _)
 
 pub add-spec : {M : Type 1} → statement M
 add-spec =
     tie.close
     (tie.spec
-    add-check-requires
+    cells-of-requires
+    add-few-requires
     same-length
     same-length-2
     returns
-    wide-requires
-    wide-requires-2
-    add-stores-requires
-    answer-of-requires
+    add-many-requires
     same-length-3
     same-length-4
     returns-2)

@@ -1,12 +1,9 @@
 -- `add::add_check` meets its contract. Assumes nothing.
-use Prim.Native.Nat.{ℕ, _+_, _-_, _*_, _≤_, _<_}
-use mathlib.Core.Path.{_≡_, refl, sym, ap, subst, _∙_}
-use mathlib.Core.List.{List, []}
+use Prim.Native.Nat.{_+_, _-_, _≤_}
+use mathlib.Core.Path.{sym, _∙_}
 use native.Mathlib.Omega.{arith}
-use lib.ListN.{length, getD}
-use Rattle.words.specs.Layout.{slotsOf, cellsOf, maxCells}
-use Rattle.table.proofs.Marks.{zeros-length, zeros-clear}
-use Rattle.add.specs.Walking.{Held}
+use lib.ListN.{length}
+use Rattle.words.specs.Layout.{cellsOf}
 use Rattle.add.proofs.Asking.{lengths, table-right, range-facts, check-store, check-range, check-rest}
 use borrow.Author.Needs.{needs}
 use Rattle.add.proofs.add_check.Statement.{statement}
@@ -15,40 +12,38 @@ use Rattle.add.proofs.add_check.Tie as tie
 store-check-requires : tie.Need-store-check-requires
 store-check-requires c κs = search needs
 
+same-length : tie.Need-same-length
+same-length c = search needs
+
+same-length-2 : tie.Need-same-length-2
+same-length-2 c = search needs
+
 returns : tie.Need-returns
-returns c = check-store (c .before .before .before .before .before .args .memory .now) (c .before .before .before .before .before .args .bodies .now) (c .before .before .before .before .before .args .table .now) _ _ _ _ _ (c .before .store-check .result) (c .before .store-check .ensures) (c .if1 .taken)
+returns c =
+    let a = c .before .before .before .before .before .before .before .before .before .before .before .before .before .args in
+    (check-store (a .memory .now) (a .bodies .now) (a .table .now) _ _ _ _ _ (c .before .before .before .before .before .store-check .result) (c .before .before .before .before .before .store-check .ensures .0) (c .if1 .taken), λ z. absurd (c .if1 .taken z))
+
+cells-of-requires : tie.Need-cells-of-requires
+cells-of-requires c κs = search needs
 
 range-check-requires : tie.Need-range-check-requires
 range-check-requires c κs =
-    let good = sym (c .before .store-check .ensures) ∙ c .if1 .left in
-    let f = lengths (c .before .before .before .before .before .args .memory .now) (c .before .before .before .before .before .args .bodies .now) (c .before .before .before .before .before .args .table .now) good in
-    let right = table-right (c .before .before .before .before .before .args .memory .now) (c .before .before .before .before .before .args .bodies .now) (c .before .before .before .before .before .args .table .now) good in
-    (omega (arith, f .table-exact), right .live)
+    let a = c .before .before .before .before .before .before .before .before .before .before .before .before .before .before .args in
+    let good = sym (c .before .before .before .before .before .before .store-check .ensures .0) ∙ c .before .if1 .left in
+    let f = lengths (a .memory .now) (a .bodies .now) (a .table .now) good in
+    (omega (arith, f .table-exact), table-right (a .memory .now) (a .bodies .now) (a .table .now) good .live)
+
+same-length-3 : tie.Need-same-length-3
+same-length-3 c = search needs
+
+same-length-4 : tie.Need-same-length-4
+same-length-4 c = search needs
 
 returns-2 : tie.Need-returns-2
-returns-2 c = check-range (c .before .before .before .before .before .before .before .args .memory .now) (c .before .before .before .before .before .before .before .args .bodies .now) (c .before .before .before .before .before .before .before .args .table .now) _ _ _ _ _ (c .before .range-check .result) (sym (c .before .before .before .store-check .ensures) ∙ c .before .before .if1 .left) (c .before .range-check .ensures) (c .if2 .taken)
-
-no-marks-requires : tie.Need-no-marks-requires
-no-marks-requires c κs = search needs
-
-slots-of-requires : tie.Need-slots-of-requires
-slots-of-requires c κs = search needs
-
-shared-slice-read-mark-held : tie.Need-shared-slice-read-mark-held
-shared-slice-read-mark-held c =
-    let f = lengths (c .before .before .before .before .before .before .before .before .before .before .args .memory .now) (c .before .before .before .before .before .before .before .before .before .before .args .bodies .now) (c .before .before .before .before .before .before .before .before .before .before .args .table .now) (sym (c .before .before .before .before .before .before .store-check .ensures) ∙ c .before .before .before .before .before .if1 .left) in
-    omega (arith, f .table-exact)
-
-slice-aggregate-mark-held : tie.Need-slice-aggregate-mark-held
-slice-aggregate-mark-held c = search needs
-
-mark-held-requires : tie.Need-mark-held-requires
-mark-held-requires c κs =
-    let f = lengths (c .before .before .before .before .before .before .before .before .before .before .before .args .memory .now) (c .before .before .before .before .before .before .before .before .before .before .before .args .bodies .now) (c .before .before .before .before .before .before .before .before .before .before .before .args .table .now) (sym (c .before .before .before .before .before .before .before .store-check .ensures) ∙ c .before .before .before .before .before .before .if1 .left) in
-    ((rw (c .before .before .slots-of .ensures) (f .slots-high), omega (arith, c .before .before .slots-of .ensures, f .table-exact), ap length (c .before .before .before .no-marks .ensures) ∙ zeros-length 65536), λ x. ap (λ (s : List ℕ). getD s x 0) (c .before .before .before .no-marks .ensures) ∙ zeros-clear 65536 x)
-
-slice-aggregate-held-check : tie.Need-slice-aggregate-held-check
-slice-aggregate-held-check c = search needs
+returns-2 c =
+    let a = c .before .before .before .before .before .before .before .before .before .before .before .before .before .before .before .before .args in
+    let here = rw (c .before .before .cells-of .ensures) at (c .before .range-check .ensures) in
+    (check-range (a .memory .now) (a .bodies .now) (a .table .now) _ _ _ _ _ (c .before .range-check .result) (sym (c .before .before .before .before .before .before .before .before .store-check .ensures .0) ∙ c .before .before .before .if1 .left) here (c .if2 .taken), λ z. absurd (c .if2 .taken z))
 
 wide-requires : tie.Need-wide-requires
 wide-requires c κs = search needs
@@ -58,34 +53,45 @@ wide-requires-2 c κs = search needs
 
 held-check-requires : tie.Need-held-check-requires
 held-check-requires c κs =
-    let good = sym (c .before .before .before .before .before .before .before .before .before .before .before .before .store-check .ensures) ∙ c .before .before .before .before .before .before .before .before .before .before .before .if1 .left in
-    let r = range-facts (c .before .before .before .before .before .before .before .before .before .before .before .before .before .before .before .before .args .table .now) (cellsOf (length (c .before .before .before .before .before .before .before .before .before .before .before .before .before .before .before .before .args .memory .now))) (c .before .before .before .before .before .before .before .before .before .before .before .before .before .before .before .before .args .handle) (c .before .before .before .before .before .before .before .before .before .before .before .before .before .before .before .before .args .base) (c .before .before .before .before .before .before .before .before .before .before .before .before .before .before .before .before .args .len) (c .before .before .before .before .before .before .before .before .before .before .before .before .before .before .before .before .args .kind) (c .before .before .before .before .before .before .before .before .before .before .before .before .before .before .before .before .args .label) (sym (c .before .before .before .before .before .before .before .before .before .before .range-check .ensures) ∙ c .before .before .before .before .before .before .before .before .before .if2 .left) in (
-      good,
-      r .inner,
-      omega (arith, r .range, c .before .wide .ensures, c .wide2 .ensures),
-      record { long = c .before .before .before .before .mark-held .kept .1 .1 .1 .0 ∙ ap length (c .before .before .before .before .before .before .before .before .no-marks .ensures) ∙ zeros-length 65536; marks = rw (c .before .before .before .before .before .before .before .slots-of .ensures) at (c .before .before .before .before .mark-held .ensures) },
+    let a = c .before .before .before .before .before .before .before .before .before .before .before .before .before .before .before .before .before .before .before .args in
+    let good = sym (c .before .before .before .before .before .before .before .before .before .before .before .store-check .ensures .0) ∙ c .before .before .before .before .before .before .if1 .left in
+    let f = lengths (a .memory .now) (a .bodies .now) (a .table .now) good in
+    let r = range-facts (a .table .now) (cellsOf (length (a .memory .now))) (a .handle) (a .base) (a .len) (a .kind) (a .label) (sym (rw (c .before .before .before .before .before .cells-of .ensures) at (c .before .before .before .before .range-check .ensures)) ∙ c .before .before .before .if2 .left) in
+    let within : c .before .wide .result + c .wide2 .result ≤ cellsOf (length (a .memory .now)) = omega (arith, r .range, c .before .wide .ensures, c .wide2 .ensures) in (
+      (good, r .inner, within),
+      (omega (arith, within, f .cells-high, c .before .before .before .before .before .before .before .before .before .before .before .before .before .before .before .before .before .before .before .pre .0 .0, c .before .before .before .before .before .before .before .before .before .before .before .store-check .kept .1 .1 .1 .0), c .before .before .before .before .before .before .before .before .before .before .before .store-check .ensures .1 (c .before .before .before .before .before .before .if1 .left) .cells),
     )
+
+same-length-5 : tie.Need-same-length-5
+same-length-5 c = search needs
+
+same-length-6 : tie.Need-same-length-6
+same-length-6 c = search needs
 
 returns-3 : tie.Need-returns-3
 returns-3 c =
-    check-rest (c .before .before .before .before .before .before .before .before .before .before .before .before .before .before .before .before .before .args .memory .now) (c .before .before .before .before .before .before .before .before .before .before .before .before .before .before .before .before .before .args .bodies .now) (c .before .before .before .before .before .before .before .before .before .before .before .before .before .before .before .before .before .args .table .now) (c .before .before .before .before .before .before .before .before .before .before .before .before .before .before .before .before .before .args .handle) (c .before .before .before .before .before .before .before .before .before .before .before .before .before .before .before .before .before .args .base) (c .before .before .before .before .before .before .before .before .before .before .before .before .before .before .before .before .before .args .len) (c .before .before .before .before .before .before .before .before .before .before .before .before .before .before .before .before .before .args .kind) (c .before .before .before .before .before .before .before .before .before .before .before .before .before .before .before .before .before .args .label) (c .held-check .result) (sym (c .before .before .before .before .before .before .before .before .before .before .before .before .before .store-check .ensures) ∙ c .before .before .before .before .before .before .before .before .before .before .before .before .if1 .left) (sym (c .before .before .before .before .before .before .before .before .before .before .before .range-check .ensures) ∙ c .before .before .before .before .before .before .before .before .before .before .if2 .left)
-    (rw (c .before .before .wide .ensures, c .before .wide2 .ensures) at (c .held-check .ensures))
+    let a = c .before .before .before .before .before .before .before .before .before .before .before .before .before .before .before .before .before .before .before .before .args in (
+      check-rest (a .memory .now) (a .bodies .now) (a .table .now) (a .handle) (a .base) (a .len) (a .kind) (a .label) (c .held-check .result) (sym (c .before .before .before .before .before .before .before .before .before .before .before .before .store-check .ensures .0) ∙ c .before .before .before .before .before .before .before .if1 .left) (sym (rw (c .before .before .before .before .before .before .cells-of .ensures) at (c .before .before .before .before .before .range-check .ensures)) ∙ c .before .before .before .before .if2 .left)
+          (rw (c .before .before .wide .ensures, c .before .wide2 .ensures) at (c .held-check .ensures)),
+      λ z. c .before .before .before .before .before .before .before .before .before .before .before .before .store-check .ensures .1 (c .before .before .before .before .before .before .before .if1 .left),
+    )
 
 pub add-check-spec : {M : Type 1} → statement M
 add-check-spec =
     tie.close
     (tie.spec
     store-check-requires
+    same-length
+    same-length-2
     returns
+    cells-of-requires
     range-check-requires
+    same-length-3
+    same-length-4
     returns-2
-    no-marks-requires
-    slots-of-requires
-    shared-slice-read-mark-held
-    slice-aggregate-mark-held
-    mark-held-requires
-    slice-aggregate-held-check
     wide-requires
     wide-requires-2
     held-check-requires
+    same-length-5
+    same-length-6
     returns-3)

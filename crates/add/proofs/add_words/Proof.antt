@@ -1,11 +1,11 @@
 -- `add::add_words` meets its contract. Assumes nothing.
-use Prim.Native.Nat.{ℕ, _+_, _-_, _*_, _≤_, _<_}
-use mathlib.Core.Path.{_≡_, refl, sym, ap, subst, _∙_}
-use mathlib.Core.List.{List, []}
+use Prim.Native.Nat.{ℕ, _+_, _-_, _*_, _≤_}
+use mathlib.Core.Path.{ap, _∙_}
+use mathlib.Core.List.{List}
 use native.Mathlib.Omega.{arith}
 use lib.ListN.{length, take}
 use Rattle.words.specs.Layout.{pairsAt, slotsOf}
-use Rattle.words.specs.Stores.{Store, stores}
+use Rattle.words.specs.Stores.{Store}
 use Rattle.words.proofs.Plans.{length-stores}
 use Rattle.words.proofs.Places.{pendingAt-below}
 use Rattle.words.proofs.Phases.{journal-ready, journal-steps, journal-whole, steps-small}

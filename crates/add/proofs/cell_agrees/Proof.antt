@@ -1,22 +1,25 @@
 -- `add::cell_agrees` meets its contract. Assumes nothing.
-use mathlib.Core.Path.{_≡_, refl, sym, ap, _∙_}
-use borrow.Author.Tests.{eq-eqb, ne-eqb}
-use Rattle.add.proofs.Asking.{not-zero}
+use mathlib.Core.Path.{sym, _∙_}
+use borrow.Author.Tests.{not-true, not-false}
 use borrow.Author.Needs.{needs}
 use Rattle.add.proofs.cell_agrees.Statement.{statement}
 use Rattle.add.proofs.cell_agrees.Tie as tie
 
-shared-slice-read-if1 : tie.Need-shared-slice-read-if1
-shared-slice-read-if1 c = search needs
+is-new-requires : tie.Need-is-new-requires
+is-new-requires c κs = search needs
 
 returns : tie.Need-returns
-returns c = rw (ne-eqb _ _ (c .if1 .taken))
+returns c = rw (sym (c .before .is-new .ensures) ∙ not-true _ (c .if1 .taken))
+
+sub-same-value : tie.Need-sub-same-value
+sub-same-value c = search needs
 
 same-value-requires : tie.Need-same-value-requires
-same-value-requires c κs = (c .before .before .before .before .before .before .pre .0 .0, c .before .before .before .before .before .before .pre .0 .1, c .before .before .before .before .before .before .pre .0 .2, c .before .before .before .before .before .before .pre .0 .3, c .before .before .before .before .before .before .pre .1 (eq-eqb _ _ (c .if1 .left)))
+same-value-requires c κs = (c .before .before .before .before .before .before .pre .0 .0, c .before .before .before .before .before .before .pre .0 .1, c .before .before .before .before .before .before .pre .0 .2, c .before .before .before .before .before .before .pre .0 .3, c .before .before .before .before .before .before .pre .1 (sym (c .before .is-new .ensures) ∙ not-false _ (c .if1 .left)))
 
 returns-2 : tie.Need-returns-2
-returns-2 c = c .same-value .ensures ∙ rw (eq-eqb _ _ (c .before .if1 .left))
+returns-2 c = c .same-value .ensures ∙ rw (sym (c .before .before .is-new .ensures) ∙ not-false _ (c .before .if1 .left))
 
 pub cell-agrees-spec : {M : Type 1} → statement M
-cell-agrees-spec = tie.close (tie.spec shared-slice-read-if1 returns same-value-requires returns-2)
+cell-agrees-spec =
+    tie.close (tie.spec is-new-requires returns sub-same-value same-value-requires returns-2)

@@ -1,9 +1,8 @@
 -- `add::copy_new` meets its contract. The loop's invariant: the plans of the cells passed are stored, and as many free bodies are passed as new cells (proofs/Walks.antt). Assumes nothing.
 use borrow.Author.Needs.{needs}
-use Prim.Native.Nat.{ℕ, _+_, _-_, _*_, _≤_, _<_}
-use mathlib.Core.Path.{_≡_, refl, sym, ap, subst, _∙_}
-use mathlib.Core.Bool.{Bool, true, false, cond}
-use mathlib.Core.List.{List, []}
+use Prim.Native.Nat.{ℕ, _-_, _*_, _≤_}
+use mathlib.Core.Path.{_≡_, refl, ap, _∙_}
+use mathlib.Core.List.{List}
 use native.Mathlib.Omega.{arith}
 use lib.ListN.{length, take}
 use Rattle.words.specs.Layout.{cellsOf}
@@ -12,31 +11,31 @@ use Rattle.words.specs.Stores.{Store, store, stores, gather}
 use Rattle.words.proofs.Plans.{stores-none, length-stores}
 use Rattle.words.proofs.Gather.{gather-turn, gather-length}
 use Rattle.add.specs.Walking.{unheld, spare}
+use Rattle.add.proofs.Asking.{most-one}
 use Rattle.add.proofs.Walks.{copyPlanOf, copy-bytes, copy-none, copy-room, copy-plan, copy-length, copy-next}
 use Rattle.add.proofs.copy_new.Statement.{statement}
 use Rattle.add.proofs.copy_new.Tie as tie
 
-small : (r : ℕ) (b : Bool) → r ≡ cond b 1 0 → r ≤ 1
-small r true q = omega arith
-small r false q = omega arith
-
 abbrev Inv-loop : tie.InvT-loop
-Inv-loop memory bodies₀ held used base len kind budget made₀ from₀ j₀ bodies made from j =
-    (j ≤ len) × (made ≤ 64 * j) × (length bodies ≡ length bodies₀) × (from ≤ cellsOf (length bodies₀)) × (count from (spare used) ≡ count j (unheld held base))
-    × (made ≡ length (gather j (copyPlanOf (cellsOf (length bodies₀)) memory held used base len)))
-    × (bodies ≡ stores (take budget (gather j (copyPlanOf (cellsOf (length bodies₀)) memory held used base len))) bodies₀)
+Inv-loop memory bodies₀ held depth used base len kind start budget made₀ from₀ j₀ bodies made from j =
+    (j ≤ len) × (made ≤ 64 * j) × (length bodies ≡ length bodies₀) × (from ≤ cellsOf (length bodies₀)) × (count from (spare used) ≡ count j (unheld held depth base))
+    × (made ≡ length (gather j (copyPlanOf (cellsOf (length bodies₀)) memory held used depth base len)))
+    × (bodies ≡ stores (take budget (gather j (copyPlanOf (cellsOf (length bodies₀)) memory held used depth base len))) bodies₀)
 
 abbrev μ-loop : tie.MeasureT-loop
-μ-loop memory bodies₀ held used base len kind budget made₀ from₀ j₀ bodies made from j = len - j
+μ-loop memory bodies₀ held depth used base len kind start budget made₀ from₀ j₀ bodies made from j = len - j
 
 returns : tie.Need-returns Inv-loop μ-loop
 returns c =
-    let z = copy-none (cellsOf (length (c .before .before .before .before .before .args .bodies .now))) (c .before .before .before .before .before .args .memory .now) (c .before .before .before .before .before .args .held .now) (c .before .before .before .before .before .args .used .now) (c .before .before .before .before .before .args .base) (c .before .before .before .before .before .args .len) (c .before .before .before .before .before .args .kind) (c .if1 .taken) in
-    (rw z (stores-none (c .before .before .before .before .before .args .budget) (c .before .before .before .before .before .args .bodies .now)), (rw z, search needs))
+    let a = c .before .before .before .before .before .args in
+    let z = copy-none (cellsOf (length (a .bodies .now))) (a .memory .now) (a .held .now) (a .used .now) (a .depth) (a .base) (a .len) (a .kind) (c .if1 .taken) in
+    (rw z (stores-none (a .budget) (a .bodies .now)), (rw z, search needs))
 
 loop-holds : tie.Need-loop-holds Inv-loop μ-loop
 unfolding count
-loop-holds c = (search needs, search needs, refl, search needs, refl, refl, stores-none (c .before .before .before .before .before .args .budget) (c .before .before .before .before .before .args .bodies .now))
+loop-holds c =
+    let start = c .before .before .before .before .before .pre .1 .1 (c .if1 .left) in
+    (search needs, search needs, refl, start .within, start .none, refl, stores-none (c .before .before .before .before .before .args .budget) (c .before .before .before .before .before .args .bodies .now))
 
 add-cell : tie.Need-add-cell Inv-loop μ-loop
 add-cell c = search needs
@@ -46,20 +45,21 @@ remaining-requires c κs = search needs
 
 copy-one-requires : tie.Need-copy-one-requires Inv-loop μ-loop
 copy-one-requires c κs =
+    let a = c .before .before .before .before .before .before .before .before .before .args in
     let i = c .before .before .before .loop .inv in
-    let room = c .before .before .before .before .before .before .before .before .before .pre .1 (c .before .before .before .before .if1 .left) in (
-      (search needs, search needs, omega arith, omega arith),
-      rw (i .2) (copy-room (cellsOf (length (c .before .before .before .before .before .before .before .before .before .args .bodies .now))) (c .before .before .before .before .before .before .before .before .before .args .memory .now) (c .before .before .before .before .before .before .before .before .before .args .held .now) (c .before .before .before .before .before .before .before .before .before .args .used .now) (c .before .before .before .before .before .before .before .before .before .args .base) (c .before .before .before .before .before .before .before .before .before .args .len) room (c .before .before .before .loop .j) (c .before .before .before .loop .from) (c .before .before .loop-test .taken) (i .3) (i .4)),
+    let room = c .before .before .before .before .before .before .before .before .before .pre .1 .0 (c .before .before .before .before .if1 .left) in (
+      (search needs, search needs, search needs, omega arith, omega arith),
+      rw (i .2) (copy-room (cellsOf (length (a .bodies .now))) (a .memory .now) (a .held .now) (a .used .now) (a .depth) (a .base) (a .len) room (c .before .before .before .loop .j) (c .before .before .before .loop .from) (c .before .before .loop-test .taken) (i .3) (i .4)),
     )
 
 new-here-requires : tie.Need-new-here-requires Inv-loop μ-loop
 new-here-requires c κs = search needs
 
 mul-made : tie.Need-mul-made Inv-loop μ-loop
-mul-made c = omega (arith, small (c .new-here .result) (unheld (c .before .before .before .before .before .before .before .before .before .before .before .before .before .args .held .now) (c .before .before .before .before .before .before .before .before .before .before .before .before .before .args .base) (c .before .before .before .before .before .before .before .loop .j)) (c .new-here .ensures))
+mul-made c = omega (arith, most-one (c .new-here .result) (unheld (c .before .before .before .before .before .before .before .before .before .before .before .before .before .args .held .now) (c .before .before .before .before .before .before .before .before .before .before .before .before .before .args .depth) (c .before .before .before .before .before .before .before .before .before .before .before .before .before .args .base) (c .before .before .before .before .before .before .before .loop .j)) (c .new-here .ensures))
 
 add-made : tie.Need-add-made Inv-loop μ-loop
-add-made c = omega (arith, c .before .before .before .before .before .before .before .loop .inv .1, small (c .new-here .result) (unheld (c .before .before .before .before .before .before .before .before .before .before .before .before .before .args .held .now) (c .before .before .before .before .before .before .before .before .before .before .before .before .before .args .base) (c .before .before .before .before .before .before .before .loop .j)) (c .new-here .ensures))
+add-made c = omega (arith, c .before .before .before .before .before .before .before .loop .inv .1, most-one (c .new-here .result) (unheld (c .before .before .before .before .before .before .before .before .before .before .before .before .before .args .held .now) (c .before .before .before .before .before .before .before .before .before .before .before .before .before .args .depth) (c .before .before .before .before .before .before .before .before .before .before .before .before .before .args .base) (c .before .before .before .before .before .before .before .loop .j)) (c .new-here .ensures))
 
 add-j : tie.Need-add-j Inv-loop μ-loop
 add-j c = search needs
@@ -72,16 +72,16 @@ loop-again c =
     let a = c .before .before .before .before .before .before .before .before .before .before .before .before .before .args in
     let b = c .before .before .before .before .before .before .before .loop in
     let i = b .inv in
-    let room = c .before .before .before .before .before .before .before .before .before .before .before .before .before .pre .1 (c .before .before .before .before .before .before .before .before .if1 .left) in
+    let room = c .before .before .before .before .before .before .before .before .before .before .before .before .before .pre .1 .0 (c .before .before .before .before .before .before .before .before .if1 .left) in
     let many : ℕ = cellsOf (length (a .bodies .now)) in
-    let f : ℕ → List Store = copyPlanOf many (a .memory .now) (a .held .now) (a .used .now) (a .base) (a .len) in
+    let f : ℕ → List Store = copyPlanOf many (a .memory .now) (a .held .now) (a .used .now) (a .depth) (a .base) (a .len) in
     let n = rw (i .2) at (c .before .before .before .copy-one .ensures .1) in
-    let next = copy-next many (a .memory .now) (a .held .now) (a .used .now) (a .base) (a .len) room (b .j) (b .from) (c .before .before .before .before .before .before .loop-test .taken) (i .3) (i .4) (c .before .before .before .copy-one .result) n in
-    let plan = copy-plan many (a .memory .now) (a .held .now) (a .used .now) (a .base) (a .len) room (b .j) (b .from) (c .before .before .before .before .before .before .loop-test .taken) (i .3) (i .4) in
+    let next = copy-next many (a .memory .now) (a .held .now) (a .used .now) (a .depth) (a .base) (a .len) room (b .j) (b .from) (c .before .before .before .before .before .before .loop-test .taken) (i .3) (i .4) (c .before .before .before .copy-one .result) n in
+    let plan = copy-plan many (a .memory .now) (a .held .now) (a .used .now) (a .depth) (a .base) (a .len) room (b .j) (b .from) (c .before .before .before .before .before .before .loop-test .taken) (i .3) (i .4) in
     let w = rw (c .before .before .before .before .remaining .ensures, i .2, plan) at (c .before .before .before .copy-one .ensures .0) in
-    let one : 64 * c .new-here .result ≡ length (f (b .j)) = ap (λ (x : ℕ). 64 * x) (c .new-here .ensures) ∙ copy-length many (a .memory .now) (a .held .now) (a .used .now) (a .base) (a .len) room (b .j) (b .from) (c .before .before .before .before .before .before .loop-test .taken) (i .3) (i .4) in (
+    let one : 64 * c .new-here .result ≡ length (f (b .j)) = ap (λ (x : ℕ). 64 * x) (c .new-here .ensures) ∙ copy-length many (a .memory .now) (a .held .now) (a .used .now) (a .depth) (a .base) (a .len) room (b .j) (b .from) (c .before .before .before .before .before .before .loop-test .taken) (i .3) (i .4) in (
       search needs,
-      omega (arith, i .1, small (c .new-here .result) (unheld (a .held .now) (a .base) (b .j)) (c .new-here .ensures)),
+      omega (arith, i .1, most-one (c .new-here .result) (unheld (a .held .now) (a .depth) (a .base) (b .j)) (c .new-here .ensures)),
       ap length w ∙ length-stores (take (a .budget - b .made) (f (b .j))) (b .bodies) ∙ i .2,
       next .0,
       next .1,
@@ -94,9 +94,10 @@ same-length c = c .before .loop .inv .2
 
 returns-2 : tie.Need-returns-2 Inv-loop μ-loop
 returns-2 c =
+    let a = c .before .before .before .before .before .before .before .args in
     let i = c .before .loop .inv in
-    let last : c .before .loop .j ≡ c .before .before .before .before .before .before .before .args .len = omega arith in
-    let same = copy-bytes (cellsOf (length (c .before .before .before .before .before .before .before .args .bodies .now))) (c .before .before .before .before .before .before .before .args .memory .now) (c .before .before .before .before .before .before .before .args .held .now) (c .before .before .before .before .before .before .before .args .used .now) (c .before .before .before .before .before .before .before .args .base) (c .before .before .before .before .before .before .before .args .len) (c .before .before .before .before .before .before .before .args .kind) (c .before .before .if1 .left) in
+    let last : c .before .loop .j ≡ a .len = omega arith in
+    let same = copy-bytes (cellsOf (length (a .bodies .now))) (a .memory .now) (a .held .now) (a .used .now) (a .depth) (a .base) (a .len) (a .kind) (c .before .before .if1 .left) in
     (rw (same, ← last) (i .6), (rw (same, ← last) (i .5), omega arith))
 
 pub copy-new-spec : {M : Type 1} → statement M

@@ -1,25 +1,19 @@
--- `add::count_new` meets its contract. The loop's invariant: `new` counts the cells passed that have no mark. Assumes nothing.
+-- `add::count_new` meets its contract. The loop's invariant: `new` counts the new cells among those passed. Assumes nothing.
 use borrow.Author.Needs.{needs}
-use Prim.Native.Nat.{ℕ, _+_, _-_, _≤_, _<_}
-use mathlib.Core.Path.{_≡_, refl, sym, ap, _∙_}
+use Prim.Native.Nat.{ℕ, _-_, _≤_}
+use mathlib.Core.Path.{_≡_, refl, ap, _∙_}
 use native.Mathlib.Omega.{arith}
 use Rattle.words.specs.Scan.{count}
-use Rattle.words.proofs.Scan.{count-le}
 use Rattle.add.specs.Walking.{unheld}
-use Rattle.add.proofs.Asking.{count-add}
+use Rattle.add.proofs.Asking.{count-add, most-one}
 use Rattle.add.proofs.count_new.Statement.{statement}
 use Rattle.add.proofs.count_new.Tie as tie
-use mathlib.Core.Bool.{Bool, true, false, cond}
-
-small : (r : ℕ) (b : Bool) → r ≡ cond b 1 0 → r ≤ 1
-small r true q = omega arith
-small r false q = omega arith
 
 abbrev Inv-loop : tie.InvT-loop
-Inv-loop held base len new₀ j₀ new j = (j ≤ len) × (new ≤ j) × (new ≡ count j (unheld held base))
+Inv-loop held depth base len new₀ j₀ new j = (j ≤ len) × (new ≤ j) × (new ≡ count j (unheld held depth base))
 
 abbrev μ-loop : tie.MeasureT-loop
-μ-loop held base len new₀ j₀ new j = len - j
+μ-loop held depth base len new₀ j₀ new j = len - j
 
 loop-holds : tie.Need-loop-holds Inv-loop μ-loop
 unfolding count
@@ -32,7 +26,7 @@ new-here-requires : tie.Need-new-here-requires Inv-loop μ-loop
 new-here-requires c κs = search needs
 
 add-new : tie.Need-add-new Inv-loop μ-loop
-add-new c = omega (arith, c .before .before .loop .inv .1, small (c .new-here .result) (unheld (c .before .before .before .before .args .held .now) (c .before .before .before .before .args .base) (c .before .before .loop .j)) (c .new-here .ensures))
+add-new c = omega (arith, c .before .before .loop .inv .1, most-one (c .new-here .result) (unheld (c .before .before .before .before .args .held .now) (c .before .before .before .before .args .depth) (c .before .before .before .before .args .base) (c .before .before .loop .j)) (c .new-here .ensures))
 
 add-j : tie.Need-add-j Inv-loop μ-loop
 add-j c = search needs
@@ -41,12 +35,12 @@ loop-less : tie.Need-loop-less Inv-loop μ-loop
 loop-less c = search needs
 
 loop-again : tie.Need-loop-again Inv-loop μ-loop
-loop-again c = (search needs, omega (arith, c .before .before .loop .inv .1, small (c .new-here .result) (unheld (c .before .before .before .before .args .held .now) (c .before .before .before .before .args .base) (c .before .before .loop .j)) (c .new-here .ensures)), rw (← (c .new-here .ensures)) at (count-add (c .before .before .loop .j) (c .before .before .loop .new) (unheld (c .before .before .before .before .args .held .now) (c .before .before .before .before .args .base)) (c .before .before .loop .inv .2)))
+loop-again c = (search needs, omega (arith, c .before .before .loop .inv .1, most-one (c .new-here .result) (unheld (c .before .before .before .before .args .held .now) (c .before .before .before .before .args .depth) (c .before .before .before .before .args .base) (c .before .before .loop .j)) (c .new-here .ensures)), rw (← (c .new-here .ensures)) at (count-add (c .before .before .loop .j) (c .before .before .loop .new) (unheld (c .before .before .before .before .args .held .now) (c .before .before .before .before .args .depth) (c .before .before .before .before .args .base)) (c .before .before .loop .inv .2)))
 
 returns : tie.Need-returns Inv-loop μ-loop
 returns c =
     let last : c .before .loop .j ≡ c .before .before .before .args .len = omega arith in
-    c .before .loop .inv .2 ∙ ap (λ (k : ℕ). count k (unheld (c .before .before .before .args .held .now) (c .before .before .before .args .base))) last
+    c .before .loop .inv .2 ∙ ap (λ (k : ℕ). count k (unheld (c .before .before .before .args .held .now) (c .before .before .before .args .depth) (c .before .before .before .args .base))) last
 
 pub count-new-spec : {M : Type 1} → statement M
 count-new-spec =

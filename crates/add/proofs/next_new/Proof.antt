@@ -1,8 +1,7 @@
--- `add::next_new` meets its contract. The loop's invariant: no cell from `at` on and before j is without a mark. Assumes nothing.
+-- `add::next_new` meets its contract. The loop's invariant: no cell from `at` on and before j is new. Assumes nothing.
 use borrow.Author.Needs.{needs}
-use Prim.Native.Nat.{ℕ, _+_, _-_, _≤_, _<_}
-use mathlib.Core.Path.{_≡_, refl, sym, ap, _∙_}
-use borrow.Author.Tests.{eq-eqb, ne-eqb}
+use Prim.Native.Nat.{_-_, _≤_}
+use mathlib.Core.Path.{sym, _∙_}
 use Rattle.words.proofs.Scan.{not-lt}
 use Rattle.search.proofs.From.{Failing, failing-none, failing-more, from-at}
 use Rattle.add.specs.Walking.{unheld, nextUnheld}
@@ -10,23 +9,23 @@ use Rattle.add.proofs.next_new.Statement.{statement}
 use Rattle.add.proofs.next_new.Tie as tie
 
 abbrev Inv-loop : tie.InvT-loop
-Inv-loop held base len at j₀ j = (at ≤ j) × (j ≤ len) × Failing (unheld held base) at j
+Inv-loop held depth base len at j₀ j = (at ≤ j) × (j ≤ len) × Failing (unheld held depth base) at j
 
 abbrev μ-loop : tie.MeasureT-loop
-μ-loop held base len at j₀ j = len - j
+μ-loop held depth base len at j₀ j = len - j
 
 loop-holds : tie.Need-loop-holds Inv-loop μ-loop
 loop-holds c = (search needs, search needs, failing-none _ _)
 
-add-if1 : tie.Need-add-if1 Inv-loop μ-loop
-add-if1 c = search needs
+add-is-new : tie.Need-add-is-new Inv-loop μ-loop
+add-is-new c = search needs
 
-shared-slice-read-if1 : tie.Need-shared-slice-read-if1 Inv-loop μ-loop
-shared-slice-read-if1 c = search needs
+is-new-requires : tie.Need-is-new-requires Inv-loop μ-loop
+is-new-requires c κs = search needs
 
 returns : tie.Need-returns Inv-loop μ-loop
 unfolding nextUnheld
-returns c = sym (from-at _ _ (unheld (c .before .before .before .before .args .held .now) (c .before .before .before .before .args .base)) (c .before .before .before .loop .j) (c .before .before .before .loop .inv .0) (c .before .before .before .loop .inv .1) (c .before .before .before .loop .inv .2) (λ _. eq-eqb _ _ (c .if1 .taken)))
+returns c = sym (from-at _ _ (unheld (c .before .before .before .before .before .args .held .now) (c .before .before .before .before .before .args .depth) (c .before .before .before .before .before .args .base)) (c .before .before .before .loop .j) (c .before .before .before .loop .inv .0) (c .before .before .before .loop .inv .1) (c .before .before .before .loop .inv .2) (λ _. sym (c .before .is-new .ensures) ∙ c .if1 .taken))
 
 add-j : tie.Need-add-j Inv-loop μ-loop
 add-j c = search needs
@@ -35,11 +34,11 @@ loop-less : tie.Need-loop-less Inv-loop μ-loop
 loop-less c = search needs
 
 loop-again : tie.Need-loop-again Inv-loop μ-loop
-loop-again c = (search needs, search needs, failing-more _ _ _ (c .before .before .before .loop .inv .2) (ne-eqb _ _ (c .if1 .left)))
+loop-again c = (search needs, search needs, failing-more _ _ _ (c .before .before .before .loop .inv .2) (sym (c .before .is-new .ensures) ∙ c .if1 .left))
 
 returns-2 : tie.Need-returns-2 Inv-loop μ-loop
 unfolding nextUnheld
-returns-2 c = sym (from-at _ _ (unheld (c .before .before .args .held .now) (c .before .before .args .base)) (c .before .loop .j) (c .before .loop .inv .0) (c .before .loop .inv .1) (c .before .loop .inv .2) (λ l. absurd (not-lt _ _ l (c .loop-test .left))))
+returns-2 c = sym (from-at _ _ (unheld (c .before .before .before .args .held .now) (c .before .before .before .args .depth) (c .before .before .before .args .base)) (c .before .loop .j) (c .before .loop .inv .0) (c .before .loop .inv .1) (c .before .loop .inv .2) (λ l. absurd (not-lt _ _ l (c .loop-test .left))))
 
 pub next-new-spec : {M : Type 1} → statement M
 next-new-spec =
@@ -48,8 +47,8 @@ next-new-spec =
     Inv-loop
     μ-loop
     loop-holds
-    add-if1
-    shared-slice-read-if1
+    add-is-new
+    is-new-requires
     returns
     add-j
     loop-less

@@ -1,7 +1,6 @@
 -- `add::raise_entry` meets its contract. Assumes nothing.
-use Rattle.table.specs.Entry.{live}
-use Prim.Native.Nat.{ℕ, _+_, _-_, _*_, _≤_, _<_}
-use mathlib.Core.Path.{_≡_, refl, sym, ap, _∙_}
+use Prim.Native.Nat.{_-_}
+use mathlib.Core.Path.{refl, sym, _∙_}
 use native.Mathlib.Omega.{arith}
 use borrow.Author.Tests.{not-true, not-false}
 use Rattle.add.proofs.Choices.{rises-facts}
@@ -13,9 +12,6 @@ use Rattle.add.proofs.raise_entry.Tie as tie
 first-word-requires : tie.Need-first-word-requires
 first-word-requires c κs = search needs
 
-slice-read-is-raised : tie.Need-slice-read-is-raised
-slice-read-is-raised c = search needs
-
 is-raised-requires : tie.Need-is-raised-requires
 is-raised-requires c κs = search needs
 
@@ -23,7 +19,7 @@ same-length : tie.Need-same-length
 same-length c = search needs
 
 returns : tie.Need-returns
-returns c = pass-still _ _ _ _ _ _ _ _ _ _ _ _ _ _ _ (rw (c .before .before .before .first-word .ensures) at (sym (c .before .is-raised .ensures) ∙ not-true _ (c .if1 .taken))) refl refl refl
+returns c = pass-still _ _ _ _ _ _ _ _ _ _ _ _ _ _ _ (rw (c .before .before .first-word .ensures) at (sym (c .before .is-raised .ensures) ∙ not-true _ (c .if1 .taken))) refl refl refl
 
 second-word-requires : tie.Need-second-word-requires
 second-word-requires c κs = search needs
@@ -39,29 +35,29 @@ add-write-entry c = search needs
 
 add-write-entry-2 : tie.Need-add-write-entry-2
 add-write-entry-2 c =
-    let r = rises-facts (live (c .before .before .before .before .before .before .before .before .before .before .before .args .table .now)) (c .before .before .before .before .before .before .before .before .before .before .before .args .base) (c .before .before .before .before .before .before .before .before .before .before .before .args .len) (c .before .before .before .before .before .before .before .before .before .before .before .args .label) (c .before .before .before .before .before .before .before .before .first-word .result) (sym (c .before .before .before .before .before .before .is-raised .ensures) ∙ not-false _ (c .before .before .before .before .before .if1 .left)) in
+    let a = c .before .before .before .before .before .before .before .before .before .before .args in
+    let r = rises-facts (a .depth) (a .base) (a .len) (a .label) (c .before .before .before .before .before .before .before .first-word .result) (sym (c .before .before .before .before .before .before .is-raised .ensures) ∙ not-false _ (c .before .before .before .before .before .if1 .left)) in
     omega (arith, r .old)
 
 write-entry-requires : tie.Need-write-entry-requires
 write-entry-requires c κs = search needs
 
-add-t22 : tie.Need-add-t22
-add-t22 c = search needs
+add-t21 : tie.Need-add-t21
+add-t21 c = search needs
 
 same-length-2 : tie.Need-same-length-2
 same-length-2 c = search needs
 
 returns-2 : tie.Need-returns-2
 returns-2 c =
-    pass-raised _ _ _ _ _ _ _ _ _ _ _ _ _ _ _ _ (rw (c .before .before .before .before .before .before .before .before .before .before .before .before .first-word .ensures) at (sym (c .before .before .before .before .before .before .before .before .before .before .is-raised .ensures) ∙ not-false _ (c .before .before .before .before .before .before .before .before .before .if1 .left)))
-    (rw (c .before .before .before .before .before .before .before .before .before .before .before .before .first-word .ensures, c .before .before .before .before .before .before .before .second-word .ensures, c .before .before .before .before .before .pairs-at .ensures) at (c .before .before .before .write-entry .ensures)) refl refl refl
+    pass-raised _ _ _ _ _ _ _ _ _ _ _ _ _ _ _ _ (rw (c .before .before .before .before .before .before .before .before .before .before .before .first-word .ensures) at (sym (c .before .before .before .before .before .before .before .before .before .before .is-raised .ensures) ∙ not-false _ (c .before .before .before .before .before .before .before .before .before .if1 .left)))
+    (rw (c .before .before .before .before .before .before .before .before .before .before .before .first-word .ensures, c .before .before .before .before .before .before .before .second-word .ensures, c .before .before .before .before .before .pairs-at .ensures) at (c .before .before .before .write-entry .ensures)) refl refl refl
 
 pub raise-entry-spec : {M : Type 1} → statement M
 raise-entry-spec =
     tie.close
     (tie.spec
     first-word-requires
-    slice-read-is-raised
     is-raised-requires
     same-length
     returns
@@ -71,6 +67,6 @@ raise-entry-spec =
     add-write-entry
     add-write-entry-2
     write-entry-requires
-    add-t22
+    add-t21
     same-length-2
     returns-2)

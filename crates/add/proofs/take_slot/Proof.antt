@@ -1,6 +1,6 @@
 -- `add::take_slot` meets its contract. Assumes nothing.
-use Prim.Native.Nat.{ℕ, _+_, _-_, _*_, _≤_, _<_}
-use mathlib.Core.Path.{_≡_, refl, sym, ap, _∙_}
+use Prim.Native.Nat.{ℕ, _+_, _-_}
+use mathlib.Core.Path.{refl, ap}
 use native.Mathlib.Omega.{arith}
 use Rattle.add.proofs.Walks.{body-small}
 use Rattle.add.proofs.Passing.{pass-over, pass-taken}
@@ -16,9 +16,6 @@ returns c = pass-over _ _ _ _ _ _ _ _ (c .before .before .before .before .before
 
 take-body-requires : tie.Need-take-body-requires
 take-body-requires c κs = search needs
-
-slice-read-word : tie.Need-slice-read-word
-slice-read-word c = search needs
 
 mul-word : tie.Need-mul-word
 mul-word c = search needs
@@ -54,28 +51,28 @@ add-write-entry : tie.Need-add-write-entry
 add-write-entry c = search needs
 
 cast-write-entry : tie.Need-cast-write-entry
-cast-write-entry c = omega (arith, c .before .before .before .before .take-body .ensures, body-small (c .before .before .before .before .before .before .before .before .before .before .args .used .now) (c .before .before .before .before .before .before .before .before .before .before .args .bodies) (c .before .before .before .before .before .before .before .before .before .before .args .kind) (c .before .before .before .before .before .before .before .before .before .before .args .walk .from) (λ z. c .before .before .before .before .before .before .before .before .before .before .pre .1 .4 z .1))
+cast-write-entry c = omega (arith, c .before .before .before .take-body .ensures, body-small (c .before .before .before .before .before .before .before .before .before .args .used .now) (c .before .before .before .before .before .before .before .before .before .args .bodies) (c .before .before .before .before .before .before .before .before .before .args .kind) (c .before .before .before .before .before .before .before .before .before .args .walk .from) (λ z. c .before .before .before .before .before .before .before .before .before .pre .1 .4 z .1))
 
 write-entry-requires : tie.Need-write-entry-requires
 write-entry-requires c κs = search needs
 
-add-t24 : tie.Need-add-t24
-add-t24 c = search needs
+add-t23 : tie.Need-add-t23
+add-t23 c = search needs
+
+add-t28 : tie.Need-add-t28
+add-t28 c = omega (arith, c .before .before .before .before .before .before .take-body .ensures, body-small (c .before .before .before .before .before .before .before .before .before .before .before .before .args .used .now) (c .before .before .before .before .before .before .before .before .before .before .before .before .args .bodies) (c .before .before .before .before .before .before .before .before .before .before .before .before .args .kind) (c .before .before .before .before .before .before .before .before .before .before .before .before .args .walk .from) (λ z. c .before .before .before .before .before .before .before .before .before .before .before .before .pre .1 .4 z .1))
 
 add-t29 : tie.Need-add-t29
-add-t29 c = omega (arith, c .before .before .before .before .before .before .before .take-body .ensures, body-small (c .before .before .before .before .before .before .before .before .before .before .before .before .before .args .used .now) (c .before .before .before .before .before .before .before .before .before .before .before .before .before .args .bodies) (c .before .before .before .before .before .before .before .before .before .before .before .before .before .args .kind) (c .before .before .before .before .before .before .before .before .before .before .before .before .before .args .walk .from) (λ z. c .before .before .before .before .before .before .before .before .before .before .before .before .before .pre .1 .4 z .1))
-
-add-t30 : tie.Need-add-t30
-add-t30 c = search needs
+add-t29 c = search needs
 
 same-length : tie.Need-same-length
 same-length c = search needs
 
 returns-2 : tie.Need-returns-2
 returns-2 c =
-    pass-taken _ _ _ _ _ _ _ _ (c .before .before .before .before .before .before .before .before .before .before .before .before .before .before .args .held .now) (c .before .before .before .before .before .before .before .before .before .before .before .before .before .before .args .used .now) _ _ _ _ _ _ _ _ (rw (c .before .before .before .before .before .before .before .before .before .before .next-new .ensures) at (c .before .before .before .before .before .before .before .before .before .if1 .left))
-    (rw (c .before .before .before .before .before .before .before .before .before .before .next-new .ensures, c .before .before .before .before .before .before .before .before .take-body .ensures, c .before .before .before .before .before .pairs-at .ensures) at (c .before .before .before .write-entry .ensures))
-    (ap (λ (x : ℕ). x + 1) (c .before .before .before .before .before .before .before .before .before .before .next-new .ensures)) (ap (λ (x : ℕ). x + 1) (c .before .before .before .before .before .before .before .before .take-body .ensures)) refl
+    pass-taken _ _ _ _ _ _ _ _ (c .before .before .before .before .before .before .before .before .before .before .before .before .before .args .held .now) (c .before .before .before .before .before .before .before .before .before .before .before .before .before .args .used .now) _ _ _ _ _ _ _ _ (rw (c .before .before .before .before .before .before .before .before .before .next-new .ensures) at (c .before .before .before .before .before .before .before .before .if1 .left))
+    (rw (c .before .before .before .before .before .before .before .before .before .next-new .ensures, c .before .before .before .before .before .before .before .take-body .ensures, c .before .before .before .before .before .pairs-at .ensures) at (c .before .before .before .write-entry .ensures))
+    (ap (λ (x : ℕ). x + 1) (c .before .before .before .before .before .before .before .before .before .next-new .ensures)) (ap (λ (x : ℕ). x + 1) (c .before .before .before .before .before .before .before .take-body .ensures)) refl
 
 pub take-slot-spec : {M : Type 1} → statement M
 take-slot-spec =
@@ -84,7 +81,6 @@ take-slot-spec =
     next-new-requires
     returns
     take-body-requires
-    slice-read-word
     mul-word
     mul-word-2
     add-word
@@ -98,8 +94,8 @@ take-slot-spec =
     add-write-entry
     cast-write-entry
     write-entry-requires
-    add-t24
+    add-t23
+    add-t28
     add-t29
-    add-t30
     same-length
     returns-2)

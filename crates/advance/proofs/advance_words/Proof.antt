@@ -1,53 +1,63 @@
--- `advance::advance_words` meets its contract. Assumes nothing.
 use Prim.Native.Nat.{ℕ, _+_, _*_, _≤_}
 use mathlib.Core.Path.{ap, _∙_}
 use native.Mathlib.Omega.{arith}
-use borrow.Author.Needs.{needs}
-use lib.ListN.{length, getD}
+use lib.ListN.{length}
 use Rattle.words.specs.Layout.{pairsAt}
 use Rattle.words.specs.Journal.{journalSteps}
 use Rattle.words.proofs.Phases.{journal-ready, journal-whole, steps-small}
 use Rattle.words.proofs.Places.{pendingAt-below}
 use Rattle.table.specs.Entry.{live, word1}
 use Rattle.table.specs.Changes.{Change, entryChanges}
-use Rattle.advance.specs.Notes.{noteChange}
+use Rattle.advance.specs.Notes.{noted, noteChange}
 use Rattle.advance.proofs.Noting.{words-below}
+use borrow.Author.Needs.{needs}
 use Rattle.advance.proofs.advance_words.Statement.{statement}
 use Rattle.advance.proofs.advance_words.Tie as tie
+use Rattle.advance.proofs.advance_words.Reads as reads
+use Rattle.advance.proofs.advance_words.Lts as lts
+use Rattle.advance.proofs.write_words.Reads as write-words-reads
+use Rattle.words.proofs.finish_journal.Reads as finish-journal-reads
+use Rattle.words.proofs.layout.pairs_at.Reads as pairs-at-reads
 
+-- src/lib.rt:235:16
 slice-read-live : tie.Need-slice-read-live
 slice-read-live c = search needs
 
+-- src/lib.rt:236:9
 write-words-requires : tie.Need-write-words-requires
 write-words-requires c κs = search needs
 
+-- src/lib.rt:237:27
 pairs-at-requires : tie.Need-pairs-at-requires
 pairs-at-requires c κs = search needs
 
+-- src/lib.rt:237:5
 finish-journal-requires : tie.Need-finish-journal-requires
 finish-journal-requires c κs =
-    let a = c .before .before .before .before .before .before .before .before .before .args in
+    let a = c .before .before .before .before .before .before .before .before .before .before .before .args in
     let t = a .table .now in
     let e = a .slots in
-    let f : ℕ → Change = λ i. noteChange (live t) (λ k. getD (a .notes .now) k 0) (word1 e t i) in
+    let f : ℕ → Change = λ i. noteChange (live t) (noted (a .groups .now) (a .seen .now) (a .places .now)) (word1 e t i) in
     let r = c .before .before .before .before .write-words .ensures in
-    let room : pairsAt e + 2 * length (entryChanges e f) ≤ length t = omega (arith, r .0, r .1, c .before .before .before .before .before .before .before .before .before .pre .0) in
-    (omega (arith, r .1, c .before .before .before .before .before .before .before .before .before .pre .0), rw (c .pairs-at .ensures) (journal-ready (pairsAt e) (entryChanges e f) t _ (a .budget) (c .before .before .before .before .write-words .result) (r .0) room (r .2) (pendingAt-below e) (words-below e f)))
+    let room : pairsAt e + 2 * length (entryChanges e f) ≤ length t = omega (arith, r .0, r .1, c .before .before .before .before .before .before .before .before .before .before .before .pre .0) in
+    (omega (arith, r .1, c .before .before .before .before .before .before .before .before .before .before .before .pre .0), rw (c .pairs-at .ensures) (journal-ready (pairsAt e) (entryChanges e f) t _ (a .budget) (c .before .before .before .before .write-words .result) (r .0) room (r .2) (pendingAt-below e) (words-below e f)))
 
+-- src/lib.rt:223:1
 same-length : tie.Need-same-length
 same-length c = search needs
 
+-- src/lib.rt:223:1
 returns : tie.Need-returns
 returns c =
-    let a = c .before .before .before .before .before .before .before .before .before .before .before .before .args in
+    let a = c .before .before .before .before .before .before .before .before .before .before .before .before .before .before .args in
     let t = a .table .now in
     let e = a .slots in
-    let f : ℕ → Change = λ i. noteChange (live t) (λ k. getD (a .notes .now) k 0) (word1 e t i) in
+    let f : ℕ → Change = λ i. noteChange (live t) (noted (a .groups .now) (a .seen .now) (a .places .now)) (word1 e t i) in
     let r = c .before .before .before .before .before .before .before .write-words .ensures in
-    let room : pairsAt e + 2 * length (entryChanges e f) ≤ length t = omega (arith, r .0, r .1, c .before .before .before .before .before .before .before .before .before .before .before .before .pre .0) in
+    let room : pairsAt e + 2 * length (entryChanges e f) ≤ length t = omega (arith, r .0, r .1, c .before .before .before .before .before .before .before .before .before .before .before .before .before .before .pre .0) in
     let few = steps-small (c .before .before .before .before .before .before .before .write-words .result) in (
       c .before .before .finish-journal .ensures .0 ∙ ap journalSteps (r .0),
-      omega (arith, c .before .before .finish-journal .ensures .0, r .1, c .before .before .before .before .before .before .before .before .before .before .before .before .pre .0),
+      omega (arith, c .before .before .finish-journal .ensures .0, r .1, c .before .before .before .before .before .before .before .before .before .before .before .before .before .before .pre .0),
       journal-whole (pairsAt e) (entryChanges e f) t _ (a .budget) (c .before .before .before .before .before .before .before .write-words .result) (r .0) room (r .2) _ (rw (c .before .before .before .pairs-at .ensures) at (c .before .before .finish-journal .ensures .1)),
     )
 

@@ -10,52 +10,31 @@ use Rattle.words.specs.Journal.{pairPlans}
 use Rattle.words.proofs.Plans.{stores-none}
 use Rattle.table.specs.Changes.{entryStores}
 use Rattle.commit.specs.Decide.{decidedIn}
-use Rattle.commit.proofs.Writing.{decided-few, turn-count, turn-words}
+use Rattle.commit.proofs.Writing.{decided-few, turn-fits, turn-count, turn-words}
 use Rattle.commit.proofs.commit_entries.Statement.{statement}
 use Rattle.commit.proofs.commit_entries.Tie as tie
 
 abbrev Inv-loop : tie.InvT-loop
-Inv-loop table₀ slots at live inner outer budget n₀ i₀ table n i =
+Inv-loop table₀ slots at live seen budget n₀ i₀ table n i =
     (i ≤ slots) × (n ≤ 2 * i) × (length table ≡ length table₀)
-    × (n ≡ length (gather i (λ j. entryStores slots j (decidedIn slots table₀ inner outer live j))))
-    × (table ≡ stores (take budget (pairPlans at (gather i (λ j. entryStores slots j (decidedIn slots table₀ inner outer live j))))) table₀)
+    × (n ≡ length (gather i (λ j. entryStores slots j (decidedIn slots table₀ seen live j))))
+    × (table ≡ stores (take budget (pairPlans at (gather i (λ j. entryStores slots j (decidedIn slots table₀ seen live j))))) table₀)
 
 abbrev μ-loop : tie.MeasureT-loop
-μ-loop table₀ slots at live inner outer budget n₀ i₀ table n i = slots - i
+μ-loop table₀ slots at live seen budget n₀ i₀ table n i = slots - i
 
 loop-holds : tie.Need-loop-holds Inv-loop μ-loop
-loop-holds c = (search needs, search needs, refl, refl, stores-none (c .before .before .before .args .budget) (c .before .before .before .args .table .now))
-
-first-word-requires : tie.Need-first-word-requires Inv-loop μ-loop
-first-word-requires c κs = search needs
-
-wide-requires : tie.Need-wide-requires Inv-loop μ-loop
-wide-requires c κs = search needs
-
-mul-next : tie.Need-mul-next Inv-loop μ-loop
-mul-next c = search needs
-
-add-next : tie.Need-add-next Inv-loop μ-loop
-add-next c = search needs
-
-shared-slice-read-commit-entry : tie.Need-shared-slice-read-commit-entry Inv-loop μ-loop
-shared-slice-read-commit-entry c = search needs
-
-shared-slice-read-commit-entry-2 : tie.Need-shared-slice-read-commit-entry-2 Inv-loop μ-loop
-shared-slice-read-commit-entry-2 c = search needs
-
-mul-remaining : tie.Need-mul-remaining Inv-loop μ-loop
-mul-remaining c = search needs
-
-remaining-requires : tie.Need-remaining-requires Inv-loop μ-loop
-remaining-requires c κs = search needs
+loop-holds c = (search needs, search needs, refl, refl, stores-none (c .before .before .args .budget) (c .before .before .args .table .now))
 
 commit-entry-requires : tie.Need-commit-entry-requires Inv-loop μ-loop
-commit-entry-requires c κs = search needs
+commit-entry-requires c κs =
+    let a = c .before .before .before .before .before .args in
+    let turn = c .before .before .loop in
+    (search needs, turn-fits (a .slots) (a .at) (a .budget) (turn .i) (turn .n) (a .table .now) (turn .table) (a .seen .now) (a .live) (c .before .loop-test .taken) (c .before .before .before .before .before .pre .0 .1) (turn .inv .3) (turn .inv .4) _ (c .before .before .before .before .before .pre .1 (turn .i) (c .before .loop-test .taken)))
 
 add-n : tie.Need-add-n Inv-loop μ-loop
 add-n c =
-    let few = decided-few _ _ _ _ _ _ _ _ (c .before .before .commit-entry .ensures .0) in
+    let few = decided-few (c .before .before .before .before .before .before .before .before .args .slots) (c .before .before .before .before .before .loop .table) (c .before .before .before .before .before .before .before .before .args .seen .now) (c .before .before .before .before .before .before .before .before .args .live) (c .before .before .before .before .before .loop .i) _ (c .before .before .commit-entry .ensures .0) in
     omega arith
 
 add-i : tie.Need-add-i Inv-loop μ-loop
@@ -66,15 +45,14 @@ loop-less c = search needs
 
 loop-again : tie.Need-loop-again Inv-loop μ-loop
 loop-again c =
-    let a = c .before .before .before .before .before .before .before .before .before .before .before .before .before .before .before .args in
-    let turn = c .before .before .before .before .before .before .before .before .before .before .before .loop in
-    let cell = rw (c .before .before .before .before .before .before .before .before .first-word .ensures) at (c .before .before .before .before .before .before .before .wide .ensures) in
-    let few = decided-few _ _ _ _ _ _ _ _ (c .before .before .commit-entry .ensures .0) in (
+    let a = c .before .before .before .before .before .before .before .before .args in
+    let turn = c .before .before .before .before .before .loop in
+    let few = decided-few (a .slots) (turn .table) (a .seen .now) (a .live) (turn .i) _ (c .before .before .commit-entry .ensures .0) in (
       omega arith,
       omega arith,
       c .before .before .commit-entry .kept .0 ∙ turn .inv .2,
-      turn-count (a .slots) (a .at) (a .budget) (turn .i) (turn .n) (a .table .now) (turn .table) (a .inner .now) (a .outer .now) (a .live) (c .before .before .before .before .before .before .before .before .before .before .loop-test .taken) (c .before .before .before .before .before .before .before .before .before .before .before .before .before .before .before .pre .1) (turn .inv .3) (turn .inv .4) _ _ cell (c .before .before .commit-entry .ensures .0),
-      turn-words (a .slots) (a .at) (a .budget) (turn .i) (turn .n) (a .table .now) (turn .table) (a .inner .now) (a .outer .now) (a .live) (c .before .before .before .before .before .before .before .before .before .before .loop-test .taken) (c .before .before .before .before .before .before .before .before .before .before .before .before .before .before .before .pre .1) (turn .inv .3) (turn .inv .4) _ _ cell (rw (c .before .before .before .remaining .ensures) at (c .before .before .commit-entry .ensures .1)),
+      turn-count (a .slots) (a .at) (a .budget) (turn .i) (turn .n) (a .table .now) (turn .table) (a .seen .now) (a .live) (c .before .before .before .before .loop-test .taken) (c .before .before .before .before .before .before .before .before .pre .0 .1) (turn .inv .3) (turn .inv .4) _ (c .before .before .commit-entry .ensures .0),
+      turn-words (a .slots) (a .at) (a .budget) (turn .i) (turn .n) (a .table .now) (turn .table) (a .seen .now) (a .live) (c .before .before .before .before .loop-test .taken) (c .before .before .before .before .before .before .before .before .pre .0 .1) (turn .inv .3) (turn .inv .4) _ (c .before .before .commit-entry .ensures .1),
     )
 
 same-length : tie.Need-same-length Inv-loop μ-loop
@@ -83,7 +61,7 @@ same-length c = c .before .loop .inv .2
 returns : tie.Need-returns Inv-loop μ-loop
 returns c =
     let turn = c .before .loop in
-    let a = c .before .before .before .before .before .args in
+    let a = c .before .before .before .before .args in
     let last : turn .i ≡ a .slots = omega arith in
     (turn .inv .3 ∙ rw last, turn .inv .4 ∙ rw last)
 
@@ -94,14 +72,6 @@ commit-entries-spec =
     Inv-loop
     μ-loop
     loop-holds
-    first-word-requires
-    wide-requires
-    mul-next
-    add-next
-    shared-slice-read-commit-entry
-    shared-slice-read-commit-entry-2
-    mul-remaining
-    remaining-requires
     commit-entry-requires
     add-n
     add-i

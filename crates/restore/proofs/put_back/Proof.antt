@@ -1,5 +1,5 @@
 -- `put_back` meets its contract. The loop's invariant: memory is what the bytes of the cells passed leave, cut at the budget, and `bytes` is
--- their number; and where cells are left, a group begins. Assumes nothing.
+-- their number. Assumes nothing.
 use Prim.Native.Nat.{ℕ, _-_, _*_, _≤_, _<_, _%_}
 use mathlib.Core.Bool.{true}
 use mathlib.Core.List.{List}
@@ -13,72 +13,61 @@ use Rattle.words.proofs.Plans.{stores-none}
 use Rattle.table.specs.Rule.{ruleOk}
 use Rattle.restore.specs.Parts.{backPlan}
 use Rattle.restore.proofs.Blocks.{block-length, block-turn}
-use Rattle.restore.proofs.Marking.{group-clear}
 use Rattle.restore.proofs.put_back.Statement.{statement}
 use Rattle.restore.proofs.put_back.Tie as tie
 
 abbrev Inv-loop : tie.InvT-loop
-Inv-loop memory₀ bodies table slots depth marks groups budget cells bytes₀ cell₀ memory bytes cell = (cell ≤ cells) × (bytes ≤ 64 * cell) × (length memory ≡ length memory₀) × (cell < cells → cell % 64 ≡ 0) × (bytes ≡ length (gather cell (backPlan slots table depth bodies))) × (memory ≡ stores (take budget (gather cell (backPlan slots table depth bodies))) memory₀)
+Inv-loop memory₀ bodies table slots depth seen limit budget cells bytes₀ cell₀ memory bytes cell = (cell ≤ cells) × (bytes ≤ 64 * cell) × (length memory ≡ length memory₀) × (bytes ≡ length (gather cell (backPlan slots table depth bodies))) × (memory ≡ stores (take budget (gather cell (backPlan slots table depth bodies))) memory₀)
 
 abbrev μ-loop : tie.MeasureT-loop
-μ-loop memory₀ bodies table slots depth marks groups budget cells bytes₀ cell₀ memory bytes cell = cells - cell
+μ-loop memory₀ bodies table slots depth seen limit budget cells bytes₀ cell₀ memory bytes cell = cells - cell
 
 cells-of-requires : tie.Need-cells-of-requires Inv-loop μ-loop
 cells-of-requires c κs = search needs
 
 loop-holds : tie.Need-loop-holds Inv-loop μ-loop
-loop-holds c = (search needs, search needs, refl, λ _. refl, refl, stores-none (c .before .before .before .before .before .before .args .budget) (c .before .before .before .before .before .before .args .memory .now))
+loop-holds c = (search needs, search needs, refl, refl, stores-none (c .before .before .before .before .before .args .budget) (c .before .before .before .before .before .args .memory .now))
 
 group-size-requires : tie.Need-group-size-requires Inv-loop μ-loop
 group-size-requires c κs = search needs
-
-shared-slice-read-put-group : tie.Need-shared-slice-read-put-group Inv-loop μ-loop
-shared-slice-read-put-group c = omega (arith, c .before .before .before .before .before .cells-of .ensures, c .before .before .before .before .before .before .before .before .before .before .before .pre .0 .3, c .before .before .before .before .before .before .before .before .before .before .before .pre .0 .5)
 
 remaining-requires : tie.Need-remaining-requires Inv-loop μ-loop
 remaining-requires c κs = search needs
 
 put-group-requires : tie.Need-put-group-requires Inv-loop μ-loop
 put-group-requires c κs =
-    let a = c .before .before .before .before .before .before .before .before .before .before .before .before .args in
-    let s = c .before .before .before .before .before .loop in
-    let here = c .before .before .before .before .loop-test .taken in
-    let q = c .before .before .before .before .before .before .cells-of .ensures in
-    let n = c .before .before .before .group-size .ensures in
-    let p = c .before .before .before .before .before .before .before .before .before .before .before .before .pre in (
-      (p .0 .0, p .0 .1, p .0 .2, omega (arith, s .inv .2, p .0 .3), p .0 .4, omega (arith, n, q, s .inv .2)),
-      (
-        subst (λ (n : ℕ). ruleOk (cellsOf n) (a .slots) (cellsOf (length (a .bodies .now))) (a .table .now) ≡ true) (sym (s .inv .2)) (p .1 .0),
-        p .1 .1 .0,
-        group-clear (a .marks .now) (a .groups .now) (s .cell) _ (p .1 .1 .1) (s .inv .3 here) (omega (arith, n)) (omega (arith, n, q, p .0 .3)),
-      ),
+    let a = c .before .before .before .before .before .before .before .before .before .before .args in
+    let s = c .before .before .before .before .loop in
+    let q = c .before .before .before .before .before .cells-of .ensures in
+    let n = c .before .before .group-size .ensures in
+    let p = c .before .before .before .before .before .before .before .before .before .before .pre in (
+      (p .0 .0, p .0 .1, p .0 .2, omega (arith, s .inv .2, p .0 .3), omega (arith, n), omega (arith, n, q, p .0 .4), omega (arith, n, q, s .inv .2)),
+      (subst (λ (n : ℕ). ruleOk (cellsOf n) (a .slots) (cellsOf (length (a .bodies .now))) (a .table .now) ≡ true) (sym (s .inv .2)) (p .1 .0), p .1 .1),
     )
 
 add-bytes : tie.Need-add-bytes Inv-loop μ-loop
-add-bytes c = omega (arith, c .before .before .put-group .ensures .1 .0, c .before .before .before .before .before .before .group-size .ensures, c .before .before .before .before .before .before .before .before .before .cells-of .ensures, c .before .before .before .before .before .before .before .before .before .before .before .before .before .before .before .pre .0 .3)
+add-bytes c = omega (arith, c .before .before .put-group .ensures .1 .0, c .before .before .before .before .before .group-size .ensures, c .before .before .before .before .before .before .before .before .cells-of .ensures, c .before .before .before .before .before .before .before .before .before .before .before .before .before .pre .0 .3)
 
 add-cell : tie.Need-add-cell Inv-loop μ-loop
-add-cell c = omega (arith, c .before .before .before .before .before .before .group-size .ensures, c .before .before .before .before .before .before .before .before .before .cells-of .ensures, c .before .before .before .before .before .before .before .before .before .before .before .before .before .before .before .pre .0 .3)
+add-cell c = omega (arith, c .before .before .before .before .before .group-size .ensures, c .before .before .before .before .before .before .before .before .cells-of .ensures, c .before .before .before .before .before .before .before .before .before .before .before .before .before .pre .0 .3)
 
 loop-less : tie.Need-loop-less Inv-loop μ-loop
-loop-less c = omega (arith, c .before .before .before .before .before .before .group-size .ensures)
+loop-less c = omega (arith, c .before .before .before .before .before .group-size .ensures)
 
 loop-again : tie.Need-loop-again Inv-loop μ-loop
 loop-again c =
-    let a = c .before .before .before .before .before .before .before .before .before .before .before .before .before .before .before .args in
-    let s = c .before .before .before .before .before .before .before .before .loop in
-    let here = c .before .before .before .before .before .before .before .loop-test .taken in
-    let n = c .before .before .before .before .before .before .group-size .ensures in
-    let starts = s .inv .3 here in
+    let a = c .before .before .before .before .before .before .before .before .before .before .before .before .before .args in
+    let s = c .before .before .before .before .before .before .before .loop in
+    let here = c .before .before .before .before .before .before .loop-test .taken in
+    let n = c .before .before .before .before .before .group-size .ensures in
     let plan : ℕ → List Store = backPlan (a .slots) (a .table .now) (a .depth) (a .bodies .now) in
     let r = c .before .before .put-group .ensures in
     let e₂ = rw (c .before .before .before .remaining .ensures) at (r .1 .1) in (
       omega (arith, n),
       omega (arith, r .1 .0),
       c .before .before .put-group .kept .0 ∙ s .inv .2,
-      λ l. omega (arith, n, starts),
-      block-length plan (s .cell) (c .before .before .before .before .before .before .group-size .result) (s .bytes) (c .before .before .put-group .result) (s .inv .4) (r .0),
-      block-turn plan store (a .budget) (s .cell) (c .before .before .before .before .before .before .group-size .result) (s .bytes) (a .memory .now) (s .memory) _ (s .inv .4) (s .inv .5) e₂,
+      block-length plan (s .cell) (c .before .before .before .before .before .group-size .result) (s .bytes) (c .before .before .put-group .result) (s .inv .3) (r .0),
+      block-turn plan store (a .budget) (s .cell) (c .before .before .before .before .before .group-size .result) (s .bytes) (a .memory .now) (s .memory) _ (s .inv .3) (s .inv .4) e₂,
     )
 
 same-length : tie.Need-same-length Inv-loop μ-loop
@@ -86,12 +75,12 @@ same-length c = c .before .loop .inv .2
 
 returns : tie.Need-returns Inv-loop μ-loop
 returns c =
-    let a = c .before .before .before .before .before .before .before .before .args in
+    let a = c .before .before .before .before .before .before .before .args in
     let s = c .before .loop in
     let plan : ℕ → List Store = backPlan (a .slots) (a .table .now) (a .depth) (a .bodies .now) in
     let last : s .cell ≡ cellsOf (length (a .memory .now)) = omega (arith, c .before .before .cells-of .ensures) in (
-      s .inv .4 ∙ ap (λ (n : ℕ). length (gather n plan)) last,
-      (omega (arith, c .before .before .before .before .before .before .before .before .pre .0 .3), s .inv .5 ∙ ap (λ (n : ℕ). stores (take (a .budget) (gather n plan)) (a .memory .now)) last),
+      s .inv .3 ∙ ap (λ (n : ℕ). length (gather n plan)) last,
+      (omega (arith, c .before .before .before .before .before .before .before .pre .0 .3), s .inv .4 ∙ ap (λ (n : ℕ). stores (take (a .budget) (gather n plan)) (a .memory .now)) last),
     )
 
 pub put-back-spec : {M : Type 1} → statement M
@@ -103,7 +92,6 @@ put-back-spec =
     cells-of-requires
     loop-holds
     group-size-requires
-    shared-slice-read-put-group
     remaining-requires
     put-group-requires
     add-bytes

@@ -6,6 +6,7 @@ use mathlib.Core.List.{List}
 use mathlib.Core.Path.{_≡_, refl, sym, ap, subst, _∙_}
 use native.Mathlib.Omega.{arith}
 use borrow.Author.Needs.{needs}
+use borrow.Author.Tests.{not-true}
 use lib.ListN.{length, take}
 use Rattle.words.specs.Layout.{cellsOf}
 use Rattle.words.specs.Stores.{Store, store, stores}
@@ -18,41 +19,44 @@ use Rattle.restore.proofs.put_group.Statement.{statement}
 use Rattle.restore.proofs.put_group.Tie as tie
 
 abbrev Inv-loop : tie.InvT-loop
-Inv-loop memory₀ bodies table slots depth marks mark from n budget bytes₀ j₀ memory bytes j = (j ≤ n) × (bytes ≤ 64 * j) × (length memory ≡ length memory₀) × (bytes ≡ length (groupPlan slots table depth bodies from j)) × (memory ≡ stores (take budget (groupPlan slots table depth bodies from j)) memory₀)
+Inv-loop memory₀ bodies table slots depth seen limit from n budget bytes₀ j₀ memory bytes j = (j ≤ n) × (bytes ≤ 64 * j) × (length memory ≡ length memory₀) × (bytes ≡ length (groupPlan slots table depth bodies from j)) × (memory ≡ stores (take budget (groupPlan slots table depth bodies from j)) memory₀)
 
 abbrev μ-loop : tie.MeasureT-loop
-μ-loop memory₀ bodies table slots depth marks mark from n budget bytes₀ j₀ memory bytes j = n - j
+μ-loop memory₀ bodies table slots depth seen limit from n budget bytes₀ j₀ memory bytes j = n - j
+
+group-held-requires : tie.Need-group-held-requires Inv-loop μ-loop
+group-held-requires c κs = search needs
 
 returns : tie.Need-returns Inv-loop μ-loop
 returns c =
-    let a = c .before .before .before .before .before .args in
-    let p = c .before .before .before .before .before .pre in
-    put-group-none (cellsOf (length (a .memory .now))) (a .slots) (a .table .now) (a .depth) (a .marks .now) (a .bodies .now) (a .memory .now) (a .from) (a .n) (a .budget) (p .1 .0) (p .0 .2) (omega (arith, p .0 .5, p .0 .3)) (p .1 .1) (p .1 .2 (c .if1 .taken))
+    let a = c .before .before .before .before .before .before .args in
+    let p = c .before .before .before .before .before .before .pre in
+    put-group-none (a .slots) (a .table .now) (a .depth) (a .limit) (a .seen .now) (a .bodies .now) (a .memory .now) (a .from) (a .n) (a .budget) (p .1 .1) (c .before .group-held .ensures (not-true _ (c .if1 .taken)))
 
 loop-holds : tie.Need-loop-holds Inv-loop μ-loop
-loop-holds c = (search needs, search needs, refl, refl, stores-none (c .before .before .before .before .before .args .budget) (c .before .before .before .before .before .args .memory .now))
+loop-holds c = (search needs, search needs, refl, refl, stores-none (c .before .before .before .before .before .before .args .budget) (c .before .before .before .before .before .before .args .memory .now))
 
 add-cell : tie.Need-add-cell Inv-loop μ-loop
-add-cell c = omega (arith, c .before .before .before .before .before .before .before .pre .0 .5, c .before .before .before .before .before .before .before .pre .0 .3)
+add-cell c = omega (arith, c .before .before .before .before .before .before .before .before .pre .0 .6, c .before .before .before .before .before .before .before .before .pre .0 .3)
 
-shared-slice-read-put-marked : tie.Need-shared-slice-read-put-marked Inv-loop μ-loop
-shared-slice-read-put-marked c = omega (arith, c .before .before .before .before .before .before .before .before .before .pre .0 .5, c .before .before .before .before .before .before .before .before .before .pre .0 .3, c .before .before .before .before .before .before .before .before .before .pre .0 .4)
+shared-slice-read-put-held : tie.Need-shared-slice-read-put-held Inv-loop μ-loop
+shared-slice-read-put-held c = omega (arith, c .before .before .before .before .before .before .before .before .before .before .pre .0 .6, c .before .before .before .before .before .before .before .before .before .before .pre .0 .3, c .before .before .before .before .before .before .before .before .before .before .pre .0 .5)
 
 remaining-requires : tie.Need-remaining-requires Inv-loop μ-loop
 remaining-requires c κs = search needs
 
-put-marked-requires : tie.Need-put-marked-requires Inv-loop μ-loop
-put-marked-requires c κs =
-    let a = c .before .before .before .before .before .before .before .before .before .before .args in
+put-held-requires : tie.Need-put-held-requires Inv-loop μ-loop
+put-held-requires c κs =
+    let a = c .before .before .before .before .before .before .before .before .before .before .before .args in
     let s = c .before .before .before .before .loop in
     let here = c .before .before .before .loop-test .taken in
-    let p = c .before .before .before .before .before .before .before .before .before .before .pre in (
-      (p .0 .0, p .0 .1, p .0 .2, omega (arith, p .0 .5, p .0 .3), omega (arith, p .0 .5, s .inv .2)),
-      (subst (λ (n : ℕ). ruleOk (cellsOf n) (a .slots) (cellsOf (length (a .bodies .now))) (a .table .now) ≡ true) (sym (s .inv .2)) (p .1 .0), p .1 .1 (a .from + s .j) (omega (arith, p .0 .5, p .0 .3))),
+    let p = c .before .before .before .before .before .before .before .before .before .before .before .pre in (
+      (p .0 .0, p .0 .1, p .0 .2, omega (arith, p .0 .6, p .0 .3), omega (arith, p .0 .6, s .inv .2)),
+      (subst (λ (n : ℕ). ruleOk (cellsOf n) (a .slots) (cellsOf (length (a .bodies .now))) (a .table .now) ≡ true) (sym (s .inv .2)) (p .1 .0), p .1 .1 (a .from + s .j)),
     )
 
 add-bytes : tie.Need-add-bytes Inv-loop μ-loop
-add-bytes c = omega (arith, c .before .before .put-marked .ensures .1 .0, c .before .before .before .before .before .before .before .before .before .before .before .before .before .pre .0 .5, c .before .before .before .before .before .before .before .before .before .before .before .before .before .pre .0 .3)
+add-bytes c = omega (arith, c .before .before .put-held .ensures .1 .0, c .before .before .before .before .before .before .before .before .before .before .before .before .before .before .pre .0 .6, c .before .before .before .before .before .before .before .before .before .before .before .before .before .before .pre .0 .3)
 
 add-j : tie.Need-add-j Inv-loop μ-loop
 add-j c = search needs
@@ -62,15 +66,15 @@ loop-less c = search needs
 
 loop-again : tie.Need-loop-again Inv-loop μ-loop
 loop-again c =
-    let a = c .before .before .before .before .before .before .before .before .before .before .before .before .before .args in
+    let a = c .before .before .before .before .before .before .before .before .before .before .before .before .before .before .args in
     let s = c .before .before .before .before .before .before .before .loop in
     let plan : ℕ → List Store = λ j. backPlan (a .slots) (a .table .now) (a .depth) (a .bodies .now) (a .from + j) in
-    let r = c .before .before .put-marked .ensures in
+    let r = c .before .before .put-held .ensures in
     let e₂ = rw (c .before .before .before .remaining .ensures) at (r .1 .1) in (
       omega arith,
       omega (arith, r .1 .0),
-      c .before .before .put-marked .kept .0 ∙ s .inv .2,
-      gather-length plan (s .j) (s .bytes) (c .before .before .put-marked .result) (s .inv .3) (r .0),
+      c .before .before .put-held .kept .0 ∙ s .inv .2,
+      gather-length plan (s .j) (s .bytes) (c .before .before .put-held .result) (s .inv .3) (r .0),
       gather-turn plan store (a .budget) (s .j) (s .bytes) (a .memory .now) (s .memory) _ (s .inv .3) (s .inv .4) e₂,
     )
 
@@ -79,7 +83,7 @@ same-length c = c .before .loop .inv .2
 
 returns-2 : tie.Need-returns-2 Inv-loop μ-loop
 returns-2 c =
-    let a = c .before .before .before .before .before .before .before .args in
+    let a = c .before .before .before .before .before .before .before .before .args in
     let s = c .before .loop in
     let plan : ℕ → List Store = groupPlan (a .slots) (a .table .now) (a .depth) (a .bodies .now) (a .from) in
     let last : s .j ≡ a .n = omega arith in (
@@ -93,12 +97,13 @@ put-group-spec =
     (tie.spec
     Inv-loop
     μ-loop
+    group-held-requires
     returns
     loop-holds
     add-cell
-    shared-slice-read-put-marked
+    shared-slice-read-put-held
     remaining-requires
-    put-marked-requires
+    put-held-requires
     add-bytes
     add-j
     loop-less

@@ -7,7 +7,7 @@ use Rattle.store.proofs.open_check.Tie as tie
 use Rattle.store.proofs.open_check.Reads as reads
 use Rattle.store.proofs.open_check.Lts as lts
 use Rattle.store.proofs.shape_check.Reads as shape-check-reads
-use Rattle.store.proofs.table_check.Reads as table-check-reads
+use Rattle.store.proofs.table_plain.Reads as table-plain-reads
 
 -- src/lib.rt:85:9
 shape-check-requires : tie.Need-shape-check-requires
@@ -19,13 +19,13 @@ unfolding openCheck
 returns c = c .before .shape-check .ensures ∙ sym (orElse-stop _ _ (λ e. c .if1 .taken (c .before .shape-check .ensures ∙ e)))
 
 -- src/lib.rt:89:5
-table-check-requires : tie.Need-table-check-requires
-table-check-requires c κs = sym (c .before .shape-check .ensures) ∙ c .if1 .left
+table-plain-requires : tie.Need-table-plain-requires
+table-plain-requires c κs = sym (c .before .shape-check .ensures) ∙ c .if1 .left
 
 -- src/lib.rt:82:1
 returns-2 : tie.Need-returns-2
 unfolding openCheck
-returns-2 c = c .table-check .ensures ∙ sym (orElse-go _ _ (sym (c .before .before .shape-check .ensures) ∙ c .before .if1 .left))
+returns-2 c = c .table-plain .ensures ∙ sym (orElse-go _ _ (sym (c .before .before .shape-check .ensures) ∙ c .before .if1 .left))
 
 pub open-check-spec : {M : Type 1} → statement M
-open-check-spec = tie.close (tie.spec shape-check-requires returns table-check-requires returns-2)
+open-check-spec = tie.close (tie.spec shape-check-requires returns table-plain-requires returns-2)

@@ -1,36 +1,57 @@
-use mathlib.Core.Path.{_≡_, refl, sym, ap, _∙_}
+-- `store::table_check` meets its contract. Assumes nothing.
+use mathlib.Core.Path.{sym, _∙_}
 use native.Mathlib.Omega.{arith}
-use borrow.Author.Tests.{not-true, not-false}
-use mathlib.Core.Bool.{Bool, true, false}
 use Rattle.store.specs.Checks.{tableCheck}
 use Rattle.store.proofs.Checks.{shape-facts, ask-go, ask-stop}
 use borrow.Author.Needs.{needs}
 use Rattle.store.proofs.table_check.Statement.{statement}
 use Rattle.store.proofs.table_check.Tie as tie
-use Rattle.store.proofs.table_check.Reads as reads
-use Rattle.store.proofs.table_check.Lts as lts
-use Rattle.table.proofs.table_ok.Reads as table-ok-reads
-use Rattle.words.proofs.layout.slots_of.Reads as slots-of-reads
 
--- src/lib.rt:74:37
+cells-of-requires : tie.Need-cells-of-requires
+cells-of-requires c κs = search needs
+
 slots-of-requires : tie.Need-slots-of-requires
 slots-of-requires c κs = search needs
 
--- src/lib.rt:74:8
-table-ok-requires : tie.Need-table-ok-requires
-table-ok-requires c κs =
-    let f = shape-facts _ _ _ (c .before .before .pre) in
-    (omega (arith, c .slots-of .ensures), omega (arith, c .slots-of .ensures), f .bodies-high)
+cells-of-requires-2 : tie.Need-cells-of-requires-2
+cells-of-requires-2 c κs = search needs
 
--- src/lib.rt:70:1
+table-ok-requires : tie.Need-table-ok-requires
+table-ok-requires c κs = let f = shape-facts _ _ _ (c .before .before .before .before .before .before .before .before .pre .0 .0) in
+    ((omega (arith, c .before .before .before .slots-of .ensures), omega (arith, c .before .before .before .slots-of .ensures), omega (arith, f .bodies-high, c .before .before .cells-of2 .ensures), rw (c .before .before .before .before .cells-of .ensures) (c .before .before .before .before .before .before .before .before .pre .0 .1), omega (arith, f .bodies-high, c .before .before .cells-of2 .ensures, c .before .before .before .before .before .before .before .before .pre .0 .2)), (c .before .before .before .before .before .before .before .before .pre .1 .0, c .before .before .before .before .before .before .before .before .pre .1 .1))
+
+same-length : tie.Need-same-length
+same-length c = search needs
+
+same-length-2 : tie.Need-same-length-2
+same-length-2 c = search needs
+
 returns : tie.Need-returns
 unfolding tableCheck
-returns c = sym (ask-go _ _ _ (sym (rw (c .before .before .slots-of .ensures) at (c .before .table-ok .ensures)) ∙ c .if1 .taken))
+returns c = let ok = sym (rw (c .before .before .before .before .before .before .before .before .before .slots-of .ensures, c .before .before .before .before .before .before .before .before .before .before .cells-of .ensures, c .before .before .before .before .before .before .before .before .cells-of2 .ensures) at (c .before .before .before .before .before .table-ok .ensures .0)) ∙ c .if1 .taken in
+    (sym (ask-go _ _ _ ok), (λ r idle. rw (c .before .before .before .before .before .before .before .before .before .slots-of .ensures) at (c .before .before .before .before .before .table-ok .ensures .1 (c .if1 .taken) idle)))
 
--- src/lib.rt:70:1
+same-length-3 : tie.Need-same-length-3
+same-length-3 c = search needs
+
+same-length-4 : tie.Need-same-length-4
+same-length-4 c = search needs
+
 returns-2 : tie.Need-returns-2
 unfolding tableCheck
-returns-2 c = sym (ask-stop _ _ _ (sym (rw (c .before .before .slots-of .ensures) at (c .before .table-ok .ensures)) ∙ c .if1 .left))
+returns-2 c = (sym (ask-stop _ _ _ (sym (rw (c .before .before .before .before .before .before .before .before .before .slots-of .ensures, c .before .before .before .before .before .before .before .before .before .before .cells-of .ensures, c .before .before .before .before .before .before .before .before .cells-of2 .ensures) at (c .before .before .before .before .before .table-ok .ensures .0)) ∙ c .if1 .left)), (λ r idle. absurd (omega (arith, r))))
 
 pub table-check-spec : {M : Type 1} → statement M
-table-check-spec = tie.close (tie.spec slots-of-requires table-ok-requires returns returns-2)
+table-check-spec =
+    tie.close
+    (tie.spec
+    cells-of-requires
+    slots-of-requires
+    cells-of-requires-2
+    table-ok-requires
+    same-length
+    same-length-2
+    returns
+    same-length-3
+    same-length-4
+    returns-2)

@@ -1,32 +1,26 @@
 -- `table::parent_marked` meets its contract. Assumes nothing.
-use mathlib.Core.Path.{sym}
 use native.Mathlib.Omega.{arith}
-use borrow.Author.Tests.{eqb-false}
+use borrow.Author.Tests.{eq-eqb, ne-eqb}
 use borrow.Author.Needs.{needs}
-use lib.Dec.{eqb}
-use Rattle.words.proofs.Scan.{by-bool}
-use Rattle.table.specs.Entry.{viaOf}
 use Rattle.table.proofs.parent_marked.Statement.{statement}
 use Rattle.table.proofs.parent_marked.Tie as tie
+
+returns : tie.Need-returns
+returns c = rw (eq-eqb _ _ (c .if1 .taken))
 
 wide-requires : tie.Need-wide-requires
 wide-requires c κs = search needs
 
-shared-slice-read-mark : tie.Need-shared-slice-read-mark
-shared-slice-read-mark c = search needs
+shared-slice-read-has-parent : tie.Need-shared-slice-read-has-parent
+shared-slice-read-has-parent c = omega (arith, c .before .wide .ensures, c .before .before .before .before .pre (c .before .before .if1 .left) .0)
 
 has-parent-requires : tie.Need-has-parent-requires
 has-parent-requires c κs = search needs
 
-returns : tie.Need-returns
-returns c =
-    let start = c .before .before .before .before in
-    by-bool (eqb (viaOf (start .args .word)) 0)
-    (λ b. rw b)
-    (λ b.
-    let deep = start .pre .1 (eqb-false (viaOf (start .args .word)) 0 b) in
-    rw (b, sym (c .before .before .wide .ensures)) (c .has-parent .ensures (omega (arith, deep))))
+returns-2 : tie.Need-returns-2
+returns-2 c = rw (ne-eqb _ _ (c .before .before .before .if1 .left)) (rw (c .before .before .wide .ensures) at (c .has-parent .ensures (omega (arith, c .before .before .before .before .before .pre (c .before .before .before .if1 .left) .1))))
 
 pub parent-marked-spec : {M : Type 1} → statement M
 parent-marked-spec =
-    tie.close (tie.spec wide-requires shared-slice-read-mark has-parent-requires returns)
+    tie.close
+    (tie.spec returns wide-requires shared-slice-read-has-parent has-parent-requires returns-2)

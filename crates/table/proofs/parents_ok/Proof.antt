@@ -28,7 +28,7 @@ parent-marked-requires c κs =
     let i = c .before .before .loop .i in
     let l = c .before .loop-test .taken in
     let given = c .before .before .before .before .before .pre .1 in
-    rw (c .first-word .ensures) (given .0 i l .1, given .2 i l)
+    rw (c .first-word .ensures) (λ v. (given .0 i l v, given .2 i l v))
 
 add-i : tie.Need-add-i Inv-loop μ-loop
 add-i c = search needs

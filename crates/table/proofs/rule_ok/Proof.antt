@@ -1,11 +1,12 @@
--- `table::rule_ok` meets its contract. Each test that fails breaks a part of the rule, and the last pass decides (proofs/Parts.antt). Assumes nothing.
-use mathlib.Core.Path.{sym, _∙_}
+-- `table::rule_ok` meets its contract. Each test that fails breaks a part of the rule (proofs/Parts.antt, Passing.antt). Assumes nothing.
+use mathlib.Core.Path.{refl, sym, _∙_}
 use native.Mathlib.Omega.{arith}
 use borrow.Author.Tests.{not-true, not-false}
-use borrow.Author.Needs.{needs}
+use Rattle.words.proofs.Scan.{true≢}
 use Rattle.table.proofs.Rule.{no-head}
-use Rattle.table.proofs.Tail.{cells-all, cells-front, bodies-all, bodies-front}
-use Rattle.table.proofs.Parts.{no-entries, no-cells, no-single, live-small, entries-inner, entries-markable, entries-body, all-parts, decided}
+use Rattle.table.proofs.Parts.{live-small, entries-inner, entries-markable, decided}
+use Rattle.table.proofs.Passing.{pass-entries, pass-marks, pass-right, pass-wrong, pass-alone, rule-least}
+use borrow.Author.Needs.{needs}
 use Rattle.table.proofs.rule_ok.Statement.{statement}
 use Rattle.table.proofs.rule_ok.Tie as tie
 
@@ -13,62 +14,64 @@ head-ok-requires : tie.Need-head-ok-requires
 head-ok-requires c κs = search needs
 
 returns : tie.Need-returns
-returns c = sym (no-head _ _ _ _ (sym (c .before .head-ok .ensures) ∙ not-true _ (c .if1 .taken)))
+returns c = (sym (no-head _ _ _ _ (sym (c .before .head-ok .ensures) ∙ not-true _ (c .if1 .taken))), (λ r. absurd (true≢ r refl)))
 
-entries-ok-requires : tie.Need-entries-ok-requires
-entries-ok-requires c κs = search needs
+cells-word-requires : tie.Need-cells-word-requires
+cells-word-requires c κs = search needs
+
+cast-pass-entries : tie.Need-cast-pass-entries
+cast-pass-entries c = search needs
+
+pass-entries-requires : tie.Need-pass-entries-requires
+pass-entries-requires c κs = let small = live-small 0 0 0 (c .before .before .before .before .before .before .before .before .args .table .now) (sym (c .before .before .before .before .head-ok .ensures) ∙ not-false _ (c .before .before .before .if1 .left)) in
+    ((search needs, search needs, small, omega (arith, c .before .before .cells-word .ensures), omega (arith, c .before .before .cells-word .ensures), search needs), (c .before .before .before .before .before .before .before .before .pre .1 .0, c .before .before .before .before .before .before .before .before .pre .1 .1))
+
+same-length : tie.Need-same-length
+same-length c = search needs
+
+same-length-2 : tie.Need-same-length-2
+same-length-2 c = search needs
 
 returns-2 : tie.Need-returns-2
-returns-2 c = sym (no-entries _ _ _ _ (sym (c .before .entries-ok .ensures) ∙ not-true _ (c .if2 .taken)))
+returns-2 c = let a = c .before .before .before .before .before .before .before .before .before .before .before .before .before .before .before .args in
+    (sym (rw (c .before .before .before .before .before .before .before .before .before .cells-word .ensures, rule-least (a .cells) (a .slots) (a .bodies) (a .table .now)) at (c .before .before .before .before .before .before .pass-entries .ensures .1 (not-true _ (c .if2 .taken)))), (λ r. absurd (true≢ r refl)))
 
-last-in-use-requires : tie.Need-last-in-use-requires
-last-in-use-requires c κs = search needs
+same-length-3 : tie.Need-same-length-3
+same-length-3 c = search needs
 
-cells-ok-requires : tie.Need-cells-ok-requires
-cells-ok-requires c κs =
-    let a = c .before .before .before .before .before .before .args in
-    let entries = sym (c .before .before .entries-ok .ensures) ∙ not-false _ (c .before .if2 .left) in
-    let small = live-small (a .cells) (a .slots) (a .bodies) (a .table .now) (sym (c .before .before .before .before .head-ok .ensures) ∙ not-false _ (c .before .before .before .if1 .left)) in
-    let inner = entries-inner (a .cells) (a .slots) (a .bodies) (a .table .now) entries in
-    let markable = entries-markable (a .cells) (a .slots) (a .bodies) (a .table .now) entries small in
-    let short = c .last-in-use .ensures .0 in (
-      (omega (arith, short), omega (arith, short), (λ i l. inner i (omega (arith, short, l)))),
-      (
-        (λ i l. markable 65536 (omega arith) (λ k in-memory most. most) i (omega (arith, short, l))),
-        (λ few i l. markable 1024 (omega arith) (λ k in-memory most. omega (arith, few, in-memory)) i (omega (arith, short, l))),
-      ),
-    )
+same-length-4 : tie.Need-same-length-4
+same-length-4 c = search needs
 
 returns-3 : tie.Need-returns-3
-returns-3 c =
-    let a = c .before .before .before .before .before .before .before .before .args in
-    let entries = sym (c .before .before .before .before .entries-ok .ensures) ∙ not-false _ (c .before .before .before .if2 .left) in
-    let used = c .before .before .last-in-use in
-    sym (no-cells (a .cells) (a .slots) (a .bodies) (a .table .now) (λ ok.
-    c .before .cells-ok .ensures .1 (not-true _ (c .if3 .taken))
-    (cells-front (a .slots) (used .result) (a .table .now) (used .ensures .0) (used .ensures .1) (entries-inner (a .cells) (a .slots) (a .bodies) (a .table .now) entries) ok)))
+returns-3 c = let a = c .before .before .before .before .before .before .before .before .before .before .before .before .before .before .before .before .before .args in
+    let passed = c .before .before .before .before .before .before .before .before .pass-entries .ensures .0 (not-false _ (c .before .before .if2 .left)) in
+    let head = sym (c .before .before .before .before .before .before .before .before .before .before .before .before .before .head-ok .ensures) ∙ not-false _ (c .before .before .before .before .before .before .before .before .before .before .before .before .if1 .left) in
+    let right = pass-alone (c .before .before .before .before .before .before .before .before .before .before .before .cells-word .result) (a .slots) (a .bodies) (a .table .now) _ _ (passed .0) head _ (passed .1) (c .if3 .taken) in
+    (sym (rw (c .before .before .before .before .before .before .before .before .before .before .before .cells-word .ensures, rule-least (a .cells) (a .slots) (a .bodies) (a .table .now)) at right), (λ r. pass-marks (c .before .before .before .before .before .before .before .before .before .before .before .cells-word .result) (a .slots) (a .bodies) (a .table .now) _ _ (passed .0) head))
 
-bodies-ok-requires : tie.Need-bodies-ok-requires
-bodies-ok-requires c κs =
-    let start = c .before .before .before .before .before .before .before .before in
-    let a = start .args in
-    let short = c .before .before .last-in-use .ensures .0 in
-    let body = entries-body (a .cells) (a .slots) (a .bodies) (a .table .now) (sym (c .before .before .before .before .entries-ok .ensures) ∙ not-false _ (c .before .before .before .if2 .left)) (start .pre .2) in
-    ((omega (arith, short), omega (arith, short)), (λ i l. body i (omega (arith, short, l))))
+parents-ok-requires : tie.Need-parents-ok-requires
+parents-ok-requires c κs = let a = c .before .before .before .before .before .before .before .before .before .before .before .before .before .before .before .before .before .before .args in
+    let passed = c .before .before .before .before .before .before .before .before .before .pass-entries .ensures .0 (not-false _ (c .before .before .before .if2 .left)) in
+    let head = sym (c .before .before .before .before .before .before .before .before .before .before .before .before .before .before .head-ok .ensures) ∙ not-false _ (c .before .before .before .before .before .before .before .before .before .before .before .before .before .if1 .left) in
+    let entries = pass-entries (c .before .before .before .before .before .before .before .before .before .before .before .before .cells-word .result) (a .slots) (a .bodies) (a .table .now) _ _ (passed .0) head in
+    ((search needs, search needs), (entries-markable (c .before .before .before .before .before .before .before .before .before .before .before .before .cells-word .result) (a .slots) (a .bodies) (a .table .now) entries _ (omega (arith, c .before .before .before .before .before .before .before .before .before .before .before .before .cells-word .ensures, c .before .before .before .before .before .before .before .before .before .pass-entries .kept .1 .1 .1 .1 .0)), passed .0 .cells, entries-inner (c .before .before .before .before .before .before .before .before .before .before .before .before .cells-word .result) (a .slots) (a .bodies) (a .table .now) entries))
+
+same-length-5 : tie.Need-same-length-5
+same-length-5 c = search needs
+
+same-length-6 : tie.Need-same-length-6
+same-length-6 c = search needs
 
 returns-4 : tie.Need-returns-4
-returns-4 c =
-    let a = c .before .before .before .before .before .before .before .before .before .args in
-    let head = sym (c .before .before .before .before .before .before .before .head-ok .ensures) ∙ not-false _ (c .before .before .before .before .before .before .if1 .left) in
-    let entries = sym (c .before .before .before .before .before .entries-ok .ensures) ∙ not-false _ (c .before .before .before .before .if2 .left) in
-    let cells = c .before .before .cells-ok .ensures .0 (not-false _ (c .before .if3 .left)) in
-    let used = c .before .before .before .last-in-use in
-    decided (a .cells) (a .slots) (a .bodies) (a .table .now) _
-    (λ r.
-    all-parts (a .cells) (a .slots) (a .bodies) (a .table .now) entries head
-    (cells-all (a .slots) (used .result) (a .table .now) (used .ensures .0) (used .ensures .1) cells)
-    (bodies-all (a .slots) (used .result) (a .table .now) (used .ensures .0) (used .ensures .1) (c .bodies-ok .ensures .0 r)))
-    (λ r. no-single (a .cells) (a .slots) (a .bodies) (a .table .now) (λ d. c .bodies-ok .ensures .1 r (bodies-front (a .slots) (used .result) (a .table .now) (used .ensures .0) (used .ensures .1) d)))
+returns-4 c = let a = c .before .before .before .before .before .before .before .before .before .before .before .before .before .before .before .before .before .before .before .args in
+    let passed = c .before .before .before .before .before .before .before .before .before .before .pass-entries .ensures .0 (not-false _ (c .before .before .before .before .if2 .left)) in
+    let head = sym (c .before .before .before .before .before .before .before .before .before .before .before .before .before .before .before .head-ok .ensures) ∙ not-false _ (c .before .before .before .before .before .before .before .before .before .before .before .before .before .before .if1 .left) in (
+      decided (c .before .before .before .before .before .before .before .before .before .before .before .before .before .cells-word .result) (a .slots) (a .bodies) (a .table .now) _
+          (λ r. pass-right (c .before .before .before .before .before .before .before .before .before .before .before .before .before .cells-word .result) (a .slots) (a .bodies) (a .table .now) _ _ (passed .0) head (sym (c .parents-ok .ensures) ∙ r))
+          (λ r. pass-wrong (c .before .before .before .before .before .before .before .before .before .before .before .before .before .cells-word .result) (a .slots) (a .bodies) (a .table .now) _ _ (passed .0) head (sym (c .parents-ok .ensures) ∙ r))
+          ∙ (rw (c .before .before .before .before .before .before .before .before .before .before .before .before .before .cells-word .ensures) (rule-least (a .cells) (a .slots) (a .bodies) (a .table .now))),
+      (λ r. pass-marks (c .before .before .before .before .before .before .before .before .before .before .before .before .before .cells-word .result) (a .slots) (a .bodies) (a .table .now) _ _ (passed .0) head),
+    )
 
 pub rule-ok-spec : {M : Type 1} → statement M
 rule-ok-spec =
@@ -76,10 +79,16 @@ rule-ok-spec =
     (tie.spec
     head-ok-requires
     returns
-    entries-ok-requires
+    cells-word-requires
+    cast-pass-entries
+    pass-entries-requires
+    same-length
+    same-length-2
     returns-2
-    last-in-use-requires
-    cells-ok-requires
+    same-length-3
+    same-length-4
     returns-3
-    bodies-ok-requires
+    parents-ok-requires
+    same-length-5
+    same-length-6
     returns-4)

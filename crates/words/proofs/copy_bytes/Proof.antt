@@ -1,64 +1,39 @@
--- `words::copy_bytes` meets its contract. The loop's invariant: the first `j` stores of the plan are made. Assumes nothing.
-use mathlib.Core.Path.{_≡_, refl, _∙_}
-use Prim.Native.Nat.{_-_, _≤_, _<_, min}
+-- `words::copy_bytes` meets its contract: a budget that suffices makes all 64 stores. Assumes nothing.
+use mathlib.Core.Path.{_≡_, _∙_}
+use Prim.Native.Nat.{min}
 use native.Mathlib.Omega.{arith}
 use borrow.Author.Needs.{needs}
-use lib.ListN.{take}
-use Rattle.words.specs.Stores.{stores}
-use Rattle.words.specs.Cells.{copyPlan}
-use Rattle.words.proofs.Plans.{length-stores, copy-turn, take-min, length-copyPlan}
+use Rattle.words.proofs.Plans.{take-min, length-copyPlan}
 use Rattle.words.proofs.copy_bytes.Statement.{statement}
 use Rattle.words.proofs.copy_bytes.Tie as tie
 
-abbrev Inv-loop : tie.InvT-loop
-Inv-loop src dst₀ budget n j₀ dst j = (j ≤ n) × (dst ≡ stores (take j (copyPlan src)) dst₀)
+copy-whole-requires : tie.Need-copy-whole-requires
+copy-whole-requires c κs = search needs
 
-abbrev μ-loop : tie.MeasureT-loop
-μ-loop src dst₀ budget n j₀ dst j = n - j
+same-length : tie.Need-same-length
+same-length c = search needs
 
-least-requires : tie.Need-least-requires Inv-loop μ-loop
-least-requires c κs = search needs
-
-loop-holds : tie.Need-loop-holds Inv-loop μ-loop
-loop-holds c = (omega arith, refl)
-
-shared-slice-read-dst : tie.Need-shared-slice-read-dst Inv-loop μ-loop
-shared-slice-read-dst c = omega arith
-
-slice-write-dst : tie.Need-slice-write-dst Inv-loop μ-loop
-slice-write-dst c = rw (c .before .before .loop .inv .1, length-stores) (omega arith)
-
-add-j : tie.Need-add-j Inv-loop μ-loop
-add-j c = omega arith
-
-loop-less : tie.Need-loop-less Inv-loop μ-loop
-loop-less c = omega arith
-
-loop-again : tie.Need-loop-again Inv-loop μ-loop
-loop-again c =
-    let h : c .before .before .loop .j < 64 = omega arith in
-    (omega arith, copy-turn _ _ _ _ h (c .before .before .loop .inv .1))
-
-same-length : tie.Need-same-length Inv-loop μ-loop
-same-length c = rw (c .before .loop .inv .1, length-stores)
-
-returns : tie.Need-returns Inv-loop μ-loop
+returns : tie.Need-returns
 returns c =
-    let e : c .before .loop .j ≡ min (c .before .before .before .before .before .args .budget) 64 = omega arith in
-    c .before .loop .inv .1 ∙ rw (e, take-min _ 64 _ (length-copyPlan _))
+    let e : 64 ≡ min (c .before .before .before .before .before .before .before .args .budget) 64 = omega arith in
+    c .before .before .copy-whole .ensures ∙ rw (e, take-min _ 64 _ (length-copyPlan _))
+
+copy-first-requires : tie.Need-copy-first-requires
+copy-first-requires c κs = search needs
+
+same-length-2 : tie.Need-same-length-2
+same-length-2 c = search needs
+
+returns-2 : tie.Need-returns-2
+returns-2 c = search needs
 
 pub copy-bytes-spec : {M : Type 1} → statement M
 copy-bytes-spec =
     tie.close
     (tie.spec
-    Inv-loop
-    μ-loop
-    least-requires
-    loop-holds
-    shared-slice-read-dst
-    slice-write-dst
-    add-j
-    loop-less
-    loop-again
+    copy-whole-requires
     same-length
-    returns)
+    returns
+    copy-first-requires
+    same-length-2
+    returns-2)

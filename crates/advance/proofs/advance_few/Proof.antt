@@ -1,0 +1,86 @@
+use mathlib.Core.Path.{_≡_, ap, _∙_}
+use native.Mathlib.Omega.{arith}
+use lib.ListN.{length}
+use Rattle.table.proofs.Marks.{zeros-length, blank-zeros}
+use borrow.Author.Needs.{needs}
+use Rattle.advance.proofs.advance_few.Statement.{statement}
+use Rattle.advance.proofs.advance_few.Tie as tie
+use Rattle.advance.proofs.advance_few.Reads as reads
+use Rattle.advance.proofs.advance_few.Lts as lts
+use Rattle.advance.proofs.advance_marked.Reads as advance-marked-reads
+use Rattle.advance.proofs.few_groups.Reads as few-groups-reads
+use Rattle.advance.proofs.few_places.Reads as few-places-reads
+use Rattle.table.proofs.few_marks.Reads as few-marks-reads
+use Rattle.table.proofs.no_bodies.Reads as no-bodies-reads
+
+-- src/lib.rt:416:20
+few-marks-requires : tie.Need-few-marks-requires
+few-marks-requires c κs = search needs
+
+-- src/lib.rt:417:20
+no-bodies-requires : tie.Need-no-bodies-requires
+no-bodies-requires c κs = search needs
+
+-- src/lib.rt:418:22
+few-groups-requires : tie.Need-few-groups-requires
+few-groups-requires c κs = search needs
+
+-- src/lib.rt:419:22
+few-places-requires : tie.Need-few-places-requires
+few-places-requires c κs = search needs
+
+-- src/lib.rt:425:9
+slice-aggregate-advance-marked : tie.Need-slice-aggregate-advance-marked
+slice-aggregate-advance-marked c = search needs
+
+-- src/lib.rt:426:9
+slice-aggregate-advance-marked-2 : tie.Need-slice-aggregate-advance-marked-2
+slice-aggregate-advance-marked-2 c = search needs
+
+-- src/lib.rt:427:9
+slice-aggregate-advance-marked-3 : tie.Need-slice-aggregate-advance-marked-3
+slice-aggregate-advance-marked-3 c = search needs
+
+-- src/lib.rt:428:9
+slice-aggregate-advance-marked-4 : tie.Need-slice-aggregate-advance-marked-4
+slice-aggregate-advance-marked-4 c = search needs
+
+-- src/lib.rt:420:5
+advance-marked-requires : tie.Need-advance-marked-requires
+advance-marked-requires c κs =
+    let s : length (c .before .before .before .before .before .before .before .before .before .few-marks .result) ≡ 1024 = ap length (c .before .before .before .before .before .before .before .before .before .few-marks .ensures) ∙ zeros-length 1024 in
+    let u : length (c .before .before .before .before .before .before .before .before .no-bodies .result) ≡ 4096 = ap length (c .before .before .before .before .before .before .before .before .no-bodies .ensures) ∙ zeros-length 4096 in
+    let g : length (c .before .before .before .before .before .before .before .few-groups .result) ≡ 16 = ap length (c .before .before .before .before .before .before .before .few-groups .ensures) ∙ zeros-length 16 in
+    let p : length (c .before .before .before .before .before .before .few-places .result) ≡ 1024 = ap length (c .before .before .before .before .before .before .few-places .ensures) ∙ zeros-length 1024 in (
+      (omega (arith, s, c .before .before .before .before .before .before .before .before .before .before .before .before .before .pre), u, omega (arith, s, g), omega (arith, s), omega (arith, p, c .before .before .before .before .before .before .before .before .before .before .before .before .before .pre)),
+      (rw (c .before .before .before .before .before .before .before .before .before .few-marks .ensures) (blank-zeros 1024), rw (c .before .before .before .before .before .before .before .before .no-bodies .ensures) (blank-zeros 4096), rw (c .before .before .before .before .before .before .before .few-groups .ensures) (blank-zeros 16)),
+    )
+
+-- src/lib.rt:410:1
+same-length : tie.Need-same-length
+same-length c = search needs
+
+-- src/lib.rt:410:1
+same-length-2 : tie.Need-same-length-2
+same-length-2 c = search needs
+
+-- src/lib.rt:410:1
+returns : tie.Need-returns
+returns c = search needs
+
+pub advance-few-spec : {M : Type 1} → statement M
+advance-few-spec =
+    tie.close
+    (tie.spec
+    few-marks-requires
+    no-bodies-requires
+    few-groups-requires
+    few-places-requires
+    slice-aggregate-advance-marked
+    slice-aggregate-advance-marked-2
+    slice-aggregate-advance-marked-3
+    slice-aggregate-advance-marked-4
+    advance-marked-requires
+    same-length
+    same-length-2
+    returns)

@@ -1,0 +1,12 @@
+-- `advance::many_groups` meets its contract. Assumes nothing.
+use mathlib.Core.Path.{refl}
+use Rattle.table.specs.Marks.{zeros}
+use Rattle.advance.proofs.many_groups.Statement.{statement}
+use Rattle.advance.proofs.many_groups.Tie as tie
+
+returns : tie.Need-returns
+unfolding zeros
+returns c = refl
+
+pub many-groups-spec : {M : Type 1} → statement M
+many-groups-spec = tie.close (tie.spec returns)

@@ -1,0 +1,46 @@
+-- `restore_few` meets its contract: 1024 marks are enough in a small memory. Assumes nothing.
+use native.Mathlib.Omega.{arith}
+use borrow.Author.Needs.{needs}
+use Rattle.restore.proofs.Marking.{lent}
+use Rattle.restore.proofs.restore_few.Statement.{statement}
+use Rattle.restore.proofs.restore_few.Tie as tie
+
+few-marks-requires : tie.Need-few-marks-requires
+few-marks-requires c κs = search needs
+
+no-bodies-requires : tie.Need-no-bodies-requires
+no-bodies-requires c κs = search needs
+
+slice-aggregate-restore-marked : tie.Need-slice-aggregate-restore-marked
+slice-aggregate-restore-marked c = search needs
+
+slice-aggregate-restore-marked-2 : tie.Need-slice-aggregate-restore-marked-2
+slice-aggregate-restore-marked-2 c = search needs
+
+restore-marked-requires : tie.Need-restore-marked-requires
+restore-marked-requires c κs =
+    let seen = lent 1024 _ (c .before .before .before .before .before .few-marks .ensures) in
+    let used = lent 4096 _ (c .before .before .before .before .no-bodies .ensures) in
+    ((omega (arith, seen .0), used .0), (seen .1, used .1))
+
+same-length : tie.Need-same-length
+same-length c = search needs
+
+same-length-2 : tie.Need-same-length-2
+same-length-2 c = search needs
+
+returns : tie.Need-returns
+returns c = search needs
+
+pub restore-few-spec : {M : Type 1} → statement M
+restore-few-spec =
+    tie.close
+    (tie.spec
+    few-marks-requires
+    no-bodies-requires
+    slice-aggregate-restore-marked
+    slice-aggregate-restore-marked-2
+    restore-marked-requires
+    same-length
+    same-length-2
+    returns)

@@ -1,0 +1,30 @@
+-- Which cells a domain holds read-write, told by the marks of all entries once its read-only entries have taken their depth out.
+use Prim.Native.Nat.{ℕ, _-_, _/_, _^_}
+use mathlib.Core.Bool.{Bool, cond, _&&_}
+use mathlib.Core.List.{List}
+use mathlib.Core.Path.{_≡_}
+use lib.Dec.{eqb}
+use lib.ListN.{getD, set}
+use Rattle.table.specs.Entry.{word1, depthOf, cellOf, writableOf, findIn, holdsIn}
+use Rattle.table.specs.Marks.{has, markAt}
+
+-- does the domain at depth d hold cell c read-write?
+abbrev pub writesIn : ℕ → List ℕ → ℕ → ℕ → Bool
+writesIn e t d c = holdsIn e t d c && eqb (writableOf (word1 e t (findIn e t d c))) 1
+
+-- a mark with one depth less
+abbrev pub withoutDepth : ℕ → ℕ → ℕ
+withoutDepth d mark = mark - 2 ^ d / 2
+
+-- the depth that an entry with first word w takes out of its cell's mark: d, if it is of depth d and read-only; else 0, which takes nothing
+unfoldable pub takenBy : ℕ → ℕ → ℕ
+takenBy d w = cond (eqb (depthOf w) d && eqb (writableOf w) 0) d 0
+
+-- the marks after that entry
+abbrev pub keepCell : ℕ → ℕ → List ℕ → List ℕ
+keepCell d w seen = set seen (cellOf w) (withoutDepth (takenBy d w) (markAt seen w))
+
+-- the marks `after` tell of depth d which cells it holds read-write, and of every other depth what the marks `before` tell
+pub record TellWritable (e : ℕ) (t : List ℕ) (d : ℕ) (before after : List ℕ) : Type 0 where
+  pub others : (k c : ℕ) → (k ≡ d → ⊥) → has k (getD after c 0) ≡ has k (getD before c 0)
+  pub writes : (c : ℕ) → has d (getD after c 0) ≡ writesIn e t d c

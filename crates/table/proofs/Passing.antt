@@ -1,0 +1,130 @@
+-- The pass over the entries: what one more entry, or a run of free ones, does to what is known of those in front. Assumes nothing.
+use Prim.Native.Nat.{ℕ, _+_, _≤_, _<_, min}
+use mathlib.Core.Bool.{Bool, true, false, _&&_}
+use mathlib.Core.List.{List}
+use mathlib.Core.Path.{_≡_, refl}
+use native.Mathlib.Nat.{not-suc-le-zero}
+use native.Mathlib.Omega.{arith}
+use borrow.Author.Tests.{eq-eqb, ne-eqb, leb-true, ltb-true}
+use lib.ListN.{length}
+use lib.Dec.{ltb, leb, eqb}
+use Rattle.words.specs.Layout.{maxCells}
+use Rattle.words.specs.Scan.{all}
+use Rattle.words.proofs.Scan.{and-split, by-le, all-make, all-not, all-ext, true≢}
+use Rattle.table.specs.Entry.{live, word1, word2, depthOf, viaOf, unusedOf, cellOf}
+use Rattle.table.specs.Rule.{headOk, kindOk, entryOk, parentOk, ruleOk}
+use Rattle.table.specs.Marks.{Blank, has, cellIn, markAt, markCell, IsCopy, markBody, bodyFits, placed, kindTold, FreeRun, NoVias, Passed, AllMarked}
+use Rattle.table.proofs.Digits.{has-none}
+use Rattle.table.proofs.Marks.{split, marks-none, once-none, once-not, once-more, marked-more, distinct-none, bodies-more, single-more}
+use Rattle.table.proofs.Rule.{entry-least, outer-make}
+use Rattle.table.proofs.Parts.{no-entries, no-cells, no-single, all-parts}
+
+and-right : (p q r s k : Bool) → (p && (q && (r && (s && k)))) ≡ ((p && (q && (r && s))) && k)
+and-right true true true s k = refl
+and-right true true false s k = refl
+and-right true false r s k = refl
+and-right false q r s k = refl
+
+pub placed-facts : (m live w : ℕ) → placed m live w ≡ true → (1 ≤ depthOf w) × (depthOf w ≤ live) × (cellOf w < m)
+placed-facts m live w h =
+    let s1 = and-split (leb 1 (depthOf w)) _ h in
+    let s2 = and-split (leb (depthOf w) live) _ (s1 .1) in
+    (leb-true _ _ (s1 .0), leb-true _ _ (s2 .0), ltb-true _ _ (and-split (eqb (unusedOf w) 0) (ltb (cellOf w) m) (s2 .1) .1))
+
+module _ (m e b : ℕ) (t : List ℕ) where
+  pub passed-none : (seen used : List ℕ) → Blank seen → Blank used → Passed m e b t 0 seen used
+  passed-none seen used blank clean =
+      record {
+        right = λ i l. absurd (not-suc-le-zero l);
+        once = once-none e t;
+        single = distinct-none (IsCopy e t) (word2 e t);
+        cells = record { clear = λ d k low h j l. absurd (not-suc-le-zero l); found = λ d k h. absurd (true≢ h (rw (blank k) (has-none d))) };
+        copies = marks-none (IsCopy e t) (word2 e t) 1 used (λ k h. omega (arith, h, clean k));
+      }
+
+  -- a free entry is right by itself
+  free-right : (i : ℕ) → (word1 e t i ≡ 0) × (word2 e t i ≡ 0) → entryOk m e b t i ≡ true
+  unfolding entryOk
+  free-right i f = rw (f .0, f .1)
+
+  module _ (n : ℕ) (seen used : List ℕ) (p : Passed m e b t n seen used) where
+    pub passed-free : (k : ℕ) → n ≤ k → FreeRun e t n k → Passed m e b t k seen used
+    passed-free k low free =
+        record {
+          right = λ i l. by-le n i (λ far. free-right i (free i far l)) (λ near. p .right i near);
+          once = λ i l j s deep. by-le n i (λ far. absurd (omega (arith, free i far l .0, deep))) (λ near. p .once i near j s deep);
+          single = λ i l j s u. by-le n i (λ far. absurd (u .0 (free i far l .0))) (λ near. p .single i near j s u);
+          cells = record {
+            clear = λ d c deep h j l q. by-le n j (λ far. absurd (omega (arith, free j far l .0, q, deep))) (λ near. p .cells .clear d c deep h j near q);
+            found = λ d c h. let f = p .cells .found d c h in (f .0, omega (arith, f .1), f .2, f .3);
+          };
+          copies = record {
+            clear = λ c h j l u. by-le n j (λ far. absurd (u .0 (free j far l .0))) (λ near. p .copies .clear c h j near u);
+            found = λ c h. let f = p .copies .found c h in (f .0, omega (arith, f .1), f .2, f .3);
+          };
+        }
+
+    -- one more entry
+    module _ (l : n < e) where
+      pub passed-more : entryOk m e b t n ≡ true → has (depthOf (word1 e t n)) (markAt seen (word1 e t n)) ≡ false → cellIn e t n < length seen
+          → bodyFits (word1 e t n) (word2 e t n) used ≡ true → (IsCopy e t n → word2 e t n < length used)
+          → Passed m e b t (n + 1) (markCell (word1 e t n) seen) (markBody (word1 e t n) (word2 e t n) used)
+      passed-more here free room fits place =
+          record {
+            right = λ i s. split n i s (λ q. rw q here) (λ near. p .right i near);
+            once = once-more e t n seen (p .cells) free (p .once);
+            single = single-more e t n used (p .copies) true l (λ y. p .single) (λ y. absurd (true≢ refl y)) .0 (rw fits);
+            cells = marked-more e t n seen (p .cells) free room;
+            copies = bodies-more e t n used (p .copies) place;
+          }
+
+      pub cell-taken : has (depthOf (word1 e t n)) (markAt seen (word1 e t n)) ≡ true → ruleOk m e b t ≡ false
+      cell-taken h = no-cells m e b t (λ ok. once-not e t n seen (p .cells) l h (ok .once))
+
+      pub body-taken : bodyFits (word1 e t n) (word2 e t n) used ≡ false → ruleOk m e b t ≡ false
+      body-taken h = no-single m e b t (single-more e t n used (p .copies) true l (λ y. p .single) (λ y. absurd (true≢ refl y)) .1 (rw h))
+
+  -- a free entry whose second word is not 0
+  pub free-wrong : (i : ℕ) → word1 e t i ≡ 0 → eqb (word2 e t i) 0 ≡ false → entryOk m e b t i ≡ false
+  unfolding entryOk
+  free-wrong i here h = rw (eq-eqb _ _ here) h
+
+  -- an entry in use, by its two words
+  pub entry-parts : (i : ℕ) → (word1 e t i ≡ 0 → ⊥) → entryOk m e b t i ≡ (placed m (live t) (word1 e t i) && kindTold b (word1 e t i) (word2 e t i))
+  unfolding entryOk kindOk
+  entry-parts i z =
+      let w = word1 e t i in
+      rw (ne-eqb w 0 z) (and-right (leb 1 (depthOf w)) (leb (depthOf w) (live t)) (eqb (unusedOf w) 0) (ltb (cellOf w) m) (kindTold b w (word2 e t i)))
+
+  pub entry-wrong : (n : ℕ) → n < e → entryOk m e b t n ≡ false → ruleOk m e b t ≡ false
+  entry-wrong n l h = no-entries m e b t (all-not e (entryOk m e b t) n l h)
+
+  -- ---- the end of the pass
+  module _ (seen used : List ℕ) (p : Passed m e b t e seen used) (head : headOk t ≡ true) where
+    pub pass-entries : all e (entryOk m e b t) ≡ true
+    pass-entries = all-make e (entryOk m e b t) (p .right)
+
+    pub pass-marks : AllMarked e t seen used
+    pass-marks = record { cells = p .cells; copies = p .copies }
+
+    pub pass-right : all e (parentOk e t) ≡ true → ruleOk m e b t ≡ true
+    pass-right rests = all-parts m e b t pass-entries head (record { once = p .once; rests = rests }) (p .single)
+
+    pub pass-wrong : all e (parentOk e t) ≡ false → ruleOk m e b t ≡ false
+    pass-wrong h = no-cells m e b t (λ ok. true≢ (ok .rests) h)
+
+    pub pass-alone : (vias : ℕ) → NoVias e t e vias → vias ≡ 0 → ruleOk m e b t ≡ true
+    pass-alone vias alone none = pass-right (all-make e (parentOk e t) (λ i l. outer-make 0 e 0 t i (λ v. absurd (v (alone none i l)))))
+
+-- ---- via parent entries counted
+pub vias-free : (e : ℕ) (t : List ℕ) (n k vias : ℕ) → n ≤ k → FreeRun e t n k → NoVias e t n vias → NoVias e t k vias
+vias-free e t n k vias low free so-far none i l = by-le n i (λ far. omega (arith, free i far l .0)) (λ near. so-far none i near)
+
+pub vias-more : (e : ℕ) (t : List ℕ) (n vias : ℕ) → NoVias e t n vias → NoVias e t (n + 1) (vias + viaOf (word1 e t n))
+vias-more e t n vias so-far none i l =
+    split n i l (λ q. rw q (omega (arith, none))) (λ near. so-far (omega (arith, none)) i near)
+
+-- the rule asks for no more cells than an entry can name
+pub rule-least : (m e b : ℕ) (t : List ℕ) → ruleOk (min m maxCells) e b t ≡ ruleOk m e b t
+unfolding ruleOk
+rule-least m e b t = rw (all-ext e (entryOk (min m maxCells) e b t) (entryOk m e b t) (λ i l. entry-least m e b t i))
