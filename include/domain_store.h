@@ -24,8 +24,8 @@
  * stopped, and a call in which the program ended, is followed by ds_open on the same buffers, which finds it wholly made or not made; a make that
  * was cut may leave no store, and a restore that was cut leaves memory mixed in the cells that it was putting back.
  *
- * Stack of a call at the largest sizes: ds_make 5 KB; ds_open, ds_create, ds_list, ds_look 103 KB; ds_delete 169 KB; ds_restore 170 KB; ds_add,
- * ds_commit 234 KB; ds_advance 304 KB.
+ * Stack of a call at the largest sizes: ds_make 5 KB; ds_open, ds_create, ds_list, ds_look, ds_add, ds_delete, ds_commit, ds_restore 104 KB;
+ * ds_advance 120 KB.
  *
  * What the caller owes, and no proof can see: each pointer points to so many elements (lengths are in elements, table_len in words), aligned for
  * its type; buffers and out parameters do not overlap (a pointer is to const where the call never stores into that buffer); and one call at a time is made on a store, with nothing else storing into its buffers

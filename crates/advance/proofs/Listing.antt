@@ -19,8 +19,8 @@ use Rattle.words.proofs.Plans.{length-cellPlan}
 use Rattle.words.proofs.Gather.{gather-length}
 use Rattle.search.specs.Free.{unmarkedFrom}
 use Rattle.search.proofs.From.{Failing, count-stop}
-use Rattle.advance.specs.Notes.{bit, marked, placeOf, Listed, unmarked}
-use Rattle.advance.proofs.Bits.{trailing-low, trailing-here}
+use Rattle.advance.specs.Notes.{bit, marked, NoBits, placeOf, Listed, unmarked}
+use Rattle.advance.proofs.Bits.{no-bit, trailing-low, trailing-here}
 
 -- ---- counts
 
@@ -37,13 +37,6 @@ count-parts a (suc n) f =
     ∙ by-bool (f (a + n))
     (λ p. rw (p, count-parts a n f) (omega arith))
     (λ p. rw (p, count-parts a n f))
-
--- none lies behind m
-pub count-most : (m n : ℕ) (f : ℕ → Bool) → ((k : ℕ) → m ≤ k → f k ≡ false) → count n f ≤ count m f
-count-most m n f h =
-    by-le n m
-    (λ l. count-mono f n m l)
-    (λ l. let q = count-stop n m f (omega arith) (λ k a b. h k a) in omega arith)
 
 -- ---- one group: from the place `at` on, where `left` has the bits that are left, to the next set bit
 
@@ -171,12 +164,30 @@ module _ (groups₀ groups : List ℕ) (g n : ℕ) (same : getD groups g 0 ≡ g
     pub listed-more : Listed (marked groups₀) (64 * g) groups seen places → Listed (marked groups₀) (64 * (g + 1)) (set groups g n) seen′ places′
     listed-more old = record { place = λ k l h. both old k l h .0; cell = λ k l h. both old k l h .1 }
 
--- a list of what f holds of is one of what another holds of that says the same
-pub listed-ext : (f g : ℕ → Bool) (m : ℕ) (firsts seen places : List ℕ) → ((c : ℕ) → f c ≡ g c) → Listed f m firsts seen places → Listed g m firsts seen places
-listed-ext f g m firsts seen places same l =
+-- groups without a bit are passed over
+module _ (groups₀ groups : List ℕ) (g h : ℕ) (on : g ≤ h) (same : (k : ℕ) → g ≤ k → getD groups k 0 ≡ getD groups₀ k 0) (empty : NoBits groups g h) where
+  none-marked : (c : ℕ) → 64 * g ≤ c → c < 64 * h → marked groups₀ c ≡ false
+  none-marked c l b =
+      let from : g ≤ c / 64 = omega arith in
+      let z = sym (same (c / 64) from) ∙ empty (c / 64) from (omega arith) in
+      ap (λ (x : ℕ). bit x (c % 64)) z ∙ no-bit (c % 64)
+
+  pub count-empty : count (64 * g) (marked groups₀) ≡ count (64 * h) (marked groups₀)
+  count-empty = sym (count-stop (64 * h) (64 * g) (marked groups₀) (omega arith) none-marked)
+
+  pub listed-empty : (seen places : List ℕ) → Listed (marked groups₀) (64 * g) groups seen places → Listed (marked groups₀) (64 * h) groups seen places
+  listed-empty seen places old =
+      record {
+        place = λ k l y. by-le (64 * g) k (λ far. absurd (true≢ y (none-marked k far l))) (λ near. old .place k near y);
+        cell = λ k l y. by-le (64 * g) k (λ far. absurd (true≢ y (none-marked k far l))) (λ near. old .cell k near y);
+      }
+
+-- a list of the cells below n of which f holds is one of those below m of which another holds that says the same
+pub listed-ext : (f g : ℕ → Bool) (n m : ℕ) (firsts seen places : List ℕ) → m ≤ n → ((c : ℕ) → f c ≡ g c) → Listed f n firsts seen places → Listed g m firsts seen places
+listed-ext f g n m firsts seen places less same l =
     record {
-      place = λ k h y. l .place k h (same k ∙ y) ∙ count-ext k f g (λ j b. same j);
-      cell = λ k h y. ap (λ (x : ℕ). getD places x 0) (sym (count-ext k f g (λ j b. same j))) ∙ l .cell k h (same k ∙ y);
+      place = λ k h y. l .place k (omega arith) (same k ∙ y) ∙ count-ext k f g (λ j b. same j);
+      cell = λ k h y. ap (λ (x : ℕ). getD places x 0) (sym (count-ext k f g (λ j b. same j))) ∙ l .cell k (omega arith) (same k ∙ y);
     }
 
 -- ---- from the list to the plan

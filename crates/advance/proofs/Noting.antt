@@ -1,10 +1,10 @@
 -- Laws of the questions asked of the entries, and of the list by which the code settles which body each cell gets. Assumes nothing.
 use Prim.Native.Nat.{ℕ, zero, suc, _+_, _-_, _*_, _/_, _≤_, _<_}
 use mathlib.Core.Bool.{Bool, true, false, cond, not, _&&_, _||_}
-use mathlib.Core.List.{List, [], _++_}
+use mathlib.Core.List.{List, [], _++_, append-nil}
 use mathlib.Core.Path.{_≡_, refl, sym, ap, subst, _∙_}
 use native.Mathlib.Omega.{arith}
-use borrow.Author.Tests.{eq-eqb, eqb-true, eqb-false}
+use borrow.Author.Tests.{eq-eqb, eqb-true, eqb-false, leb-false}
 use lib.Dec.{leb, eqb}
 use lib.ListN.{length, getD, take}
 use Rattle.words.specs.Layout.{slotsOf, pairsAt}
@@ -12,27 +12,83 @@ use Rattle.words.specs.Scan.{all, count, nth}
 use Rattle.words.specs.Stores.{stores, gather}
 use Rattle.words.specs.Cells.{cellPlan}
 use Rattle.words.specs.Journal.{pairPlans}
-use Rattle.words.proofs.Scan.{by-bool, is-false, is-true, true≢, and-split, and-join, all-at, all-make, all-ext, count-ext, count-le}
+use Rattle.words.proofs.Scan.{by-bool, by-le, is-false, is-true, true≢, and-split, and-join, all-at, all-make, all-ext, count-ext, count-le}
 use Rattle.words.proofs.Plans.{Each, stores-none}
 use Rattle.words.proofs.Names.{names-make, names-below}
 use Rattle.words.proofs.Places.{pendingAt-below}
 use Rattle.words.proofs.Nth.{count-below, nth-below, nth-holds, nth-rank, nth-ext}
 use Rattle.table.specs.Entry.{live, word1, word2, depthOf, writableOf, viaOf, cellOf, parent, findIn, holdsIn}
-use Rattle.table.specs.Changes.{Change, put, entryStores, entryChanges}
+use Rattle.table.specs.Changes.{Change, keep, put, entryStores, entryChanges}
 use Rattle.table.specs.Marks.{Marks, Marked, IsCopy, has, markAt}
 use Rattle.table.proofs.Entry.{find-hit, holds-found}
 use Rattle.table.proofs.Rule.{Rule}
 use Rattle.table.proofs.Marks.{marked-holds}
 use Rattle.table.proofs.Entries.{changes-names}
 use Rattle.search.specs.Free.{isCopy, bodyUsed, bodyFree, copies}
+use Rattle.search.proofs.From.{count-stop}
 use Rattle.search.proofs.Counts.{count-entries}
 use Rattle.search.proofs.Free.{body-used, body-user}
 use Rattle.model.specs.Answer.{ask}
 use Rattle.advance.specs.Advance.{advances, bodyFor, advanceChange, advanceWords, advanceBytes}
-use Rattle.advance.specs.Notes.{turns, entriesCheck, marked, Turned, placeOf, Listed, Placed, unmarked, Filled, noted, noteChange}
+use Rattle.advance.specs.Notes.{FreeFrom, turns, entriesCheck, marked, Turned, placeOf, Listed, Placed, unmarked, Filled, noted, noteChange}
 use Rattle.advance.proofs.Turning.{turnsAt, Choice, advances-of, advances-cell}
 use Rattle.advance.proofs.Choosing.{enough}
-use Rattle.advance.proofs.Listing.{gather-listed}
+use Rattle.advance.proofs.Listing.{gather-listed, listed-ext}
+
+-- ---- free entries, at which no pass need look
+
+-- what asks for nothing is passed over
+gather-skip : {A : Type 0} (f : ℕ → List A) (c d : ℕ) → c ≤ d → ((k : ℕ) → c ≤ k → k < d → f k ≡ []) → gather d f ≡ gather c f
+gather-skip f c zero l h = let z : 0 ≡ c = omega arith in ap (λ (n : ℕ). gather n f) z
+gather-skip f c (suc d) l h =
+    by-le c d
+    (λ q. ap (λ (x : List _). gather d f ++ x) (h d q (omega arith)) ∙ append-nil (gather d f) ∙ gather-skip f c d q (λ k r s. h k r (omega arith)))
+    (λ q. let z : suc d ≡ c = omega arith in ap (λ (n : ℕ). gather n f) z)
+
+-- a test that every free entry passes
+all-stop : (n from : ℕ) (f : ℕ → Bool) → from ≤ n → ((k : ℕ) → from ≤ k → k < n → f k ≡ true) → all from f ≡ all n f
+unfolding all
+all-stop zero from f l h = let z : from ≡ 0 = omega arith in ap (λ (x : ℕ). all x f) z
+all-stop (suc n) from f l h =
+    by-le from n
+    (λ q. all-stop n from f q (λ k a b. h k a (omega arith)) ∙ all-left (all n f) (f n) (h n q (omega arith)))
+    (λ q. let z : from ≡ suc n = omega arith in ap (λ (x : ℕ). all x f) z)
+  where
+    all-left : (x y : Bool) → y ≡ true → x ≡ (x && y)
+    all-left true y q = sym q
+    all-left false y q = refl
+
+module _ (e : ℕ) (t : List ℕ) (top : ℕ) (within : top ≤ e) (free : FreeFrom e t top) where
+  none-turns : (n : ℕ) → turns n 0 ≡ false
+  none-turns n = is-false (turns n 0) (λ y. true≢ (and-split (eqb (depthOf 0) n) (eqb (writableOf 0) 1) y .1) refl)
+
+  pub free-stays : (n k : ℕ) → top ≤ k → k < e → turns n (word1 e t k) ≡ false
+  free-stays n k l h = ap (turns n) (free k l h) ∙ none-turns n
+
+  pub turning-front : (n : ℕ) → count top (λ i. turns n (word1 e t i)) ≡ count e (λ i. turns n (word1 e t i))
+  turning-front n = sym (count-stop e top (λ i. turns n (word1 e t i)) within (free-stays n))
+
+  pub copies-front : count top (isCopy e t) ≡ copies e t
+  unfolding copies
+  copies-front = sym (count-stop e top (isCopy e t) within (λ k l h. ap (λ (w : ℕ). not (eqb w 0) && eqb (viaOf w) 0) (free k l h)))
+
+  pub covered-front : (n : ℕ) (P : ℕ → Bool) → all top (λ i. not (turns n (word1 e t i)) || P (word1 e t i)) ≡ all e (λ i. not (turns n (word1 e t i)) || P (word1 e t i))
+  covered-front n P =
+      all-stop e top (λ i. not (turns n (word1 e t i)) || P (word1 e t i)) within
+      (λ k l h. ap (λ (b : Bool). not b || P (word1 e t k)) (free-stays n k l h))
+
+  pub turned-front : (n : ℕ) (groups : List ℕ) → Turned e t n top groups → Turned e t n e groups
+  turned-front n groups m =
+      record {
+        clear = λ c h j l u q. by-le top j (λ far. true≢ u (free-stays n j far l)) (λ near. m .clear c h j near u q);
+        found = λ c h. let f = m .found c h in (f .0, omega (arith, f .1), f .2, f .3);
+      }
+
+  pub changes-front : (n : ℕ) (note : ℕ → ℕ) → gather top (λ i. entryStores e i (noteChange n note (word1 e t i))) ≡ entryChanges e (λ i. noteChange n note (word1 e t i))
+  unfolding noteChange
+  changes-front n note =
+      sym (gather-skip (λ i. entryStores e i (noteChange n note (word1 e t i))) top e within
+      (λ k l h. ap (λ (b : Bool). entryStores e k (cond b (put (word1 e t k - 67_108_864 * viaOf (word1 e t k)) (note (cellOf (word1 e t k)))) keep)) (free-stays n k l h)))
 
 -- ---- the questions, asked of the entries
 
@@ -43,11 +99,16 @@ cellsCheck m e b t =
     (ask (leb (copies e t + count m (advances e t)) b) 17 0)
 
 -- question 15, told by the marks of all entries
-pub covers : (e : ℕ) (t seen : List ℕ) (n : ℕ) → Marked e t e seen → 1 ≤ parent n
-    → all e (λ i. not (turns n (word1 e t i)) || has (parent n) (markAt seen (word1 e t i))) ≡ all e (λ i. not (turns n (word1 e t i)) || holdsIn e t (parent n) (cellOf (word1 e t i)))
-covers e t seen n told low =
-    all-ext e (λ i. not (turns n (word1 e t i)) || has (parent n) (markAt seen (word1 e t i))) (λ i. not (turns n (word1 e t i)) || holdsIn e t (parent n) (cellOf (word1 e t i)))
-    (λ i l. ap (λ (x : Bool). not (turns n (word1 e t i)) || x) (marked-holds e t seen told (parent n) (cellOf (word1 e t i)) low))
+pub covers : (e : ℕ) (t seen : List ℕ) (n : ℕ) → Marked e t e seen
+    → (leb n 1 || all e (λ i. not (turns n (word1 e t i)) || has (parent n) (markAt seen (word1 e t i)))) ≡ (leb n 1 || all e (λ i. not (turns n (word1 e t i)) || holdsIn e t (parent n) (cellOf (word1 e t i))))
+covers e t seen n told =
+    by-bool (leb n 1)
+    (λ y. rw y)
+    (λ y.
+    let outer = leb-false n 1 y in
+    rw y
+    (all-ext e (λ i. not (turns n (word1 e t i)) || has (parent n) (markAt seen (word1 e t i))) (λ i. not (turns n (word1 e t i)) || holdsIn e t (parent n) (cellOf (word1 e t i)))
+    (λ i l. ap (λ (x : Bool). not (turns n (word1 e t i)) || x) (marked-holds e t seen told (parent n) (cellOf (word1 e t i)) (omega arith)))))
 
 module _ (m e b : ℕ) (t : List ℕ) (ok : Rule m e b t) where
   -- every entry's cell has a mark, a free entry's too
@@ -104,7 +165,7 @@ module _ (m e b : ℕ) (t : List ℕ) (ok : Rule m e b t) where
   advances-few low = omega (arith, count-entries m e b t ok (live t) low (λ w. eqb (writableOf w) 1), count-le e (λ i. turns (live t) (word1 e t i)))
 
   -- the cells whose bits are set are those that advance
-  pub marked-advances : (groups : List ℕ) → Turned e t (live t) e groups → (c : ℕ) → marked groups c ≡ advances e t c
+  marked-advances : (groups : List ℕ) → Turned e t (live t) e groups → (c : ℕ) → marked groups c ≡ advances e t c
   marked-advances groups k c =
       by-bool (advances e t c)
       (λ a.
@@ -117,8 +178,18 @@ module _ (m e b : ℕ) (t : List ℕ) (ok : Rule m e b t) where
       ∙ sym a)
 
   -- and no cell behind memory is among them
-  pub behind-stays : (c : ℕ) → m ≤ c → advances e t c ≡ false
+  behind-stays : (c : ℕ) → m ≤ c → advances e t c ≡ false
   behind-stays c l = is-false (advances e t c) (λ a. let h = advances-cell m e b t ok c a in omega arith)
+
+  -- so that their number and their list are those of the cells that advance
+  module _ (groups : List ℕ) (turned : Turned e t (live t) e groups) (long : m ≤ 64 * length groups) where
+    pub marked-count : count (64 * length groups) (marked groups) ≡ count m (advances e t)
+    marked-count =
+        count-ext (64 * length groups) (marked groups) (advances e t) (λ k l. marked-advances groups turned k)
+        ∙ count-stop (64 * length groups) m (advances e t) long (λ k l h. behind-stays k l)
+
+    pub marked-listed : (firsts seen places : List ℕ) → Listed (marked groups) (64 * length groups) firsts seen places → Listed (advances e t) m firsts seen places
+    marked-listed firsts seen places = listed-ext (marked groups) (advances e t) (64 * length groups) m firsts seen places long (marked-advances groups turned)
 
 -- ---- the bodies
 

@@ -1,5 +1,5 @@
 -- What the parts of advance's code pass on to each other: which cells advance, as bits; the list of those cells; and for each its place in it.
-use Prim.Native.Nat.{ℕ, _+_, _-_, _*_, _/_, _%_, _^_, _<_}
+use Prim.Native.Nat.{ℕ, _+_, _-_, _*_, _/_, _%_, _^_, _≤_, _<_}
 use mathlib.Core.Bool.{Bool, true, false, cond, not, _&&_, _||_}
 use mathlib.Core.Path.{_≡_}
 use mathlib.Core.List.{List}
@@ -11,6 +11,10 @@ use Rattle.table.specs.Entry.{live, word1, parent, holdsIn, depthOf, cellOf, wr
 use Rattle.table.specs.Changes.{Change, keep, put}
 use Rattle.search.specs.Free.{copies}
 use Rattle.model.specs.Answer.{ask}
+
+-- the entries from the n-th on are free
+abbrev pub FreeFrom : ℕ → List ℕ → ℕ → Type 0
+FreeFrom e t n = (i : ℕ) → n ≤ i → i < e → word1 e t i ≡ 0
 
 -- an entry with first word w advances where n domains are live: it is innermost and read-write
 abbrev pub turns : (n w : ℕ) → Bool
@@ -31,6 +35,10 @@ bit x j = eqb (x / 2 ^ j % 2) 1
 -- is the bit of cell c set?
 abbrev pub marked : List ℕ → ℕ → Bool
 marked groups c = bit (getD groups (c / 64) 0) (c % 64)
+
+-- the groups from the g-th to the one before the h-th have no bit
+abbrev pub NoBits : List ℕ → ℕ → ℕ → Type 0
+NoBits groups g h = (k : ℕ) → g ≤ k → k < h → getD groups k 0 ≡ 0
 
 -- the groups after an entry with first word w, where n domains are live: one that advances sets its cell's bit
 abbrev pub markTurning : (n w : ℕ) → List ℕ → List ℕ

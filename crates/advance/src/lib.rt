@@ -38,12 +38,38 @@ ghost use Rattle.words.specs.Journal.{pairPlans, journal, journalSteps};
 ghost use Rattle.table.specs.Entry.{live, word1, parent, holdsIn, cellOf};
 ghost use Rattle.table.specs.Marks.{Blank, AllMarked, Marked, cellIn, has, markAt, zeros};
 ghost use Rattle.table.specs.Changes.{entryStores, entryChanges};
-ghost use Rattle.table.specs.Rule.{ruleOk};
 ghost use Rattle.search.specs.Free.{copies};
 ghost use Rattle.store.specs.Outcome.{buffers, report, leaves, outcome};
 ghost use Rattle.store.specs.Means.{seen};
 ghost use Rattle.advance.specs.Advance.{advances, advanceCheck, advanceCall, advanceMeans};
-ghost use Rattle.advance.specs.Notes.{turns, entriesCheck, bit, marked, markTurning, Turned, placeOf, Listed, unmarked, Filled, noted, Placed, noteChange};
+ghost use Rattle.advance.specs.Notes.{FreeFrom, turns, entriesCheck, bit, marked, NoBits, markTurning, Turned, placeOf, Listed, unmarked, Filled, noted, Placed, noteChange};
+
+// ---- the entries in use
+
+// Are the four entries from i on free?
+fn four_free(table: &[u32], slots: usize, i: usize) -> bool
+    requires { ⌜ (i + 4 ≤ slots) × (slots ≤ maxSlots) × (pairsAt slots ≤ length (now table)) ⌝ }
+    ensures { λ r. ⌜ (r ≡ true → (k : ℕ) → i ≤ k → k < i + 4 → word1 slots (now (table .entry)) k ≡ 0) ⌝ }
+{
+    ((first_word(table, slots, i) == 0) & (first_word(table, slots, i + 1) == 0))
+        & ((first_word(table, slots, i + 2) == 0) & (first_word(table, slots, i + 3) == 0))
+}
+
+// A number of entries behind which all are free. Entries are taken from the front and most tables have room to spare: the passes over the
+// entries end there. Four are asked at once, so that the number may be three too large.
+fn last_in_use(table: &[u32], slots: usize) -> usize
+    requires { ⌜ (slots ≤ maxSlots) × (pairsAt slots ≤ length (now table)) ⌝ }
+    ensures { λ r. ⌜ (r ≤ slots) × FreeFrom slots (now (table .entry)) r ⌝ }
+{
+    let mut n = slots;
+    while 4 <= n {
+        if !four_free(table, slots, n - 4) {
+            return n;
+        }
+        n -= 4;
+    }
+    n
+}
 
 // ---- the questions: 0, or the number of the first no
 
@@ -54,44 +80,16 @@ fn turns_word(word: u32, live: u32) -> bool
     (word / 268435456 == live) & (word / 134217728 % 2 == 1)
 }
 
-// Do the marks of the entries' cells say that the parent holds the cell of every entry that advances? All are asked, with no branch.
-fn all_covered(table: &[u32], slots: usize, live: u32, seen: &[u8]) -> bool
-    requires { ⌜ (slots ≤ maxSlots) × (pairsAt slots ≤ length (now table)) × (1 ≤ live) × (live ≤ maxLive) × ((i : ℕ) → i < slots → cellIn slots (now table) i < length (now seen)) ⌝ }
-    ensures { λ r. ⌜ r ≡ all slots (λ i. not (turns live (word1 slots (now (table .entry)) i)) || has (parent live) (markAt (now (seen .entry)) (word1 slots (now (table .entry)) i))) ⌝ }
-{
-    let mut good = true;
-    let mut i: usize = 0;
-    while i < slots {
-        let word = first_word(table, slots, i);
-        let held = has_depth(seen[wide(word % 65536)], live - 1);
-        good = good & (!turns_word(word, live) | held);
-        i += 1;
-    }
-    good
-}
-
-// Question 15, asked of the entries. A domain with none around it is not asked.
-fn parent_covers(table: &[u32], slots: usize, live: u32, seen: &[u8]) -> bool
-    requires { ⌜ (slots ≤ maxSlots) × (pairsAt slots ≤ length (now table)) × (live ≤ maxLive) × ((i : ℕ) → i < slots → cellIn slots (now table) i < length (now seen)) ⌝ }
-    requires { ⌜ Marked slots (now table) slots (now seen) ⌝ }
-    ensures { λ r. ⌜ r ≡ (leb live 1 || all slots (λ i. not (turns live (word1 slots (now (table .entry)) i)) || holdsIn slots (now (table .entry)) (parent live) (cellOf (word1 slots (now (table .entry)) i)))) ⌝ }
-{
-    if live <= 1 {
-        return true;
-    }
-    all_covered(table, slots, live, seen)
-}
-
 // How many bodies there must be: one for each copy, and one more for each entry that advances. It takes no branch on what an entry holds and
 // counts in numbers as wide as a word, so that the compiler can count several entries at once.
-fn bodies_wanted(table: &[u32], slots: usize, live: u32) -> usize
-    requires { ⌜ (slots ≤ maxSlots) × (pairsAt slots ≤ length (now table)) ⌝ }
+fn bodies_wanted(table: &[u32], slots: usize, top: usize, live: u32) -> usize
+    requires { ⌜ (slots ≤ maxSlots) × (pairsAt slots ≤ length (now table)) × (top ≤ slots) × FreeFrom slots (now table) top ⌝ }
     ensures { λ r. ⌜ r ≡ copies slots (now (table .entry)) + count slots (λ i. turns live (word1 slots (now (table .entry)) i)) ⌝ }
 {
     let mut copies: u32 = 0;
     let mut turning: u32 = 0;
     let mut i: usize = 0;
-    while i < slots {
+    while i < top {
         let word = first_word(table, slots, i);
         copies += ((word != 0) & (word / 67108864 % 2 == 0)) as u32;
         turning += turns_word(word, live) as u32;
@@ -100,23 +98,65 @@ fn bodies_wanted(table: &[u32], slots: usize, live: u32) -> usize
     wide(copies + turning)
 }
 
-// Questions 15 and 17, asked of the entries: a right table has as many innermost read-write entries as such cells.
-fn entries_check(table: &[u32], slots: usize, bodies: usize, seen: &[u8]) -> u32
-    requires { ⌜ (slots ≤ maxSlots) × (pairsAt slots ≤ length (now table)) × (live (now table) ≤ maxLive) × ((i : ℕ) → i < slots → cellIn slots (now table) i < length (now seen)) ⌝ }
-    requires { ⌜ Marked slots (now table) slots (now seen) ⌝ }
-    ensures { λ r. ⌜ r ≡ entriesCheck slots bodies (now (table .entry)) ⌝ }
+// Sets the bit of an entry's cell where the entry advances. There is no branch: any other entry sets no bit.
+fn mark_turning(groups: &mut [u64], word: u32, live: u32)
+    requires { ⌜ cellOf word / 64 < length (now groups) ⌝ }
+    ensures { λ _. ⌜ now (groups .exit) ≡ markTurning live word (now (groups .entry)) ⌝ }
+{
+    let cell = wide(word % 65536);
+    let turns = turns_word(word, live) as u64;
+    groups[cell / 64] = groups[cell / 64] | (turns << (word % 64));
+}
+
+// Sets the bits of the cells of all entries that advance. Returns whether the parent holds all these cells, as the marks of the entries'
+// cells tell: what question 15 asks of a domain with one around it. It takes no branch on what an entry holds.
+fn mark_groups(
+    table: &[u32],
+    slots: usize,
+    top: usize,
+    live: u32,
+    seen: &[u8],
+    groups: &mut [u64],
+) -> bool
+    requires { ⌜ (slots ≤ maxSlots) × (pairsAt slots ≤ length (now table)) × (1 ≤ live) × (live ≤ maxLive) × (top ≤ slots) × FreeFrom slots (now table) top ⌝ }
+    requires { ⌜ ((i : ℕ) → i < slots → cellIn slots (now table) i < length (now seen)) × (length (now seen) ≤ 64 * length (now groups)) × Blank (now groups) ⌝ }
+    ensures covered { λ r. ⌜ r ≡ all slots (λ i. not (turns live (word1 slots (now (table .entry)) i)) || has (parent live) (markAt (now (seen .entry)) (word1 slots (now (table .entry)) i))) ⌝ }
+    ensures bits { λ _. ⌜ Turned slots (now (table .entry)) live slots (now (groups .exit)) ⌝ }
+{
+    let mut good = true;
+    let mut i: usize = 0;
+    while i < top {
+        let word = first_word(table, slots, i);
+        let held = has_depth(seen[wide(word % 65536)], live - 1);
+        good = good & (!turns_word(word, live) | held);
+        mark_turning(groups, word, live);
+        i += 1;
+    }
+    good
+}
+
+// Questions 15 and 17, asked of the entries: a right table has as many innermost read-write entries as such cells. The bits of the cells of
+// these entries are set on the way.
+fn entries_check(table: &[u32], slots: usize, bodies: usize, seen: &[u8], groups: &mut [u64]) -> u32
+    requires { ⌜ (slots ≤ maxSlots) × (pairsAt slots ≤ length (now table)) × (1 ≤ live (now table)) × (live (now table) ≤ maxLive) × Marked slots (now table) slots (now seen) ⌝ }
+    requires { ⌜ ((i : ℕ) → i < slots → cellIn slots (now table) i < length (now seen)) × (length (now seen) ≤ 64 * length (now groups)) × Blank (now groups) ⌝ }
+    ensures no { λ r. ⌜ r ≡ entriesCheck slots bodies (now (table .entry)) ⌝ }
+    ensures bits { λ _. ⌜ Turned slots (now (table .entry)) (live (now (table .entry))) slots (now (groups .exit)) ⌝ }
 {
     let live = table[LIVE_AT];
-    if !parent_covers(table, slots, live, seen) {
+    let top = last_in_use(table, slots);
+    let covered = mark_groups(table, slots, top, live, seen, groups);
+    if !((live <= 1) | covered) {
         return 15;
     }
-    if bodies < bodies_wanted(table, slots, live) {
+    if bodies < bodies_wanted(table, slots, top, live) {
         return 17;
     }
     0
 }
 
-// The questions put to advance. What is lent for marks has the marks of the entries once no question refuses the call.
+// The questions put to advance. Once no question refuses the call, what is lent for marks has the marks of the entries, and the groups have the
+// bits of the cells that advance.
 fn advance_check(
     memory: usize,
     bodies: usize,
@@ -124,11 +164,12 @@ fn advance_check(
     handle: u32,
     seen: &mut [u8],
     used: &mut [u8],
+    groups: &mut [u64],
 ) -> u32
     requires room { ⌜ (min (cellsOf memory) maxCells ≤ length (now seen)) × (length (now used) ≡ maxBodies) ⌝ }
-    requires blank { ⌜ Blank (now seen) × Blank (now used) ⌝ }
+    requires blank { ⌜ Blank (now seen) × Blank (now used) × Blank (now groups) × (length (now seen) ≤ 64 * length (now groups)) ⌝ }
     ensures no { λ r. ⌜ r ≡ advanceCheck memory bodies (now (table .entry)) handle ⌝ }
-    ensures marks { λ r. ⌜ (r ≡ 0 → AllMarked (slotsOf (length (now (table .entry)))) (now (table .entry)) (now (seen .exit)) (now (used .exit))) ⌝ }
+    ensures marks { λ r. ⌜ (r ≡ 0 → AllMarked (slotsOf (length (now (table .entry)))) (now (table .entry)) (now (seen .exit)) (now (used .exit)) × Turned (slotsOf (length (now (table .entry)))) (now (table .entry)) (live (now (table .entry))) (slotsOf (length (now (table .entry)))) (now (groups .exit))) ⌝ }
 {
     let no = store_check(memory, bodies, table, seen, used);
     if no != 0 {
@@ -141,33 +182,10 @@ fn advance_check(
     if depth != table[LIVE_AT] {
         return 6;
     }
-    entries_check(table, slots_of(table.len()), cells_of(bodies), seen)
+    entries_check(table, slots_of(table.len()), cells_of(bodies), seen, groups)
 }
 
-// ---- which cells advance, and in which order
-
-// Sets the bit of an entry's cell where the entry advances. There is no branch: any other entry sets no bit.
-fn mark_turning(groups: &mut [u64], word: u32, live: u32)
-    requires { ⌜ cellOf word / 64 < length (now groups) ⌝ }
-    ensures { λ _. ⌜ now (groups .exit) ≡ markTurning live word (now (groups .entry)) ⌝ }
-{
-    let cell = wide(word % 65536);
-    let turns = turns_word(word, live) as u64;
-    groups[cell / 64] = groups[cell / 64] | (turns << (word % 64));
-}
-
-// Sets the bits of the cells of all entries that advance.
-fn mark_groups(table: &[u32], slots: usize, live: u32, groups: &mut [u64])
-    requires { ⌜ (slots ≤ maxSlots) × (pairsAt slots ≤ length (now table)) × ((i : ℕ) → i < slots → cellOf (word1 slots (now table) i) < 64 * length (now groups)) ⌝ }
-    requires { ⌜ Blank (now groups) ⌝ }
-    ensures { λ _. ⌜ Turned slots (now (table .entry)) live slots (now (groups .exit)) ⌝ }
-{
-    let mut i: usize = 0;
-    while i < slots {
-        mark_turning(groups, first_word(table, slots, i), live);
-        i += 1;
-    }
-}
+// ---- the cells that advance, in their order
 
 // Lists the cells of one group whose bits are set, from place `first` on, and notes for each its place in the group. Every turn goes to the
 // next set bit, so that cells which stay cost nothing. Returns where the next group begins.
@@ -192,39 +210,44 @@ fn list_group(group: u64, base: usize, seen: &mut [u8], places: &mut [u16], firs
     n
 }
 
+// Has no cell of the four groups from g on a bit?
+fn four_empty(groups: &[u64], g: usize) -> bool
+    requires { ⌜ g + 4 ≤ length (now groups) ⌝ }
+    ensures { λ r. ⌜ (r ≡ true → NoBits (now (groups .entry)) g (g + 4)) ⌝ }
+{
+    ((groups[g] == 0) & (groups[g + 1] == 0)) & ((groups[g + 2] == 0) & (groups[g + 3] == 0))
+}
+
+// Passes over groups without a bit from `from` on, four at a time: most of a large memory's have none.
+fn past_empty(groups: &[u64], from: usize) -> usize
+    requires { ⌜ from ≤ length (now groups) ⌝ }
+    ensures { λ r. ⌜ (from ≤ r) × (r ≤ length (now (groups .entry))) × NoBits (now (groups .entry)) from r ⌝ }
+{
+    let mut g = from;
+    while g + 4 <= groups.len() {
+        if !four_empty(groups, g) {
+            return g;
+        }
+        g += 4;
+    }
+    g
+}
+
 // Lists the cells whose bits are set, in their order, and notes for each its place in its group, and for each group where it begins, in the
 // place of its bits. Returns how many cells are listed.
-fn list_cells(cells: usize, groups: &mut [u64], seen: &mut [u8], places: &mut [u16]) -> usize
-    requires { ⌜ (cells ≤ 64 * length (now groups)) × (length (now seen) ≡ 64 * length (now groups)) × (length (now seen) ≤ maxCells) × (count cells (marked (now groups)) ≤ length (now places)) ⌝ }
-    requires { ⌜ ((c : ℕ) → cells ≤ c → marked (now groups) c ≡ false) ⌝ }
-    ensures { λ r. ⌜ (r ≡ count cells (marked (now (groups .entry)))) × Listed (marked (now (groups .entry))) cells (now (groups .exit)) (now (seen .exit)) (now (places .exit)) ⌝ }
+fn list_cells(groups: &mut [u64], seen: &mut [u8], places: &mut [u16]) -> usize
+    requires { ⌜ (length (now seen) ≡ 64 * length (now groups)) × (length (now seen) ≤ maxCells) × (count (64 * length (now groups)) (marked (now groups)) ≤ length (now places)) ⌝ }
+    ensures { λ r. ⌜ (r ≡ count (64 * length (now (groups .entry))) (marked (now (groups .entry)))) × Listed (marked (now (groups .entry))) (64 * length (now (groups .entry))) (now (groups .exit)) (now (seen .exit)) (now (places .exit)) ⌝ }
 {
     let mut n: usize = 0;
-    let mut g: usize = 0;
-    while 64 * g < cells {
+    let mut g = past_empty(groups, 0);
+    while g < groups.len() {
         let group = groups[g];
         groups[g] = n as u64;
         n = list_group(group, 64 * g, seen, places, n);
-        g += 1;
+        g = past_empty(groups, g + 1);
     }
     n
-}
-
-// Lists the cells that advance, of a table that passed the questions. Returns their number.
-fn place_cells(
-    table: &[u32],
-    slots: usize,
-    cells: usize,
-    groups: &mut [u64],
-    seen: &mut [u8],
-    places: &mut [u16],
-) -> usize
-    requires { ⌜ (slots ≤ maxSlots) × (pairsAt slots ≤ length (now table)) × (cells ≤ 64 * length (now groups)) × (length (now seen) ≡ 64 * length (now groups)) × (length (now seen) ≤ maxCells) × (count cells (advances slots (now table)) ≤ length (now places)) ⌝ }
-    requires { ⌜ Blank (now groups) × (1 ≤ cells) × ((b : ℕ) × (ruleOk cells slots b (now table) ≡ true)) ⌝ }
-    ensures { λ r. ⌜ (r ≡ count cells (advances slots (now (table .entry)))) × Listed (advances slots (now (table .entry))) cells (now (groups .exit)) (now (seen .exit)) (now (places .exit)) ⌝ }
-{
-    mark_groups(table, slots, table[LIVE_AT], groups);
-    list_cells(cells, groups, seen, places)
 }
 
 // ---- the bytes
@@ -313,19 +336,20 @@ fn write_noted(
 fn write_words(
     table: &mut [u32],
     slots: usize,
+    top: usize,
     live: u32,
     groups: &[u64],
     seen: &[u8],
     places: &[u16],
     budget: usize,
 ) -> usize
-    requires { ⌜ (slots ≤ maxSlots) × (length (now table) ≡ tableWords slots) ⌝ }
+    requires { ⌜ (slots ≤ maxSlots) × (length (now table) ≡ tableWords slots) × (top ≤ slots) × FreeFrom slots (now table) top ⌝ }
     requires { ⌜ ((i : ℕ) → i < slots → turns live (word1 slots (now table) i) ≡ true → Placed (now groups) (now seen) (now places) (cellOf (word1 slots (now table) i))) ⌝ }
     ensures { λ r. ⌜ (r ≡ length (entryChanges slots (λ i. noteChange live (noted (now (groups .entry)) (now (seen .entry)) (now (places .entry))) (word1 slots (now (table .entry)) i)))) × (r ≤ 2 * slots) × (now (table .exit) ≡ stores (take budget (pairPlans (pairsAt slots) (entryChanges slots (λ i. noteChange live (noted (now (groups .entry)) (now (seen .entry)) (now (places .entry))) (word1 slots (now (table .entry)) i))))) (now (table .entry))) ⌝ }
 {
     let mut p: usize = 0;
     let mut i: usize = 0;
-    while i < slots {
+    while i < top {
         p += write_noted(table, slots, live, i, groups, seen, places, p, budget);
         i += 1;
     }
@@ -336,17 +360,18 @@ fn write_words(
 fn advance_words(
     table: &mut [u32],
     slots: usize,
+    top: usize,
     groups: &[u64],
     seen: &[u8],
     places: &[u16],
     budget: usize,
 ) -> usize
-    requires { ⌜ (slots ≤ maxSlots) × (length (now table) ≡ tableWords slots) ⌝ }
+    requires { ⌜ (slots ≤ maxSlots) × (length (now table) ≡ tableWords slots) × (top ≤ slots) × FreeFrom slots (now table) top ⌝ }
     requires { ⌜ ((i : ℕ) → i < slots → turns (live (now table)) (word1 slots (now table) i) ≡ true → Placed (now groups) (now seen) (now places) (cellOf (word1 slots (now table) i))) ⌝ }
     ensures { λ r. ⌜ (r ≡ journalSteps (length (entryChanges slots (λ i. noteChange (live (now (table .entry))) (noted (now (groups .entry)) (now (seen .entry)) (now (places .entry))) (word1 slots (now (table .entry)) i))))) × (r ≤ 6 * maxSlots + 2) × (now (table .exit) ≡ stores (take budget (journal (pairsAt slots) (entryChanges slots (λ i. noteChange (live (now (table .entry))) (noted (now (groups .entry)) (now (seen .entry)) (now (places .entry))) (word1 slots (now (table .entry)) i))))) (now (table .entry))) ⌝ }
 {
     let live = table[LIVE_AT];
-    let p = write_words(table, slots, live, groups, seen, places, budget);
+    let p = write_words(table, slots, top, live, groups, seen, places, budget);
     finish_journal(table, pairs_at(slots), p, budget)
 }
 
@@ -370,14 +395,31 @@ fn advance_marked(
         ≡ outcome (advanceCall handle (buffers (now (memory .entry)) (now (bodies .entry)) (now (table .entry)))) budget
         (buffers (now (memory .entry)) (now (bodies .entry)) (now (table .entry))) ⌝ }
 {
-    let no = advance_check(memory.len(), bodies.len(), table, handle, seen, used);
+    let no = advance_check(
+        memory.len(),
+        bodies.len(),
+        table,
+        handle,
+        seen,
+        used,
+        groups,
+    );
     if no != 0 {
         return Answer::Refused(no);
     }
     let slots = slots_of(table.len());
-    let n = place_cells(table, slots, cells_of(memory.len()), groups, seen, places);
+    let top = last_in_use(table, slots);
+    let n = list_cells(groups, seen, places);
     let bytes = copy_listed(memory, places, n, used, bodies, budget);
-    let words = advance_words(table, slots, groups, seen, places, remaining(budget, bytes));
+    let words = advance_words(
+        table,
+        slots,
+        top,
+        groups,
+        seen,
+        places,
+        remaining(budget, bytes),
+    );
     answer_of(bytes + words, 0, budget)
 }
 

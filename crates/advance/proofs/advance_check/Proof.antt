@@ -23,110 +23,117 @@ use Rattle.store.proofs.store_check.Reads as store-check-reads
 use Rattle.words.proofs.layout.cells_of.Reads as cells-of-reads
 use Rattle.words.proofs.layout.slots_of.Reads as slots-of-reads
 
--- src/lib.rt:133:9
+-- src/lib.rt:180:9
 store-check-requires : tie.Need-store-check-requires
-store-check-requires c κs = (c .before .before .before .before .before .pre .0, c .before .before .before .before .before .pre .1)
+store-check-requires c κs = (c .before .before .before .before .before .before .pre .0, (c .before .before .before .before .before .before .pre .1 .0, c .before .before .before .before .before .before .pre .1 .1))
 
--- src/lib.rt:135:9
+-- src/lib.rt:182:9
 same-length : tie.Need-same-length
 same-length c = search needs
 
--- src/lib.rt:135:9
+-- src/lib.rt:182:9
 same-length-2 : tie.Need-same-length-2
 same-length-2 c = search needs
 
--- src/lib.rt:135:9
+-- src/lib.rt:182:9
 returns : tie.Need-returns
-returns c = (c .before .before .before .before .before .store-check .ensures .0 ∙ sym (check-is _ _ _ _ ∙ orElse-stop _ _ (λ e. c .if1 .taken (c .before .before .before .before .before .store-check .ensures .0 ∙ e))), c .before .before .before .before .before .store-check .ensures .1)
+returns c = (c .before .before .before .before .before .store-check .ensures .0 ∙ sym (check-is _ _ _ _ ∙ orElse-stop _ _ (λ e. c .if1 .taken (c .before .before .before .before .before .store-check .ensures .0 ∙ e))), λ z. absurd (c .if1 .taken z))
 
--- src/lib.rt:137:9
+-- src/lib.rt:184:9
 find-domain-requires : tie.Need-find-domain-requires
 find-domain-requires c κs =
-    let a = c .before .before .before .before .before .before .before .before .before .before .before .args in
+    let a = c .before .before .before .before .before .before .before .before .before .before .before .before .args in
     let pass = sym (c .before .before .before .before .before .store-check .ensures .0) ∙ c .if1 .left in
     let f = shape-facts _ _ _ (store-shape _ _ _ pass) in
     (omega arith, check-rule (a .memory) (a .bodies) (a .table .now) pass .live)
 
--- src/lib.rt:139:9
+-- src/lib.rt:186:9
 same-length-3 : tie.Need-same-length-3
 same-length-3 c = search needs
 
--- src/lib.rt:139:9
+-- src/lib.rt:186:9
 same-length-4 : tie.Need-same-length-4
 same-length-4 c = search needs
 
--- src/lib.rt:139:9
+-- src/lib.rt:186:9
 returns-2 : tie.Need-returns-2
 returns-2 c =
-    let a = c .before .before .before .before .before .before .before .before .before .before .before .before .before .args in
+    let a = c .before .before .before .before .before .before .before .before .before .before .before .before .before .before .args in
     let d : depthNamed (a .table .now) (a .handle) ≤ 0 = omega (arith, c .before .find-domain .ensures, c .if2 .taken) in
-    (sym (check-is _ _ _ _ ∙ orElse-go _ _ (sym (c .before .before .before .before .before .before .before .store-check .ensures .0) ∙ c .before .before .if1 .left) ∙ ask-stop _ 5 _ (le-ltb 0 _ d)), λ _. c .before .before .before .before .before .before .before .store-check .ensures .1 (c .before .before .if1 .left))
+    (sym (check-is _ _ _ _ ∙ orElse-go _ _ (sym (c .before .before .before .before .before .before .before .store-check .ensures .0) ∙ c .before .before .if1 .left) ∙ ask-stop _ 5 _ (le-ltb 0 _ d)), λ z. absurd (omega (arith, z)))
 
--- src/lib.rt:141:17
+-- src/lib.rt:188:17
 shared-slice-read-if3 : tie.Need-shared-slice-read-if3
 shared-slice-read-if3 c =
     let f = shape-facts _ _ _ (store-shape _ _ _ (sym (c .before .before .before .before .before .before .before .before .store-check .ensures .0) ∙ c .before .before .before .if1 .left)) in
     omega arith
 
--- src/lib.rt:142:9
+-- src/lib.rt:189:9
 same-length-5 : tie.Need-same-length-5
 same-length-5 c = search needs
 
--- src/lib.rt:142:9
+-- src/lib.rt:189:9
 same-length-6 : tie.Need-same-length-6
 same-length-6 c = search needs
 
--- src/lib.rt:142:9
+-- src/lib.rt:189:9
 returns-3 : tie.Need-returns-3
 returns-3 c =
-    let a = c .before .before .before .before .before .before .before .before .before .before .before .before .before .before .before .args in
+    let a = c .before .before .before .before .before .before .before .before .before .before .before .before .before .before .before .before .args in
     let d : 0 < depthNamed (a .table .now) (a .handle) = omega (arith, c .before .before .before .find-domain .ensures, c .before .before .if2 .left) in (
       sym (check-is _ _ _ _ ∙ orElse-go _ _ (sym (c .before .before .before .before .before .before .before .before .before .store-check .ensures .0) ∙ c .before .before .before .before .if1 .left) ∙ ask-go _ 5 _ (lt-ltb 0 _ d)
           ∙ ask-stop _ 6 _ (ne-eqb _ _ (λ q. c .if3 .taken (c .before .before .before .find-domain .ensures ∙ q)))),
-      λ _. c .before .before .before .before .before .before .before .before .before .store-check .ensures .1 (c .before .before .before .before .if1 .left),
+      λ z. absurd (omega (arith, z)),
     )
 
--- src/lib.rt:144:26
+-- src/lib.rt:191:26
 slots-of-requires : tie.Need-slots-of-requires
 slots-of-requires c κs = search needs
 
--- src/lib.rt:144:49
+-- src/lib.rt:191:49
 cells-of-requires : tie.Need-cells-of-requires
 cells-of-requires c κs = search needs
 
--- src/lib.rt:144:5
+-- src/lib.rt:191:5
 entries-check-requires : tie.Need-entries-check-requires
 entries-check-requires c κs =
-    let a = c .before .before .before .before .before .before .before .before .before .before .before .before .before .before .before .before .before .before .args in
-    let pass = sym (c .before .before .before .before .before .before .before .before .before .before .before .before .store-check .ensures .0) ∙ c .before .before .before .before .before .before .before .if1 .left in
+    let a = c .before .before .before .before .before .before .before .before .before .before .before .before .before .before .before .before .before .before .before .before .args in
+    let pass = sym (c .before .before .before .before .before .before .before .before .before .before .before .before .before .store-check .ensures .0) ∙ c .before .before .before .before .before .before .before .before .if1 .left in
     let f = shape-facts (a .memory) (a .bodies) (a .table .now) (store-shape (a .memory) (a .bodies) (a .table .now) pass) in
     let ok = check-rule (a .memory) (a .bodies) (a .table .now) pass in
-    let q = c .before .before .slots-of .ensures in
-    let fit = cells-fit (cellsOf (a .memory)) (slotsOf (length (a .table .now))) (cellsOf (a .bodies)) (a .table .now) ok (length (a .seen .now)) (f .cells-low) (omega (arith, f .cells-high, c .before .before .before .before .before .before .before .before .before .before .before .before .before .before .before .before .before .before .pre .0 .0)) in (
-      (omega (arith, q), omega (arith, q), ok .live, λ i l. rw (c .before .before .before .before .before .before .before .before .before .before .before .before .store-check .kept .1 .1 .1 .0) (fit i (omega (arith, q, l)))),
-      rw q (c .before .before .before .before .before .before .before .before .before .before .before .before .store-check .ensures .1 (c .before .before .before .before .before .before .before .if1 .left) .cells),
+    let d : 0 < depthNamed (a .table .now) (a .handle) = omega (arith, c .before .before .before .before .before .before .before .find-domain .ensures, c .before .before .before .before .before .before .if2 .left) in
+    let low : 1 ≤ live (a .table .now) = omega (arith, d, c .before .before .before .before .before .before .before .find-domain .ensures, c .before .before .before .before .if3 .left) in
+    let q = c .before .before .before .slots-of .ensures in
+    let s = c .before .before .before .before .before .before .before .before .before .before .before .before .before .store-check .kept .1 .1 .1 .0 in
+    let fit = cells-fit (cellsOf (a .memory)) (slotsOf (length (a .table .now))) (cellsOf (a .bodies)) (a .table .now) ok (length (a .seen .now)) (f .cells-low) (omega (arith, f .cells-high, c .before .before .before .before .before .before .before .before .before .before .before .before .before .before .before .before .before .before .before .before .pre .0 .0)) in (
+      (omega (arith, q), omega (arith, q), low, ok .live, rw q (c .before .before .before .before .before .before .before .before .before .before .before .before .before .store-check .ensures .1 (c .before .before .before .before .before .before .before .before .if1 .left) .cells)),
+      ((λ i l. rw s (fit i (omega (arith, q, l)))), omega (arith, s, c .before .before .before .before .before .before .before .before .before .before .before .before .before .before .before .before .before .before .before .before .pre .1), c .before .before .before .before .before .before .before .before .before .before .before .before .before .before .before .before .before .before .before .before .pre .1 .2),
     )
 
--- src/lib.rt:120:1
+-- src/lib.rt:166:1
 same-length-7 : tie.Need-same-length-7
 same-length-7 c = search needs
 
--- src/lib.rt:120:1
+-- src/lib.rt:166:1
 same-length-8 : tie.Need-same-length-8
 same-length-8 c = search needs
 
--- src/lib.rt:120:1
+-- src/lib.rt:166:1
+same-length-9 : tie.Need-same-length-9
+same-length-9 c = search needs
+
+-- src/lib.rt:166:1
 returns-4 : tie.Need-returns-4
 returns-4 c =
-    let a = c .before .before .before .before .before .before .before .before .before .before .before .before .before .before .before .before .before .before .before .args in
-    let d : 0 < depthNamed (a .table .now) (a .handle) = omega (arith, c .before .before .before .before .before .before .before .find-domain .ensures, c .before .before .before .before .before .before .if2 .left) in
-    let low : 1 ≤ live (a .table .now) = omega (arith, d, c .before .before .before .before .before .before .before .find-domain .ensures, c .before .before .before .before .if3 .left) in
-    let pass = sym (c .before .before .before .before .before .before .before .before .before .before .before .before .before .store-check .ensures .0) ∙ c .before .before .before .before .before .before .before .before .if1 .left in (
-      c .entries-check .ensures ∙ (λ i. entriesCheck (c .before .before .before .slots-of .ensures i) (c .before .before .cells-of .ensures i) (a .table .now))
+    let a = c .before .before .before .before .before .before .before .before .before .before .before .before .before .before .before .before .before .before .before .before .before .before .before .args in
+    let d : 0 < depthNamed (a .table .now) (a .handle) = omega (arith, c .before .before .before .before .before .before .before .before .before .before .find-domain .ensures, c .before .before .before .before .before .before .before .before .before .if2 .left) in
+    let low : 1 ≤ live (a .table .now) = omega (arith, d, c .before .before .before .before .before .before .before .before .before .before .find-domain .ensures, c .before .before .before .before .before .before .before .if3 .left) in
+    let pass = sym (c .before .before .before .before .before .before .before .before .before .before .before .before .before .before .before .before .store-check .ensures .0) ∙ c .before .before .before .before .before .before .before .before .before .before .before .if1 .left in (
+      c .before .before .entries-check .ensures .0 ∙ (λ i. entriesCheck (c .before .before .before .before .before .before .slots-of .ensures i) (c .before .before .before .before .before .cells-of .ensures i) (a .table .now))
           ∙ entries-cells (cellsOf (a .memory)) (slotsOf (length (a .table .now))) (cellsOf (a .bodies)) (a .table .now) (check-rule (a .memory) (a .bodies) (a .table .now) pass) low
           ∙ sym (check-is _ _ _ _ ∙ orElse-go _ _ pass ∙ ask-go _ 5 _ (lt-ltb 0 _ d)
-          ∙ ask-go _ 6 _ (eq-eqb _ _ (sym (c .before .before .before .before .before .before .before .find-domain .ensures) ∙ c .before .before .before .before .if3 .left))),
-      λ _. c .before .before .before .before .before .before .before .before .before .before .before .before .before .store-check .ensures .1 (c .before .before .before .before .before .before .before .before .if1 .left),
+          ∙ ask-go _ 6 _ (eq-eqb _ _ (sym (c .before .before .before .before .before .before .before .before .before .before .find-domain .ensures) ∙ c .before .before .before .before .before .before .before .if3 .left))),
+      λ _. (c .before .before .before .before .before .before .before .before .before .before .before .before .before .before .before .before .store-check .ensures .1 (c .before .before .before .before .before .before .before .before .before .before .before .if1 .left), rw (c .before .before .before .before .before .before .slots-of .ensures) at (c .before .before .entries-check .ensures .1)),
     )
 
 pub advance-check-spec : {M : Type 1} → statement M
@@ -150,4 +157,5 @@ advance-check-spec =
     entries-check-requires
     same-length-7
     same-length-8
+    same-length-9
     returns-4)

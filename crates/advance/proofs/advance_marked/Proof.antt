@@ -8,11 +8,10 @@ use Rattle.words.specs.Scan.{count}
 use Rattle.words.specs.Stores.{Store, stores}
 use Rattle.words.specs.Journal.{journal, journalSteps}
 use Rattle.words.proofs.Scan.{count-le}
-use Rattle.table.proofs.Rule.{ok-make}
 use Rattle.store.proofs.Checks.{shape-facts, store-shape}
 use Rattle.store.proofs.Raw.{raw-rule}
 use Rattle.advance.specs.Advance.{advances, advanceWords}
-use Rattle.advance.proofs.Noting.{advances-few, room-unmarked, listed-inside, listed-bytes, listed-words, entry-placed}
+use Rattle.advance.proofs.Noting.{advances-few, marked-count, marked-listed, room-unmarked, listed-inside, listed-bytes, listed-words, entry-placed}
 use Rattle.advance.proofs.Listing.{plans-length}
 use Rattle.advance.proofs.Advanced.{advance-store, advance-low, advance-room, advance-refused, advance-performed}
 use borrow.Author.Needs.{needs}
@@ -23,188 +22,220 @@ use Rattle.advance.proofs.advance_marked.Lts as lts
 use Rattle.advance.proofs.advance_check.Reads as advance-check-reads
 use Rattle.advance.proofs.advance_words.Reads as advance-words-reads
 use Rattle.advance.proofs.copy_listed.Reads as copy-listed-reads
-use Rattle.advance.proofs.place_cells.Reads as place-cells-reads
+use Rattle.advance.proofs.last_in_use.Reads as last-in-use-reads
+use Rattle.advance.proofs.list_cells.Reads as list-cells-reads
 use Rattle.store.proofs.answer_of.Reads as answer-of-reads
-use Rattle.words.proofs.layout.cells_of.Reads as cells-of-reads
 use Rattle.words.proofs.layout.slots_of.Reads as slots-of-reads
 use Rattle.words.proofs.remaining.Reads as remaining-reads
 
--- src/lib.rt:373:9
+-- src/lib.rt:404:9
 advance-check-requires : tie.Need-advance-check-requires
-advance-check-requires c κs = ((c .before .before .before .before .before .before .before .before .before .before .pre .0 .0, c .before .before .before .before .before .before .before .before .before .before .pre .0 .1), (c .before .before .before .before .before .before .before .before .before .before .pre .1 .0, c .before .before .before .before .before .before .before .before .before .before .pre .1 .1))
+advance-check-requires c κs = ((c .before .before .before .before .before .before .before .before .before .before .before .pre .0 .0, c .before .before .before .before .before .before .before .before .before .before .before .pre .0 .1), (c .before .before .before .before .before .before .before .before .before .before .before .pre .1 .0, c .before .before .before .before .before .before .before .before .before .before .before .pre .1 .1, c .before .before .before .before .before .before .before .before .before .before .before .pre .1 .2, omega (arith, c .before .before .before .before .before .before .before .before .before .before .before .pre .0)))
 
--- src/lib.rt:375:9
+-- src/lib.rt:414:9
 same-length : tie.Need-same-length
 same-length c = search needs
 
--- src/lib.rt:375:9
+-- src/lib.rt:414:9
 same-length-2 : tie.Need-same-length-2
 same-length-2 c = search needs
 
--- src/lib.rt:375:9
+-- src/lib.rt:414:9
 same-length-3 : tie.Need-same-length-3
 same-length-3 c = search needs
 
--- src/lib.rt:375:9
+-- src/lib.rt:414:9
+same-length-4 : tie.Need-same-length-4
+same-length-4 c = search needs
+
+-- src/lib.rt:414:9
 returns : tie.Need-returns
 returns c =
-    let a = c .before .before .before .before .before .before .before .before .before .before .before .before .before .before .before .before .args in
-    advance-refused (a .memory .now) (a .bodies .now) (a .table .now) (a .handle) (a .budget) _ (c .before .before .before .before .before .advance-check .ensures .0) (c .if1 .taken)
+    let a = c .before .before .before .before .before .before .before .before .before .before .before .before .before .before .before .before .before .before .before .args in
+    advance-refused (a .memory .now) (a .bodies .now) (a .table .now) (a .handle) (a .budget) _ (c .before .before .before .before .before .before .before .advance-check .ensures .0) (c .if1 .taken)
 
--- src/lib.rt:377:9
+-- src/lib.rt:416:9
 slots-of-requires : tie.Need-slots-of-requires
 slots-of-requires c κs = search needs
 
--- src/lib.rt:378:39
-cells-of-requires : tie.Need-cells-of-requires
-cells-of-requires c κs = search needs
-
--- src/lib.rt:378:9
-place-cells-requires : tie.Need-place-cells-requires
-place-cells-requires c κs =
-    let a = c .before .before .before .before .before .before .before .before .before .before .before .before .before .before .before .before .before .before .before .before .before .before .args in
+-- src/lib.rt:417:9
+last-in-use-requires : tie.Need-last-in-use-requires
+last-in-use-requires c κs =
+    let a = c .before .before .before .before .before .before .before .before .before .before .before .before .before .before .before .before .before .before .before .before .before .args in
     let m = a .memory .now in
     let b = a .bodies .now in
     let t = a .table .now in
-    let pass = sym (c .before .before .before .before .before .before .before .before .before .before .before .advance-check .ensures .0) ∙ c .before .before .before .before .before .before .if1 .left in
+    let pass = sym (c .before .before .before .before .before .before .before .before .before .advance-check .ensures .0) ∙ c .before .before .if1 .left in
+    let f = shape-facts (length m) (length b) t (store-shape (length m) (length b) t (advance-store (length m) (length b) t (a .handle) pass)) in
+    let ok = raw-rule m b t (advance-store (length m) (length b) t (a .handle) pass) in
+    let low = advance-low (length m) (length b) t (a .handle) pass in
+    let few = advances-few (cellsOf (length m)) (slotsOf (length t)) (cellsOf (length b)) t ok low in
+    let less = count-le (cellsOf (length m)) (advances (slotsOf (length t)) t) in
+    let q = c .before .slots-of .ensures in
+    rw q (omega arith, omega arith)
+
+-- src/lib.rt:418:9
+list-cells-requires : tie.Need-list-cells-requires
+list-cells-requires c κs =
+    let a = c .before .before .before .before .before .before .before .before .before .before .before .before .before .before .before .before .before .before .before .before .before .before .before .before .before .args in
+    let m = a .memory .now in
+    let b = a .bodies .now in
+    let t = a .table .now in
+    let pass = sym (c .before .before .before .before .before .before .before .before .before .before .before .before .before .advance-check .ensures .0) ∙ c .before .before .before .before .before .before .if1 .left in
     let f = shape-facts (length m) (length b) t (store-shape (length m) (length b) t (advance-store (length m) (length b) t (a .handle) pass)) in
     let ok = raw-rule m b t (advance-store (length m) (length b) t (a .handle) pass) in
     let low = advance-low (length m) (length b) t (a .handle) pass in
     let few = advances-few (cellsOf (length m)) (slotsOf (length t)) (cellsOf (length b)) t ok low in
     let less = count-le (cellsOf (length m)) (advances (slotsOf (length t)) t) in
     let q = c .before .before .before .before .before .slots-of .ensures in
-    let s = c .before .before .before .before .before .before .before .before .before .before .before .advance-check .kept .1 .1 .1 .1 .0 in
-    let cs = c .before .before .before .cells-of .ensures in
-    rw (cs, q) (
-      (omega arith, omega arith, omega (arith, f .cells-high, c .before .before .before .before .before .before .before .before .before .before .before .before .before .before .before .before .before .before .before .before .before .before .pre .0), omega (arith, s, c .before .before .before .before .before .before .before .before .before .before .before .before .before .before .before .before .before .before .before .before .before .before .pre .0), omega (arith, s, c .before .before .before .before .before .before .before .before .before .before .before .before .before .before .before .before .before .before .before .before .before .before .pre .0), omega (arith, few, less, c .before .before .before .before .before .before .before .before .before .before .before .before .before .before .before .before .before .before .before .before .before .before .pre .0)),
-      (c .before .before .before .before .before .before .before .before .before .before .before .before .before .before .before .before .before .before .before .before .before .before .pre .1 .2, f .cells-low, (cellsOf (length b), ok-make (cellsOf (length m)) (slotsOf (length t)) (cellsOf (length b)) t ok)),
-    )
+    let told = c .before .before .before .before .before .before .before .before .before .before .before .before .before .advance-check .ensures .1 (c .before .before .before .before .before .before .if1 .left) in
+    let marks = told .0 .copies in
+    let g0 = c .before .before .before .before .before .before .before .before .before .before .before .before .before .advance-check .kept .1 .1 .1 .1 .1 .1 .0 in
+    let number = marked-count (cellsOf (length m)) (slotsOf (length t)) (cellsOf (length b)) t ok _ (told .1) (omega (arith, g0, f .cells-high, c .before .before .before .before .before .before .before .before .before .before .before .before .before .before .before .before .before .before .before .before .before .before .before .before .before .pre .0)) in
+    let s = c .before .before .before .before .before .before .before .before .before .before .before .before .before .advance-check .kept .1 .1 .1 .1 .0 in
+    (omega (arith, s, g0, c .before .before .before .before .before .before .before .before .before .before .before .before .before .before .before .before .before .before .before .before .before .before .before .before .before .pre .0), omega (arith, s, c .before .before .before .before .before .before .before .before .before .before .before .before .before .before .before .before .before .before .before .before .before .before .before .before .before .pre .0), omega (arith, number, few, less, c .before .before .before .before .before .before .before .before .before .before .before .before .before .before .before .before .before .before .before .before .before .before .before .before .before .pre .0))
 
--- src/lib.rt:379:9
+-- src/lib.rt:419:9
 copy-listed-requires : tie.Need-copy-listed-requires
 copy-listed-requires c κs =
-    let a = c .before .before .before .before .before .before .before .before .before .before .before .before .before .before .before .before .before .before .before .before .before .before .before .before .before .before .before .before .before .before .before .before .args in
+    let a = c .before .before .before .before .before .before .before .before .before .before .before .before .before .before .before .before .before .before .before .before .before .before .before .before .before .before .before .before .before .before .before .before .before .before .before .args in
     let m = a .memory .now in
     let b = a .bodies .now in
     let t = a .table .now in
-    let pass = sym (c .before .before .before .before .before .before .before .before .before .before .before .before .before .before .before .before .before .before .before .before .before .advance-check .ensures .0) ∙ c .before .before .before .before .before .before .before .before .before .before .before .before .before .before .before .before .if1 .left in
+    let pass = sym (c .before .before .before .before .before .before .before .before .before .before .before .before .before .before .before .before .before .before .before .before .before .before .before .advance-check .ensures .0) ∙ c .before .before .before .before .before .before .before .before .before .before .before .before .before .before .before .before .if1 .left in
     let f = shape-facts (length m) (length b) t (store-shape (length m) (length b) t (advance-store (length m) (length b) t (a .handle) pass)) in
     let ok = raw-rule m b t (advance-store (length m) (length b) t (a .handle) pass) in
     let low = advance-low (length m) (length b) t (a .handle) pass in
     let few = advances-few (cellsOf (length m)) (slotsOf (length t)) (cellsOf (length b)) t ok low in
     let less = count-le (cellsOf (length m)) (advances (slotsOf (length t)) t) in
     let q = c .before .before .before .before .before .before .before .before .before .before .before .before .before .before .before .slots-of .ensures in
-    let marks = c .before .before .before .before .before .before .before .before .before .before .before .before .before .before .before .before .before .before .before .before .before .advance-check .ensures .1 (c .before .before .before .before .before .before .before .before .before .before .before .before .before .before .before .before .if1 .left) .copies in
-    let list = rw (c .before .before .before .before .before .before .before .before .before .before .before .before .before .cells-of .ensures, q) at (c .before .before .before .before .before .before .before .before .before .place-cells .ensures) in
-    let u = c .before .before .before .before .before .before .before .before .before .before .before .before .before .before .before .before .before .before .before .before .before .advance-check .kept .1 .1 .1 .1 .1 .0 in
-    let p = c .before .before .before .before .before .before .before .before .before .place-cells .kept .1 .1 .1 .1 .1 .0 in
-    let inside = listed-inside (cellsOf (length m)) _ (advances (slotsOf (length t)) t) _ _ _ (list .0) (list .1) in (
+    let told = c .before .before .before .before .before .before .before .before .before .before .before .before .before .before .before .before .before .before .before .before .before .before .before .advance-check .ensures .1 (c .before .before .before .before .before .before .before .before .before .before .before .before .before .before .before .before .if1 .left) in
+    let marks = told .0 .copies in
+    let g0 = c .before .before .before .before .before .before .before .before .before .before .before .before .before .before .before .before .before .before .before .before .before .before .before .advance-check .kept .1 .1 .1 .1 .1 .1 .0 in
+    let number = marked-count (cellsOf (length m)) (slotsOf (length t)) (cellsOf (length b)) t ok _ (told .1) (omega (arith, g0, f .cells-high, c .before .before .before .before .before .before .before .before .before .before .before .before .before .before .before .before .before .before .before .before .before .before .before .before .before .before .before .before .before .before .before .before .before .before .before .pre .0)) in
+    let amount = c .before .before .before .before .before .before .before .before .before .list-cells .ensures .0 ∙ number in
+    let list = marked-listed (cellsOf (length m)) (slotsOf (length t)) (cellsOf (length b)) t ok _ (told .1) (omega (arith, g0, f .cells-high, c .before .before .before .before .before .before .before .before .before .before .before .before .before .before .before .before .before .before .before .before .before .before .before .before .before .before .before .before .before .before .before .before .before .before .before .pre .0)) _ _ _ (c .before .before .before .before .before .before .before .before .before .list-cells .ensures .1) in
+    let u = c .before .before .before .before .before .before .before .before .before .before .before .before .before .before .before .before .before .before .before .before .before .before .before .advance-check .kept .1 .1 .1 .1 .1 .0 in
+    let p = c .before .before .before .before .before .before .before .before .before .list-cells .kept .1 .1 .0 in
+    let inside = listed-inside (cellsOf (length m)) _ (advances (slotsOf (length t)) t) _ _ _ amount list in (
       (
-        omega (arith, list .0, few, less, p, c .before .before .before .before .before .before .before .before .before .before .before .before .before .before .before .before .before .before .before .before .before .before .before .before .before .before .before .before .before .before .before .before .pre .0),
-        omega (arith, list .0, few, f .slots-high),
-        omega (arith, u, f .bodies-high, c .before .before .before .before .before .before .before .before .before .before .before .before .before .before .before .before .before .before .before .before .before .before .before .before .before .before .before .before .before .before .before .before .pre .0 .1),
-        omega (arith, u, c .before .before .before .before .before .before .before .before .before .before .before .before .before .before .before .before .before .before .before .before .before .before .before .before .before .before .before .before .before .before .before .before .pre .0 .1),
-        rw (list .0) (room-unmarked (cellsOf (length m)) (slotsOf (length t)) (cellsOf (length b)) t _ ok (advance-room (length m) (length b) t (a .handle) pass) marks),
+        omega (arith, amount, few, less, p, c .before .before .before .before .before .before .before .before .before .before .before .before .before .before .before .before .before .before .before .before .before .before .before .before .before .before .before .before .before .before .before .before .before .before .before .pre .0),
+        omega (arith, amount, few, f .slots-high),
+        omega (arith, u, f .bodies-high, c .before .before .before .before .before .before .before .before .before .before .before .before .before .before .before .before .before .before .before .before .before .before .before .before .before .before .before .before .before .before .before .before .before .before .before .pre .0 .1),
+        omega (arith, u, c .before .before .before .before .before .before .before .before .before .before .before .before .before .before .before .before .before .before .before .before .before .before .before .before .before .before .before .before .before .before .before .before .before .before .before .pre .0 .1),
+        rw amount (room-unmarked (cellsOf (length m)) (slotsOf (length t)) (cellsOf (length b)) t _ ok (advance-room (length m) (length b) t (a .handle) pass) marks),
       ),
       λ r l. omega (arith, inside r l, f .memory-exact),
     )
 
--- src/lib.rt:380:67
+-- src/lib.rt:420:72
 remaining-requires : tie.Need-remaining-requires
 remaining-requires c κs = search needs
 
--- src/lib.rt:380:9
+-- src/lib.rt:420:9
 advance-words-requires : tie.Need-advance-words-requires
 advance-words-requires c κs =
-    let a = c .before .before .before .before .before .before .before .before .before .before .before .before .before .before .before .before .before .before .before .before .before .before .before .before .before .before .before .before .before .before .before .before .before .before .before .before .before .before .before .before .before .before .args in
+    let a = c .before .before .before .before .before .before .before .before .before .before .before .before .before .before .before .before .before .before .before .before .before .before .before .before .before .before .before .before .before .before .before .before .before .before .before .before .before .before .before .before .before .before .before .before .before .args in
     let m = a .memory .now in
     let b = a .bodies .now in
     let t = a .table .now in
-    let pass = sym (c .before .before .before .before .before .before .before .before .before .before .before .before .before .before .before .before .before .before .before .before .before .before .before .before .before .before .before .before .before .before .before .advance-check .ensures .0) ∙ c .before .before .before .before .before .before .before .before .before .before .before .before .before .before .before .before .before .before .before .before .before .before .before .before .before .before .if1 .left in
+    let pass = sym (c .before .before .before .before .before .before .before .before .before .before .before .before .before .before .before .before .before .before .before .before .before .before .before .before .before .before .before .before .before .before .before .before .before .advance-check .ensures .0) ∙ c .before .before .before .before .before .before .before .before .before .before .before .before .before .before .before .before .before .before .before .before .before .before .before .before .before .before .if1 .left in
     let f = shape-facts (length m) (length b) t (store-shape (length m) (length b) t (advance-store (length m) (length b) t (a .handle) pass)) in
     let ok = raw-rule m b t (advance-store (length m) (length b) t (a .handle) pass) in
     let low = advance-low (length m) (length b) t (a .handle) pass in
     let few = advances-few (cellsOf (length m)) (slotsOf (length t)) (cellsOf (length b)) t ok low in
     let less = count-le (cellsOf (length m)) (advances (slotsOf (length t)) t) in
     let q = c .before .before .before .before .before .before .before .before .before .before .before .before .before .before .before .before .before .before .before .before .before .before .before .before .before .slots-of .ensures in
-    let marks = c .before .before .before .before .before .before .before .before .before .before .before .before .before .before .before .before .before .before .before .before .before .before .before .before .before .before .before .before .before .before .before .advance-check .ensures .1 (c .before .before .before .before .before .before .before .before .before .before .before .before .before .before .before .before .before .before .before .before .before .before .before .before .before .before .if1 .left) .copies in
-    let list = rw (c .before .before .before .before .before .before .before .before .before .before .before .before .before .before .before .before .before .before .before .before .before .before .before .cells-of .ensures, q) at (c .before .before .before .before .before .before .before .before .before .before .before .before .before .before .before .before .before .before .before .place-cells .ensures) in
-    let s = c .before .before .before .before .before .before .before .before .before .before .before .before .before .before .before .before .before .before .before .place-cells .kept .1 .1 .1 .1 .0 in
-    let s0 = c .before .before .before .before .before .before .before .before .before .before .before .before .before .before .before .before .before .before .before .before .before .before .before .before .before .before .before .before .before .before .before .advance-check .kept .1 .1 .1 .1 .0 in
-    let g = c .before .before .before .before .before .before .before .before .before .before .before .before .before .before .before .before .before .before .before .place-cells .kept .1 .1 .1 .0 in
-    let p = c .before .before .before .before .before .before .before .before .before .before .before .before .before .before .before .before .before .before .before .place-cells .kept .1 .1 .1 .1 .1 .0 in
+    let told = c .before .before .before .before .before .before .before .before .before .before .before .before .before .before .before .before .before .before .before .before .before .before .before .before .before .before .before .before .before .before .before .before .before .advance-check .ensures .1 (c .before .before .before .before .before .before .before .before .before .before .before .before .before .before .before .before .before .before .before .before .before .before .before .before .before .before .if1 .left) in
+    let marks = told .0 .copies in
+    let g0 = c .before .before .before .before .before .before .before .before .before .before .before .before .before .before .before .before .before .before .before .before .before .before .before .before .before .before .before .before .before .before .before .before .before .advance-check .kept .1 .1 .1 .1 .1 .1 .0 in
+    let number = marked-count (cellsOf (length m)) (slotsOf (length t)) (cellsOf (length b)) t ok _ (told .1) (omega (arith, g0, f .cells-high, c .before .before .before .before .before .before .before .before .before .before .before .before .before .before .before .before .before .before .before .before .before .before .before .before .before .before .before .before .before .before .before .before .before .before .before .before .before .before .before .before .before .before .before .before .before .pre .0)) in
+    let amount = c .before .before .before .before .before .before .before .before .before .before .before .before .before .before .before .before .before .before .before .list-cells .ensures .0 ∙ number in
+    let list = marked-listed (cellsOf (length m)) (slotsOf (length t)) (cellsOf (length b)) t ok _ (told .1) (omega (arith, g0, f .cells-high, c .before .before .before .before .before .before .before .before .before .before .before .before .before .before .before .before .before .before .before .before .before .before .before .before .before .before .before .before .before .before .before .before .before .before .before .before .before .before .before .before .before .before .before .before .before .pre .0)) _ _ _ (c .before .before .before .before .before .before .before .before .before .before .before .before .before .before .before .before .before .before .before .list-cells .ensures .1) in
+    let s = c .before .before .before .before .before .before .before .before .before .before .before .before .before .before .before .before .before .before .before .list-cells .kept .1 .0 in
+    let s0 = c .before .before .before .before .before .before .before .before .before .before .before .before .before .before .before .before .before .before .before .before .before .before .before .before .before .before .before .before .before .before .before .before .before .advance-check .kept .1 .1 .1 .1 .0 in
+    let g = c .before .before .before .before .before .before .before .before .before .before .before .before .before .before .before .before .before .before .before .list-cells .kept .0 in
+    let p = c .before .before .before .before .before .before .before .before .before .before .before .before .before .before .before .before .before .before .before .list-cells .kept .1 .1 .0 in
     let p2 = c .before .before .before .before .before .before .before .before .before .copy-listed .kept .1 .0 in
     rw q (
-      (omega arith, f .table-exact),
-      λ i l z. entry-placed (cellsOf (length m)) (slotsOf (length t)) (cellsOf (length b)) _ t _ _ _ _ _ refl ok marks (list .0) (list .1) (c .before .before .before .before .before .before .before .before .before .copy-listed .ensures .1) i l z
-          (omega (arith, s, s0, f .cells-high, c .before .before .before .before .before .before .before .before .before .before .before .before .before .before .before .before .before .before .before .before .before .before .before .before .before .before .before .before .before .before .before .before .before .before .before .before .before .before .before .before .before .before .pre .0)) (omega (arith, g, f .cells-high, c .before .before .before .before .before .before .before .before .before .before .before .before .before .before .before .before .before .before .before .before .before .before .before .before .before .before .before .before .before .before .before .before .before .before .before .before .before .before .before .before .before .before .pre .0)) (omega (arith, p, p2, list .0, few, less, c .before .before .before .before .before .before .before .before .before .before .before .before .before .before .before .before .before .before .before .before .before .before .before .before .before .before .before .before .before .before .before .before .before .before .before .before .before .before .before .before .before .before .pre .0)),
+      (omega arith, f .table-exact, (rw q at (c .before .before .before .before .before .before .before .before .before .before .before .before .before .before .before .before .before .before .before .before .before .before .before .last-in-use .ensures)) .0, (rw q at (c .before .before .before .before .before .before .before .before .before .before .before .before .before .before .before .before .before .before .before .before .before .before .before .last-in-use .ensures)) .1),
+      λ i l z. entry-placed (cellsOf (length m)) (slotsOf (length t)) (cellsOf (length b)) _ t _ _ _ _ _ refl ok marks amount list (c .before .before .before .before .before .before .before .before .before .copy-listed .ensures .1) i l z
+          (omega (arith, s, s0, f .cells-high, c .before .before .before .before .before .before .before .before .before .before .before .before .before .before .before .before .before .before .before .before .before .before .before .before .before .before .before .before .before .before .before .before .before .before .before .before .before .before .before .before .before .before .before .before .before .pre .0)) (omega (arith, g, g0, f .cells-high, c .before .before .before .before .before .before .before .before .before .before .before .before .before .before .before .before .before .before .before .before .before .before .before .before .before .before .before .before .before .before .before .before .before .before .before .before .before .before .before .before .before .before .before .before .before .pre .0)) (omega (arith, p, p2, amount, few, less, c .before .before .before .before .before .before .before .before .before .before .before .before .before .before .before .before .before .before .before .before .before .before .before .before .before .before .before .before .before .before .before .before .before .before .before .before .before .before .before .before .before .before .before .before .before .pre .0)),
     )
 
--- src/lib.rt:381:15
+-- src/lib.rt:421:15
 add-answer-of : tie.Need-add-answer-of
 add-answer-of c =
-    let a = c .before .before .before .before .before .before .before .before .before .before .before .before .before .before .before .before .before .before .before .before .before .before .before .before .before .before .before .before .before .before .before .before .before .before .before .before .before .before .before .before .before .before .before .before .before .args in
+    let a = c .before .before .before .before .before .before .before .before .before .before .before .before .before .before .before .before .before .before .before .before .before .before .before .before .before .before .before .before .before .before .before .before .before .before .before .before .before .before .before .before .before .before .before .before .before .before .before .before .args in
     let m = a .memory .now in
     let b = a .bodies .now in
     let t = a .table .now in
-    let pass = sym (c .before .before .before .before .before .before .before .before .before .before .before .before .before .before .before .before .before .before .before .before .before .before .before .before .before .before .before .before .before .before .before .before .before .before .advance-check .ensures .0) ∙ c .before .before .before .before .before .before .before .before .before .before .before .before .before .before .before .before .before .before .before .before .before .before .before .before .before .before .before .before .before .if1 .left in
+    let pass = sym (c .before .before .before .before .before .before .before .before .before .before .before .before .before .before .before .before .before .before .before .before .before .before .before .before .before .before .before .before .before .before .before .before .before .before .before .before .advance-check .ensures .0) ∙ c .before .before .before .before .before .before .before .before .before .before .before .before .before .before .before .before .before .before .before .before .before .before .before .before .before .before .before .before .before .if1 .left in
     let f = shape-facts (length m) (length b) t (store-shape (length m) (length b) t (advance-store (length m) (length b) t (a .handle) pass)) in
     let ok = raw-rule m b t (advance-store (length m) (length b) t (a .handle) pass) in
     let low = advance-low (length m) (length b) t (a .handle) pass in
     let few = advances-few (cellsOf (length m)) (slotsOf (length t)) (cellsOf (length b)) t ok low in
     let less = count-le (cellsOf (length m)) (advances (slotsOf (length t)) t) in
     let q = c .before .before .before .before .before .before .before .before .before .before .before .before .before .before .before .before .before .before .before .before .before .before .before .before .before .before .before .before .slots-of .ensures in
-    let marks = c .before .before .before .before .before .before .before .before .before .before .before .before .before .before .before .before .before .before .before .before .before .before .before .before .before .before .before .before .before .before .before .before .before .before .advance-check .ensures .1 (c .before .before .before .before .before .before .before .before .before .before .before .before .before .before .before .before .before .before .before .before .before .before .before .before .before .before .before .before .before .if1 .left) .copies in
-    let list = rw (c .before .before .before .before .before .before .before .before .before .before .before .before .before .before .before .before .before .before .before .before .before .before .before .before .before .before .cells-of .ensures, q) at (c .before .before .before .before .before .before .before .before .before .before .before .before .before .before .before .before .before .before .before .before .before .before .place-cells .ensures) in
-    omega (arith, c .before .before .before .before .before .before .before .before .before .before .before .before .copy-listed .ensures .0 .0, list .0, few, f .slots-high, c .before .before .advance-words .ensures .1)
+    let told = c .before .before .before .before .before .before .before .before .before .before .before .before .before .before .before .before .before .before .before .before .before .before .before .before .before .before .before .before .before .before .before .before .before .before .before .before .advance-check .ensures .1 (c .before .before .before .before .before .before .before .before .before .before .before .before .before .before .before .before .before .before .before .before .before .before .before .before .before .before .before .before .before .if1 .left) in
+    let marks = told .0 .copies in
+    let g0 = c .before .before .before .before .before .before .before .before .before .before .before .before .before .before .before .before .before .before .before .before .before .before .before .before .before .before .before .before .before .before .before .before .before .before .before .before .advance-check .kept .1 .1 .1 .1 .1 .1 .0 in
+    let number = marked-count (cellsOf (length m)) (slotsOf (length t)) (cellsOf (length b)) t ok _ (told .1) (omega (arith, g0, f .cells-high, c .before .before .before .before .before .before .before .before .before .before .before .before .before .before .before .before .before .before .before .before .before .before .before .before .before .before .before .before .before .before .before .before .before .before .before .before .before .before .before .before .before .before .before .before .before .before .before .before .pre .0)) in
+    let amount = c .before .before .before .before .before .before .before .before .before .before .before .before .before .before .before .before .before .before .before .before .before .before .list-cells .ensures .0 ∙ number in
+    let list = marked-listed (cellsOf (length m)) (slotsOf (length t)) (cellsOf (length b)) t ok _ (told .1) (omega (arith, g0, f .cells-high, c .before .before .before .before .before .before .before .before .before .before .before .before .before .before .before .before .before .before .before .before .before .before .before .before .before .before .before .before .before .before .before .before .before .before .before .before .before .before .before .before .before .before .before .before .before .before .before .before .pre .0)) _ _ _ (c .before .before .before .before .before .before .before .before .before .before .before .before .before .before .before .before .before .before .before .before .before .before .list-cells .ensures .1) in
+    omega (arith, c .before .before .before .before .before .before .before .before .before .before .before .before .copy-listed .ensures .0 .0, amount, few, f .slots-high, c .before .before .advance-words .ensures .1)
 
--- src/lib.rt:381:5
+-- src/lib.rt:421:5
 answer-of-requires : tie.Need-answer-of-requires
 answer-of-requires c κs = search needs
 
--- src/lib.rt:356:1
-same-length-4 : tie.Need-same-length-4
-same-length-4 c = search needs
-
--- src/lib.rt:356:1
+-- src/lib.rt:387:1
 same-length-5 : tie.Need-same-length-5
 same-length-5 c = search needs
 
--- src/lib.rt:356:1
+-- src/lib.rt:387:1
 same-length-6 : tie.Need-same-length-6
-same-length-6 c = c .before .before .before .before .before .before .before .before .before .before .before .before .before .before .before .before .before .before .before .before .before .before .before .place-cells .kept .1 .1 .1 .1 .0 ∙ c .before .before .before .before .before .before .before .before .before .before .before .before .before .before .before .before .before .before .before .before .before .before .before .before .before .before .before .before .before .before .before .before .before .before .before .advance-check .kept .1 .1 .1 .1 .0
+same-length-6 c = search needs
 
--- src/lib.rt:356:1
+-- src/lib.rt:387:1
 same-length-7 : tie.Need-same-length-7
-same-length-7 c = c .before .before .before .before .before .before .before .before .before .before .before .before .before .before .before .before .before .before .before .before .before .before .before .before .before .before .before .before .before .before .before .before .before .before .before .advance-check .kept .1 .1 .1 .1 .1 .0
+same-length-7 c = c .before .before .before .before .before .before .before .before .before .before .before .before .before .before .before .before .before .before .before .before .before .before .before .list-cells .kept .1 .0 ∙ c .before .before .before .before .before .before .before .before .before .before .before .before .before .before .before .before .before .before .before .before .before .before .before .before .before .before .before .before .before .before .before .before .before .before .before .before .before .advance-check .kept .1 .1 .1 .1 .0
 
--- src/lib.rt:356:1
+-- src/lib.rt:387:1
 same-length-8 : tie.Need-same-length-8
-same-length-8 c = search needs
+same-length-8 c = c .before .before .before .before .before .before .before .before .before .before .before .before .before .before .before .before .before .before .before .before .before .before .before .before .before .before .before .before .before .before .before .before .before .before .before .before .before .advance-check .kept .1 .1 .1 .1 .1 .0
 
--- src/lib.rt:356:1
+-- src/lib.rt:387:1
 same-length-9 : tie.Need-same-length-9
-same-length-9 c = search needs
+same-length-9 c = c .before .before .before .before .before .before .before .before .before .before .before .before .before .before .before .before .before .before .before .before .before .before .before .list-cells .kept .0 ∙ c .before .before .before .before .before .before .before .before .before .before .before .before .before .before .before .before .before .before .before .before .before .before .before .before .before .before .before .before .before .before .before .before .before .before .before .before .before .advance-check .kept .1 .1 .1 .1 .1 .1 .0
 
--- src/lib.rt:356:1
+-- src/lib.rt:387:1
+same-length-10 : tie.Need-same-length-10
+same-length-10 c = search needs
+
+-- src/lib.rt:387:1
 returns-2 : tie.Need-returns-2
 returns-2 c =
-    let a = c .before .before .before .before .before .before .before .before .before .before .before .before .before .before .before .before .before .before .before .before .before .before .before .before .before .before .before .before .before .before .before .before .before .before .before .before .before .before .before .before .before .before .before .before .before .before .args in
+    let a = c .before .before .before .before .before .before .before .before .before .before .before .before .before .before .before .before .before .before .before .before .before .before .before .before .before .before .before .before .before .before .before .before .before .before .before .before .before .before .before .before .before .before .before .before .before .before .before .before .before .args in
     let m = a .memory .now in
     let b = a .bodies .now in
     let t = a .table .now in
-    let pass = sym (c .before .before .before .before .before .before .before .before .before .before .before .before .before .before .before .before .before .before .before .before .before .before .before .before .before .before .before .before .before .before .before .before .before .before .before .advance-check .ensures .0) ∙ c .before .before .before .before .before .before .before .before .before .before .before .before .before .before .before .before .before .before .before .before .before .before .before .before .before .before .before .before .before .before .if1 .left in
+    let pass = sym (c .before .before .before .before .before .before .before .before .before .before .before .before .before .before .before .before .before .before .before .before .before .before .before .before .before .before .before .before .before .before .before .before .before .before .before .before .before .advance-check .ensures .0) ∙ c .before .before .before .before .before .before .before .before .before .before .before .before .before .before .before .before .before .before .before .before .before .before .before .before .before .before .before .before .before .before .if1 .left in
     let f = shape-facts (length m) (length b) t (store-shape (length m) (length b) t (advance-store (length m) (length b) t (a .handle) pass)) in
     let ok = raw-rule m b t (advance-store (length m) (length b) t (a .handle) pass) in
     let low = advance-low (length m) (length b) t (a .handle) pass in
     let few = advances-few (cellsOf (length m)) (slotsOf (length t)) (cellsOf (length b)) t ok low in
     let less = count-le (cellsOf (length m)) (advances (slotsOf (length t)) t) in
     let q = c .before .before .before .before .before .before .before .before .before .before .before .before .before .before .before .before .before .before .before .before .before .before .before .before .before .before .before .before .before .slots-of .ensures in
-    let marks = c .before .before .before .before .before .before .before .before .before .before .before .before .before .before .before .before .before .before .before .before .before .before .before .before .before .before .before .before .before .before .before .before .before .before .before .advance-check .ensures .1 (c .before .before .before .before .before .before .before .before .before .before .before .before .before .before .before .before .before .before .before .before .before .before .before .before .before .before .before .before .before .before .if1 .left) .copies in
-    let list = rw (c .before .before .before .before .before .before .before .before .before .before .before .before .before .before .before .before .before .before .before .before .before .before .before .before .before .before .before .cells-of .ensures, q) at (c .before .before .before .before .before .before .before .before .before .before .before .before .before .before .before .before .before .before .before .before .before .before .before .place-cells .ensures) in
+    let told = c .before .before .before .before .before .before .before .before .before .before .before .before .before .before .before .before .before .before .before .before .before .before .before .before .before .before .before .before .before .before .before .before .before .before .before .before .before .advance-check .ensures .1 (c .before .before .before .before .before .before .before .before .before .before .before .before .before .before .before .before .before .before .before .before .before .before .before .before .before .before .before .before .before .before .if1 .left) in
+    let marks = told .0 .copies in
+    let g0 = c .before .before .before .before .before .before .before .before .before .before .before .before .before .before .before .before .before .before .before .before .before .before .before .before .before .before .before .before .before .before .before .before .before .before .before .before .before .advance-check .kept .1 .1 .1 .1 .1 .1 .0 in
+    let number = marked-count (cellsOf (length m)) (slotsOf (length t)) (cellsOf (length b)) t ok _ (told .1) (omega (arith, g0, f .cells-high, c .before .before .before .before .before .before .before .before .before .before .before .before .before .before .before .before .before .before .before .before .before .before .before .before .before .before .before .before .before .before .before .before .before .before .before .before .before .before .before .before .before .before .before .before .before .before .before .before .before .pre .0)) in
+    let amount = c .before .before .before .before .before .before .before .before .before .before .before .before .before .before .before .before .before .before .before .before .before .before .before .list-cells .ensures .0 ∙ number in
+    let list = marked-listed (cellsOf (length m)) (slotsOf (length t)) (cellsOf (length b)) t ok _ (told .1) (omega (arith, g0, f .cells-high, c .before .before .before .before .before .before .before .before .before .before .before .before .before .before .before .before .before .before .before .before .before .before .before .before .before .before .before .before .before .before .before .before .before .before .before .before .before .before .before .before .before .before .before .before .before .before .before .before .before .pre .0)) _ _ _ (c .before .before .before .before .before .before .before .before .before .before .before .before .before .before .before .before .before .before .before .before .before .before .before .list-cells .ensures .1) in
     let k = a .budget in
-    let bs = listed-bytes (cellsOf (length m)) (slotsOf (length t)) (cellsOf (length b)) _ t _ _ _ _ _ refl ok marks (list .0) (list .1) (c .before .before .before .before .before .before .before .before .before .before .before .before .before .copy-listed .ensures .1) m in
-    let ws = listed-words (cellsOf (length m)) (slotsOf (length t)) (cellsOf (length b)) _ t _ _ _ _ _ refl ok marks (list .0) (list .1) (c .before .before .before .before .before .before .before .before .before .before .before .before .before .copy-listed .ensures .1) in
+    let bs = listed-bytes (cellsOf (length m)) (slotsOf (length t)) (cellsOf (length b)) _ t _ _ _ _ _ refl ok marks amount list (c .before .before .before .before .before .before .before .before .before .before .before .before .before .copy-listed .ensures .1) m in
+    let ws = listed-words (cellsOf (length m)) (slotsOf (length t)) (cellsOf (length b)) _ t _ _ _ _ _ refl ok marks amount list (c .before .before .before .before .before .before .before .before .before .before .before .before .before .copy-listed .ensures .1) in
     let bytes = c .before .before .before .before .before .before .before .before .before .before .before .before .before .copy-listed .ensures .0 in
     let words = rw (q, c .before .before .before .before .remaining .ensures) at (c .before .before .before .advance-words .ensures) in
     advance-performed m b t (a .handle) k (c .before .before .before .before .before .before .before .before .before .before .before .before .before .copy-listed .result) (c .before .before .before .advance-words .result) _ _ _ pass
@@ -222,19 +253,20 @@ advance-marked-spec =
     same-length
     same-length-2
     same-length-3
+    same-length-4
     returns
     slots-of-requires
-    cells-of-requires
-    place-cells-requires
+    last-in-use-requires
+    list-cells-requires
     copy-listed-requires
     remaining-requires
     advance-words-requires
     add-answer-of
     answer-of-requires
-    same-length-4
     same-length-5
     same-length-6
     same-length-7
     same-length-8
     same-length-9
+    same-length-10
     returns-2)

@@ -7,9 +7,10 @@ use lib.Dec.{eqb}
 use Rattle.words.specs.Scan.{count}
 use Rattle.words.proofs.Scan.{count-le}
 use Rattle.table.specs.Entry.{word1, viaOf}
-use Rattle.search.specs.Free.{isCopy, copies}
+use Rattle.search.specs.Free.{isCopy}
 use Rattle.search.proofs.From.{count-byte, byte-small}
 use Rattle.advance.specs.Notes.{turns}
+use Rattle.advance.proofs.Noting.{turning-front, copies-front}
 use Rattle.advance.proofs.bodies_wanted.Statement.{statement}
 use Rattle.advance.proofs.bodies_wanted.Tie as tie
 use Rattle.advance.proofs.bodies_wanted.Reads as reads
@@ -19,49 +20,49 @@ use Rattle.table.proofs.first_word.Reads as first-word-reads
 use Rattle.words.proofs.wide.Reads as wide-reads
 
 abbrev Inv-loop : tie.InvT-loop
-Inv-loop table slots live copies₀ turning₀ i₀ copies turning i = (i ≤ slots) × (copies ≡ count i (isCopy slots table)) × (turning ≡ count i (λ k. turns live (word1 slots table k)))
+Inv-loop table slots top live copies₀ turning₀ i₀ copies turning i = (i ≤ top) × (copies ≡ count i (isCopy slots table)) × (turning ≡ count i (λ k. turns live (word1 slots table k)))
 
 abbrev μ-loop : tie.MeasureT-loop
-μ-loop table slots live copies₀ turning₀ i₀ copies turning i = slots - i
+μ-loop table slots top live copies₀ turning₀ i₀ copies turning i = top - i
 
--- src/lib.rt:94:5
+-- src/lib.rt:122:5
 loop-holds : tie.Need-loop-holds Inv-loop μ-loop
 unfolding count
 loop-holds c = (search needs, refl, refl)
 
--- src/lib.rt:95:13
+-- src/lib.rt:123:13
 first-word-requires : tie.Need-first-word-requires Inv-loop μ-loop
 first-word-requires c κs = search needs
 
--- src/lib.rt:96:19
+-- src/lib.rt:124:19
 cast-copies : tie.Need-cast-copies Inv-loop μ-loop
 cast-copies c = search needs
 
--- src/lib.rt:96:9
+-- src/lib.rt:124:9
 add-copies : tie.Need-add-copies Inv-loop μ-loop
 add-copies c = let a = c .before .before .before .before .args in omega (arith, count-le (c .before .before .loop .i) (isCopy (a .slots) (a .table .now)), byte-small (not (eqb (c .first-word .result) 0) && eqb (viaOf (c .first-word .result)) 0))
 
--- src/lib.rt:97:20
+-- src/lib.rt:125:20
 turns-word-requires : tie.Need-turns-word-requires Inv-loop μ-loop
 turns-word-requires c κs = search needs
 
--- src/lib.rt:97:20
+-- src/lib.rt:125:20
 cast-turning : tie.Need-cast-turning Inv-loop μ-loop
 cast-turning c = search needs
 
--- src/lib.rt:97:9
+-- src/lib.rt:125:9
 add-turning : tie.Need-add-turning Inv-loop μ-loop
 add-turning c = let a = c .before .before .before .before .before .args in omega (arith, count-le (c .before .before .before .loop .i) (λ k. turns (a .live) (word1 (a .slots) (a .table .now) k)), byte-small (c .turns-word .result))
 
--- src/lib.rt:98:9
+-- src/lib.rt:126:9
 add-i : tie.Need-add-i Inv-loop μ-loop
 add-i c = search needs
 
--- src/lib.rt:94:5
+-- src/lib.rt:122:5
 loop-less : tie.Need-loop-less Inv-loop μ-loop
 loop-less c = search needs
 
--- src/lib.rt:94:5
+-- src/lib.rt:122:5
 loop-again : tie.Need-loop-again Inv-loop μ-loop
 loop-again c =
     let a = c .before .before .before .before .before .args in
@@ -72,21 +73,22 @@ loop-again c =
       count-byte (λ k. turns (a .live) (word1 (a .slots) (a .table .now) k)) (s .i) (s .turning) (s .inv .2) _ (c .turns-word .ensures ∙ ap (turns (a .live)) word),
     )
 
--- src/lib.rt:100:10
+-- src/lib.rt:128:10
 add-wide : tie.Need-add-wide Inv-loop μ-loop
 add-wide c = let a = c .before .before .before .args in omega (arith, count-le (c .before .loop .i) (isCopy (a .slots) (a .table .now)), count-le (c .before .loop .i) (λ k. turns (a .live) (word1 (a .slots) (a .table .now) k)))
 
--- src/lib.rt:100:5
+-- src/lib.rt:128:5
 wide-requires : tie.Need-wide-requires Inv-loop μ-loop
 wide-requires c κs = search needs
 
--- src/lib.rt:87:1
+-- src/lib.rt:115:1
 returns : tie.Need-returns Inv-loop μ-loop
-unfolding copies
 returns c =
     let a = c .before .before .before .before .args in
-    let last : c .before .before .loop .i ≡ a .slots = omega arith in
-    c .wide .ensures ∙ (λ j. (c .before .before .loop .inv .1 ∙ ap (λ (n : ℕ). count n (isCopy (a .slots) (a .table .now))) last) j + (c .before .before .loop .inv .2 ∙ ap (λ (n : ℕ). count n (λ k. turns (a .live) (word1 (a .slots) (a .table .now) k))) last) j)
+    let last : c .before .before .loop .i ≡ a .top = omega arith in
+    c .wide .ensures
+    ∙ (λ j. (c .before .before .loop .inv .1 ∙ ap (λ (n : ℕ). count n (isCopy (a .slots) (a .table .now))) last ∙ copies-front (a .slots) (a .table .now) (a .top) (c .before .before .before .before .pre .2) (c .before .before .before .before .pre .3)) j
+    + (c .before .before .loop .inv .2 ∙ ap (λ (n : ℕ). count n (λ k. turns (a .live) (word1 (a .slots) (a .table .now) k))) last ∙ turning-front (a .slots) (a .table .now) (a .top) (c .before .before .before .before .pre .2) (c .before .before .before .before .pre .3) (a .live)) j)
 
 pub bodies-wanted-spec : {M : Type 1} → statement M
 bodies-wanted-spec =

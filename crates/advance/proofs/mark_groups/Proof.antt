@@ -1,68 +1,107 @@
 use borrow.Author.Needs.{needs}
 use Prim.Native.Nat.{ℕ, _+_, _-_, _≤_}
-use mathlib.Core.Path.{_≡_, ap, sym, subst, _∙_}
+use mathlib.Core.Bool.{Bool, not, _&&_, _||_}
+use mathlib.Core.Path.{_≡_, refl, ap, sym, subst, _∙_}
 use native.Mathlib.Omega.{arith}
-use lib.ListN.{length}
-use Rattle.table.specs.Entry.{cellOf}
-use Rattle.advance.specs.Notes.{markTurning, Turned}
+use lib.ListN.{length, getD}
+use Rattle.words.specs.Scan.{all}
+use Rattle.words.proofs.Scan.{all-next}
+use Rattle.table.specs.Entry.{word1, cellOf, parent}
+use Rattle.table.specs.Marks.{has, markAt}
+use Rattle.advance.specs.Notes.{turns, markTurning, Turned}
 use Rattle.advance.proofs.Bits.{turned-none, turned-more}
+use Rattle.advance.proofs.Noting.{covered-front, turned-front}
 use Rattle.advance.proofs.mark_groups.Statement.{statement}
 use Rattle.advance.proofs.mark_groups.Tie as tie
 use Rattle.advance.proofs.mark_groups.Reads as reads
 use Rattle.advance.proofs.mark_groups.Lts as lts
 use Rattle.advance.proofs.mark_turning.Reads as mark-turning-reads
+use Rattle.advance.proofs.turns_word.Reads as turns-word-reads
 use Rattle.table.proofs.first_word.Reads as first-word-reads
+use Rattle.table.proofs.has_depth.Reads as has-depth-reads
+use Rattle.words.proofs.wide.Reads as wide-reads
 
 abbrev Inv-loop : tie.InvT-loop
-Inv-loop table slots live groups₀ i₀ groups i = (i ≤ slots) × (length groups ≡ length groups₀) × Turned slots table live i groups
+Inv-loop table slots top live seen groups₀ good₀ i₀ groups good i = (i ≤ top) × (length groups ≡ length groups₀) × Turned slots table live i groups
+    × (good ≡ all i (λ k. not (turns live (word1 slots table k)) || has (parent live) (markAt seen (word1 slots table k))))
 
 abbrev μ-loop : tie.MeasureT-loop
-μ-loop table slots live groups₀ i₀ groups i = slots - i
+μ-loop table slots top live seen groups₀ good₀ i₀ groups good i = top - i
 
--- src/lib.rt:53:5
+-- src/lib.rt:128:5
 loop-holds : tie.Need-loop-holds Inv-loop μ-loop
-loop-holds c = (search needs, search needs, turned-none (c .before .before .args .slots) (c .before .before .args .table .now) (c .before .before .args .live) (c .before .before .args .groups .now) (c .before .before .pre .1))
+unfolding all
+loop-holds c = (search needs, search needs, turned-none (c .before .before .before .args .slots) (c .before .before .before .args .table .now) (c .before .before .before .args .live) (c .before .before .before .args .groups .now) (c .before .before .before .pre .1 .2), refl)
 
--- src/lib.rt:54:30
+-- src/lib.rt:129:13
 first-word-requires : tie.Need-first-word-requires Inv-loop μ-loop
 first-word-requires c κs = search needs
 
--- src/lib.rt:54:9
+-- src/lib.rt:130:35
+wide-requires : tie.Need-wide-requires Inv-loop μ-loop
+wide-requires c κs = search needs
+
+-- src/lib.rt:130:30
+shared-slice-read-has-depth : tie.Need-shared-slice-read-has-depth Inv-loop μ-loop
+shared-slice-read-has-depth c = let h = c .before .before .before .before .before .before .before .before .pre .1 .0 (c .before .before .before .before .loop .i) (omega (arith, c .before .before .before .before .before .before .before .before .pre .0)) in omega (arith, h, c .before .wide .ensures, ap cellOf (c .before .before .first-word .ensures))
+
+-- src/lib.rt:130:56
+sub-has-depth : tie.Need-sub-has-depth Inv-loop μ-loop
+sub-has-depth c = search needs
+
+-- src/lib.rt:130:13
+has-depth-requires : tie.Need-has-depth-requires Inv-loop μ-loop
+has-depth-requires c κs = search needs
+
+-- src/lib.rt:131:25
+turns-word-requires : tie.Need-turns-word-requires Inv-loop μ-loop
+turns-word-requires c κs = search needs
+
+-- src/lib.rt:132:9
 mark-turning-requires : tie.Need-mark-turning-requires Inv-loop μ-loop
 mark-turning-requires c κs =
-    let h = c .before .before .before .before .before .before .pre .0 .2 (c .before .before .before .loop .i) (c .before .before .loop-test .taken) in
-    omega (arith, h, ap cellOf (c .first-word .ensures), c .before .before .before .loop .inv .1)
+    let h = c .before .before .before .before .before .before .before .before .before .before .before .pre .1 .0 (c .before .before .before .before .before .before .before .loop .i) (omega (arith, c .before .before .before .before .before .before .before .before .before .before .before .pre .0)) in
+    omega (arith, h, ap cellOf (c .before .before .before .before .before .first-word .ensures), c .before .before .before .before .before .before .before .loop .inv .1, c .before .before .before .before .before .before .before .before .before .before .before .pre .1 .1)
 
--- src/lib.rt:55:9
+-- src/lib.rt:133:9
 add-i : tie.Need-add-i Inv-loop μ-loop
 add-i c = search needs
 
--- src/lib.rt:53:5
+-- src/lib.rt:128:5
 loop-less : tie.Need-loop-less Inv-loop μ-loop
 loop-less c = search needs
 
--- src/lib.rt:53:5
+-- src/lib.rt:128:5
 loop-again : tie.Need-loop-again Inv-loop μ-loop
 loop-again c =
-    let a = c .before .before .before .before .before .before .before .before .before .args in
-    let s = c .before .before .before .before .before .before .loop in
-    let h = c .before .before .before .before .before .before .before .before .before .pre .0 .2 (s .i) (c .before .before .before .before .before .loop-test .taken) in
-    let q = c .before .before .mark-turning .ensures ∙ ap (λ (w : ℕ). markTurning (a .live) w (s .groups)) (c .before .before .before .first-word .ensures) in (
+    let a = c .before .before .before .before .before .before .before .before .before .before .before .before .before .before .args in
+    let s = c .before .before .before .before .before .before .before .before .before .before .loop in
+    let h = c .before .before .before .before .before .before .before .before .before .before .before .before .before .before .pre .1 .0 (s .i) (omega (arith, c .before .before .before .before .before .before .before .before .before .before .before .before .before .before .pre .0, c .before .before .before .before .before .before .before .before .before .loop-test .taken)) in
+    let q = c .before .before .mark-turning .ensures ∙ ap (λ (w : ℕ). markTurning (a .live) w (s .groups)) (c .before .before .before .before .before .before .before .before .first-word .ensures) in
+    let at : ℕ → Bool = λ w. not (turns (a .live) w) || has (parent (a .live)) (markAt (a .seen .now) w) in
+    let now : (not (c .before .before .before .before .turns-word .result) || c .before .before .before .before .before .has-depth .result) ≡ at (word1 (a .slots) (a .table .now) (s .i)) =
+    (λ j. not (c .before .before .before .before .turns-word .ensures j) || (c .before .before .before .before .before .has-depth .ensures ∙ ap (λ (x : ℕ). has (parent (a .live)) (getD (a .seen .now) x 0)) (c .before .before .before .before .before .before .before .wide .ensures)) j)
+    ∙ ap at (c .before .before .before .before .before .before .before .before .first-word .ensures) in (
       search needs,
       c .before .before .mark-turning .kept .0 ∙ s .inv .1,
       subst (Turned (a .slots) (a .table .now) (a .live) (s .i + 1)) (sym q)
-          (turned-more (a .slots) (a .table .now) (a .live) (s .i) (s .groups) (omega (arith, h, s .inv .1)) (s .inv .2)),
+          (turned-more (a .slots) (a .table .now) (a .live) (s .i) (s .groups) (omega (arith, h, s .inv .1, c .before .before .before .before .before .before .before .before .before .before .before .before .before .before .pre .1 .1)) (s .inv .2)),
+      (λ j. s .inv .3 j && now j) ∙ all-next (s .i) (λ k. at (word1 (a .slots) (a .table .now) k)),
     )
 
--- src/lib.rt:47:1
+-- src/lib.rt:113:1
 same-length : tie.Need-same-length Inv-loop μ-loop
 same-length c = c .before .loop .inv .1
 
--- src/lib.rt:47:1
+-- src/lib.rt:113:1
 returns : tie.Need-returns Inv-loop μ-loop
 returns c =
-    let last : c .before .loop .i ≡ c .before .before .before .before .args .slots = omega arith in
-    subst (λ (n : ℕ). Turned (c .before .before .before .before .args .slots) (c .before .before .before .before .args .table .now) (c .before .before .before .before .args .live) n (c .before .loop .groups)) last (c .before .loop .inv .2)
+    let a = c .before .before .before .before .before .args in
+    let last : c .before .loop .i ≡ a .top = omega (arith, c .before .loop .inv .0, c .loop-test .left) in (
+      c .before .loop .inv .3 ∙ ap (λ (n : ℕ). all n (λ k. not (turns (a .live) (word1 (a .slots) (a .table .now) k)) || has (parent (a .live)) (markAt (a .seen .now) (word1 (a .slots) (a .table .now) k)))) last
+          ∙ covered-front (a .slots) (a .table .now) (a .top) (c .before .before .before .before .before .pre .0 .4) (c .before .before .before .before .before .pre .0 .5) (a .live) (λ w. has (parent (a .live)) (markAt (a .seen .now) w)),
+      turned-front (a .slots) (a .table .now) (a .top) (c .before .before .before .before .before .pre .0 .4) (c .before .before .before .before .before .pre .0 .5) (a .live) _ (subst (λ (n : ℕ). Turned (a .slots) (a .table .now) (a .live) n (c .before .loop .groups)) last (c .before .loop .inv .2)),
+    )
 
 pub mark-groups-spec : {M : Type 1} → statement M
 mark-groups-spec =
@@ -72,6 +111,11 @@ mark-groups-spec =
     μ-loop
     loop-holds
     first-word-requires
+    wide-requires
+    shared-slice-read-has-depth
+    sub-has-depth
+    has-depth-requires
+    turns-word-requires
     mark-turning-requires
     add-i
     loop-less

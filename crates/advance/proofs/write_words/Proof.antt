@@ -12,6 +12,7 @@ use Rattle.words.proofs.Plans.{stores-none}
 use Rattle.table.specs.Entry.{word1}
 use Rattle.table.specs.Changes.{entryStores}
 use Rattle.advance.specs.Notes.{noted, noteChange}
+use Rattle.advance.proofs.Noting.{changes-front}
 use Rattle.advance.proofs.write_words.Statement.{statement}
 use Rattle.advance.proofs.write_words.Tie as tie
 use Rattle.advance.proofs.write_words.Reads as reads
@@ -19,42 +20,41 @@ use Rattle.advance.proofs.write_words.Lts as lts
 use Rattle.advance.proofs.write_noted.Reads as write-noted-reads
 
 abbrev Inv-loop : tie.InvT-loop
-Inv-loop table₀ slots live groups seen places budget p₀ i₀ table p i =
-    (i ≤ slots) × (p ≤ 2 * i) × (length table ≡ length table₀)
+Inv-loop table₀ slots top live groups seen places budget p₀ i₀ table p i =
+    (i ≤ top) × (p ≤ 2 * i) × (length table ≡ length table₀)
     × (p ≡ length (gather i (λ k. entryStores slots k (noteChange live (noted groups seen places) (word1 slots table₀ k)))))
     × (table ≡ stores (take budget (pairPlans (pairsAt slots) (gather i (λ k. entryStores slots k (noteChange live (noted groups seen places) (word1 slots table₀ k)))))) table₀)
 
 abbrev μ-loop : tie.MeasureT-loop
-μ-loop table₀ slots live groups seen places budget p₀ i₀ table p i = slots - i
+μ-loop table₀ slots top live groups seen places budget p₀ i₀ table p i = top - i
 
--- src/lib.rt:215:5
+-- src/lib.rt:360:5
 loop-holds : tie.Need-loop-holds Inv-loop μ-loop
 loop-holds c = (search needs, search needs, refl, refl, stores-none (c .before .before .before .before .args .budget) (c .before .before .before .before .args .table .now))
 
--- src/lib.rt:216:14
+-- src/lib.rt:361:14
 write-noted-requires : tie.Need-write-noted-requires Inv-loop μ-loop
 write-noted-requires c κs =
     let a = c .before .before .before .before .before .before .before .args in
     let s = c .before .before .loop in
-    let here = c .before .loop-test .taken in
     let ws : List Store = gather (s .i) (λ k. entryStores (a .slots) k (noteChange (a .live) (noted (a .groups .now) (a .seen .now) (a .places .now)) (word1 (a .slots) (a .table .now) k))) in
     let same : word1 (a .slots) (s .table) (s .i) ≡ word1 (a .slots) (a .table .now) (s .i) =
     getD-written (pairsAt (a .slots)) (a .budget) (firstAt (a .slots) (s .i)) ws (a .table .now) (s .table) (omega arith) (s .inv .4) in
-    ((here, c .before .before .before .before .before .before .before .pre .0 .0, s .inv .2 ∙ c .before .before .before .before .before .before .before .pre .0 .1, s .inv .1), rw same (c .before .before .before .before .before .before .before .pre .1 (s .i) here))
+    ((omega arith, c .before .before .before .before .before .before .before .pre .0 .0, s .inv .2 ∙ c .before .before .before .before .before .before .before .pre .0 .1, s .inv .1), rw same (c .before .before .before .before .before .before .before .pre .1 (s .i) (omega arith)))
 
--- src/lib.rt:216:9
+-- src/lib.rt:361:9
 add-p : tie.Need-add-p Inv-loop μ-loop
 add-p c = omega (arith, c .before .before .write-noted .ensures .1)
 
--- src/lib.rt:217:9
+-- src/lib.rt:362:9
 add-i : tie.Need-add-i Inv-loop μ-loop
 add-i c = search needs
 
--- src/lib.rt:215:5
+-- src/lib.rt:360:5
 loop-less : tie.Need-loop-less Inv-loop μ-loop
 loop-less c = search needs
 
--- src/lib.rt:215:5
+-- src/lib.rt:360:5
 loop-again : tie.Need-loop-again Inv-loop μ-loop
 loop-again c =
     let a = c .before .before .before .before .before .before .before .before .before .before .args in
@@ -72,20 +72,21 @@ loop-again c =
       pairs-turn f [] (pairsAt (a .slots)) (a .budget) (s .i) (s .p) (a .table .now) (s .table) _ (s .inv .3) (s .inv .4) e₂,
     )
 
--- src/lib.rt:200:1
+-- src/lib.rt:344:1
 same-length : tie.Need-same-length Inv-loop μ-loop
 same-length c = c .before .loop .inv .2
 
--- src/lib.rt:200:1
+-- src/lib.rt:344:1
 returns : tie.Need-returns Inv-loop μ-loop
 returns c =
     let a = c .before .before .before .before .before .before .args in
     let s = c .before .loop in
     let f : ℕ → List Store = λ k. entryStores (a .slots) k (noteChange (a .live) (noted (a .groups .now) (a .seen .now) (a .places .now)) (word1 (a .slots) (a .table .now) k)) in
-    let last : s .i ≡ a .slots = omega arith in (
-      s .inv .3 ∙ ap (λ (n : ℕ). length (gather n f)) last,
+    let last : s .i ≡ a .top = omega arith in
+    let whole = ap (λ (n : ℕ). gather n f) last ∙ changes-front (a .slots) (a .table .now) (a .top) (c .before .before .before .before .before .before .pre .0 .2) (c .before .before .before .before .before .before .pre .0 .3) (a .live) (noted (a .groups .now) (a .seen .now) (a .places .now)) in (
+      s .inv .3 ∙ ap (λ (ps : List Store). length ps) whole,
       omega arith,
-      s .inv .4 ∙ ap (λ (n : ℕ). stores (take (a .budget) (pairPlans (pairsAt (a .slots)) (gather n f))) (a .table .now)) last,
+      s .inv .4 ∙ ap (λ (ps : List Store). stores (take (a .budget) (pairPlans (pairsAt (a .slots)) ps)) (a .table .now)) whole,
     )
 
 pub write-words-spec : {M : Type 1} → statement M
