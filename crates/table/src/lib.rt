@@ -1,8 +1,8 @@
 // The table's rule: questions 1, 2 and 4 of document 01, for a table of any contents.
 //
-// Question 4 asks every entry by itself. The entries up to the last one in use it then passes twice with a mark for each cell and once with a
-// mark for each body, however many domains are live, so that it does not compare each entry with each. The passes over words and cells take no
-// branch on what an entry holds, which would often be guessed wrong. While pairs are pending it looks at a copy in which they are in place.
+// Question 4 passes over the entries once, with one mark for each cell, a bit for each depth that holds it, and one for each body, so that it
+// does not compare each entry with each; it passes over them again only to ask via parent entries for their parent. The caller lends the
+// room for marks and has the marks afterwards. While pairs are pending it looks at a copy in which they are in place.
 use words::layout::BODIES_AT;
 use words::layout::CELLS_AT;
 use words::layout::LIVE_AT;

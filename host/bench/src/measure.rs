@@ -163,7 +163,7 @@ impl State {
 }
 
 /// How often a call that changes nothing is made for one figure, since a short one is hardly longer than the clock's own time.
-const REPEATS: u32 = 8;
+const REPEATS: u32 = 32;
 
 struct Clock {
     /// What a measured nothing takes, in microseconds.
