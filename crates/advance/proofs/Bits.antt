@@ -1,5 +1,5 @@
 -- Laws of numbers read as sets of bits: the lowest bit, and one bit more. Then the pass over the entries that sets the bits of the cells. Assumes nothing.
-use Prim.Native.Nat.{ℕ, zero, suc, _+_, _*_, _/_, _%_, _^_, _≤_, _<_, max}
+use Prim.Native.Nat.{ℕ, zero, suc, _+_, _*_, _/_, _%_, _^_, _<_, max}
 use mathlib.Core.Bool.{Bool, true, false, cond, _&&_, _||_}
 use mathlib.Core.List.{List}
 use mathlib.Core.Path.{_≡_, refl, sym, ap, subst, _∙_}
@@ -7,13 +7,13 @@ use native.Mathlib.Nat.{not-suc-le-zero, le-of-suc-le-suc}
 use native.Mathlib.Omega.{arith}
 use mir.Val.{boolByte}
 use borrow.Author.Tests.{eq-eqb, ne-eqb, eqb-true, eqb-false}
-use lib.Bits.{bitOr, or-step, or-shr, or-zero-r}
+use lib.Bits.{bitOr, or-step, or-shr}
 use lib.Count.{under, trailingZeros}
 use lib.Dec.{eqb}
-use lib.ListN.{length, getD, set}
+use lib.ListN.{length, getD}
 use lib.Pow.{pow-lt, shr-shr}
 use lib.Seq.{getD-set-same, getD-set-other}
-use Rattle.words.proofs.Scan.{by-bool, by-le, and-split, and-join, is-true, is-false, true≢}
+use Rattle.words.proofs.Scan.{by-bool, and-split, and-join, is-false, true≢}
 use Rattle.table.specs.Entry.{word1, cellOf}
 use Rattle.table.specs.Marks.{Blank}
 use Rattle.table.proofs.Marks.{split}
@@ -70,7 +70,7 @@ either (suc (suc p)) q a b = absurd (omega arith)
 either zero (suc (suc q)) a b = absurd (omega arith)
 either (suc zero) (suc (suc q)) a b = absurd (omega arith)
 
-pub or-bit : (x y k : ℕ) → bit (bitOr x y) k ≡ (bit x k || bit y k)
+or-bit : (x y k : ℕ) → bit (bitOr x y) k ≡ (bit x k || bit y k)
 or-bit x y k =
     ap (λ (z : ℕ). eqb (z % 2) 1) (or-shr x y k) ∙ ap (λ (z : ℕ). eqb z 1) (both-odd (x / 2 ^ k) (y / 2 ^ k))
     ∙ either (x / 2 ^ k % 2) (y / 2 ^ k % 2) (omega arith) (omega arith)
@@ -79,11 +79,11 @@ or-bit x y k =
 power-half : (i : ℕ) → 2 ^ suc i / 2 ≡ 2 ^ i
 power-half i = omega arith
 
-pub power-bit : (i : ℕ) → bit (2 ^ i) i ≡ true
+power-bit : (i : ℕ) → bit (2 ^ i) i ≡ true
 power-bit zero = refl
 power-bit (suc i) = ap (λ (x : ℕ). eqb (x % 2) 1) (halved (2 ^ suc i) i ∙ ap (λ (x : ℕ). x / 2 ^ i) (power-half i)) ∙ power-bit i
 
-pub power-other : (i k : ℕ) → (k ≡ i → ⊥) → bit (2 ^ i) k ≡ false
+power-other : (i k : ℕ) → (k ≡ i → ⊥) → bit (2 ^ i) k ≡ false
 power-other zero zero ne = absurd (ne refl)
 power-other zero (suc k) ne = ap (λ (x : ℕ). eqb (x % 2) 1) (halved 1 k ∙ none k)
 power-other (suc i) zero ne = let even : 2 ^ suc i / 2 ^ 0 % 2 ≡ 0 = omega arith in ap (λ (x : ℕ). eqb x 1) even
@@ -115,7 +115,7 @@ module _ (n w : ℕ) (groups : List ℕ) (fits : cellOf w / 64 < length groups) 
       (λ z. power-other (cellOf w % 64) k (eqb-false _ _ z) ∙ sym z)))
       (λ y. rw y (no-bit k))
 
-  pub marks-after : (c : ℕ) → marked (markTurning n w groups) c ≡ (marked groups c || (turns n w && eqb c (cellOf w)))
+  marks-after : (c : ℕ) → marked (markTurning n w groups) c ≡ (marked groups c || (turns n w && eqb c (cellOf w)))
   marks-after c =
       by-bool (eqb (c / 64) (cellOf w / 64))
       (λ z.

@@ -14,11 +14,11 @@ use Rattle.words.specs.Scan.{count, nth}
 use Rattle.words.specs.Stores.{Store, gather}
 use Rattle.words.specs.Cells.{cellPlan}
 use Rattle.words.proofs.Scan.{by-bool, by-le, true≢, count-more, count-ext}
-use Rattle.words.proofs.Nth.{count-mono, count-below, nth-below, nth-holds, nth-rank, nth-from}
+use Rattle.words.proofs.Nth.{count-below, nth-below, nth-holds, nth-rank, nth-from}
 use Rattle.words.proofs.Plans.{length-cellPlan}
 use Rattle.words.proofs.Gather.{gather-length}
 use Rattle.search.specs.Free.{unmarkedFrom}
-use Rattle.search.proofs.From.{Failing, count-stop}
+use Rattle.search.proofs.From.{count-stop}
 use Rattle.advance.specs.Notes.{bit, marked, NoBits, placeOf, Listed, unmarked}
 use Rattle.advance.proofs.Bits.{no-bit, trailing-low, trailing-here}
 
@@ -28,7 +28,7 @@ pub count-past : (n : ℕ) (f : ℕ → Bool) → f n ≡ true → count (n + 1)
 count-past n f h = rw (count-more, h)
 
 -- in two parts
-pub count-parts : (a n : ℕ) (f : ℕ → Bool) → count (a + n) f ≡ count a f + count n (λ k. f (a + k))
+count-parts : (a n : ℕ) (f : ℕ → Bool) → count (a + n) f ≡ count a f + count n (λ k. f (a + k))
 unfolding count
 count-parts a zero f = let z : a + 0 ≡ a = omega arith in rw z (omega arith)
 count-parts a (suc n) f =
@@ -118,7 +118,7 @@ module _ (group base first at p n : ℕ) (seen places : List ℕ) (set-here : bi
 
 module _ (groups₀ groups : List ℕ) (g n : ℕ) (same : getD groups g 0 ≡ getD groups₀ g 0) where
   -- the bits of group g are its cells' marks
-  pub group-bits : (k : ℕ) → k < 64 → marked groups₀ (64 * g + k) ≡ bit (getD groups g 0) k
+  group-bits : (k : ℕ) → k < 64 → marked groups₀ (64 * g + k) ≡ bit (getD groups g 0) k
   group-bits k l =
       let q : (64 * g + k) / 64 ≡ g = omega arith in
       let r : (64 * g + k) % 64 ≡ k = omega arith in

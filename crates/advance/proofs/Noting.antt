@@ -1,5 +1,5 @@
 -- Laws of the questions asked of the entries, and of the list by which the code settles which body each cell gets. Assumes nothing.
-use Prim.Native.Nat.{ℕ, zero, suc, _+_, _-_, _*_, _/_, _≤_, _<_}
+use Prim.Native.Nat.{ℕ, zero, suc, _+_, _-_, _*_, _≤_, _<_}
 use mathlib.Core.Bool.{Bool, true, false, cond, not, _&&_, _||_}
 use mathlib.Core.List.{List, [], _++_, append-nil}
 use mathlib.Core.Path.{_≡_, refl, sym, ap, subst, _∙_}
@@ -30,8 +30,8 @@ use Rattle.search.proofs.Counts.{count-entries}
 use Rattle.search.proofs.Free.{body-used, body-user}
 use Rattle.model.specs.Answer.{ask}
 use Rattle.advance.specs.Advance.{advances, bodyFor, advanceChange, advanceWords, advanceBytes}
-use Rattle.advance.specs.Notes.{FreeFrom, turns, entriesCheck, marked, Turned, placeOf, Listed, Placed, unmarked, Filled, noted, noteChange}
-use Rattle.advance.proofs.Turning.{turnsAt, Choice, advances-of, advances-cell}
+use Rattle.advance.specs.Notes.{FreeFrom, turns, entriesCheck, marked, Turned, Listed, Placed, unmarked, Filled, noted, noteChange}
+use Rattle.advance.proofs.Turning.{turnsAt, advances-of, advances-cell}
 use Rattle.advance.proofs.Choosing.{enough}
 use Rattle.advance.proofs.Listing.{gather-listed, listed-ext}
 
@@ -62,7 +62,7 @@ module _ (e : ℕ) (t : List ℕ) (top : ℕ) (within : top ≤ e) (free : FreeF
   none-turns : (n : ℕ) → turns n 0 ≡ false
   none-turns n = is-false (turns n 0) (λ y. true≢ (and-split (eqb (depthOf 0) n) (eqb (writableOf 0) 1) y .1) refl)
 
-  pub free-stays : (n k : ℕ) → top ≤ k → k < e → turns n (word1 e t k) ≡ false
+  free-stays : (n k : ℕ) → top ≤ k → k < e → turns n (word1 e t k) ≡ false
   free-stays n k l h = ap (turns n) (free k l h) ∙ none-turns n
 
   pub turning-front : (n : ℕ) → count top (λ i. turns n (word1 e t i)) ≡ count e (λ i. turns n (word1 e t i))
@@ -193,7 +193,7 @@ module _ (m e b : ℕ) (t : List ℕ) (ok : Rule m e b t) where
 
 -- ---- the bodies
 
-pub unmarked-body : (e : ℕ) (t used : List ℕ) → Marks (IsCopy e t) (word2 e t) 1 e used → (k : ℕ) → unmarked used k ≡ bodyFree e t k
+unmarked-body : (e : ℕ) (t used : List ℕ) → Marks (IsCopy e t) (word2 e t) 1 e used → (k : ℕ) → unmarked used k ≡ bodyFree e t k
 unmarked-body e t used m k =
     ap not
     (by-bool (bodyUsed e t k)
@@ -212,7 +212,7 @@ room-unmarked m e b t used ok room marks =
 
 -- ---- from the list to the plan
 
-pub gather-below : {A : Type 0} (f g : ℕ → List A) (n : ℕ) → ((i : ℕ) → i < n → f i ≡ g i) → gather n f ≡ gather n g
+gather-below : {A : Type 0} (f g : ℕ → List A) (n : ℕ) → ((i : ℕ) → i < n → f i ≡ g i) → gather n f ≡ gather n g
 gather-below f g zero h = refl
 gather-below f g (suc n) h = λ j. gather-below f g n (λ i l. h i (omega arith)) j ++ h n (omega arith) j
 
@@ -293,9 +293,3 @@ module _ (e i n at k : ℕ) (note : ℕ → ℕ) (t : List ℕ) (w : ℕ) where
 pub words-below : (e : ℕ) (f : ℕ → Change) → Each (λ s. s .at < pairsAt e) (entryChanges e f)
 words-below e f =
     names-below (pairsAt e) 0 (entryChanges e f) (pendingAt-below e) (changes-names e f [] (names-make (pairsAt e) 0 [] tt tt tt) tt)
-
--- ---- question 17
-
-pub copies-small : (e : ℕ) (t : List ℕ) → copies e t ≤ e
-unfolding copies
-copies-small e t = count-le e (isCopy e t)

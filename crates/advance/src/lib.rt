@@ -26,22 +26,21 @@ use words::layout::slots_of;
 use words::remaining;
 use words::wide;
 ghost use mathlib.Core.Path.{_≡_};
-ghost use mathlib.Core.Bool.{true, false, not, _||_};
+ghost use mathlib.Core.Bool.{true, not, _||_};
 ghost use Prim.Native.Nat.{ℕ, _+_, _-_, _*_, _/_, _≤_, _<_, min};
 ghost use lib.ListN.{length, take, getD};
-ghost use lib.Dec.{leb};
 ghost use Rattle.words.specs.Layout.{cellAt, cellsOf, slotsOf, pairsAt, tableWords, maxSlots, maxCells, maxBodies, maxLive};
 ghost use Rattle.words.specs.Scan.{all, count, nth};
 ghost use Rattle.words.specs.Stores.{stores, gather};
 ghost use Rattle.words.specs.Cells.{cellPlan};
 ghost use Rattle.words.specs.Journal.{pairPlans, journal, journalSteps};
-ghost use Rattle.table.specs.Entry.{live, word1, parent, holdsIn, cellOf};
+ghost use Rattle.table.specs.Entry.{live, word1, parent, cellOf};
 ghost use Rattle.table.specs.Marks.{Blank, AllMarked, Marked, cellIn, has, markAt, zeros};
 ghost use Rattle.table.specs.Changes.{entryStores, entryChanges};
 ghost use Rattle.search.specs.Free.{copies};
 ghost use Rattle.store.specs.Outcome.{buffers, report, leaves, outcome};
 ghost use Rattle.store.specs.Means.{seen};
-ghost use Rattle.advance.specs.Advance.{advances, advanceCheck, advanceCall, advanceMeans};
+ghost use Rattle.advance.specs.Advance.{advanceCheck, advanceCall, advanceMeans};
 ghost use Rattle.advance.specs.Notes.{FreeFrom, turns, entriesCheck, bit, marked, NoBits, markTurning, Turned, placeOf, Listed, unmarked, Filled, noted, Placed, noteChange};
 
 // ---- the entries in use

@@ -1,45 +1,33 @@
-use Prim.Native.Nat.{ℕ, _≤_, _<_}
-use mathlib.Core.Path.{_≡_, sym, ap, subst, _∙_}
+-- `advance::advance_check` meets its contract. Assumes nothing.
+use Prim.Native.Nat.{_≤_, _<_}
+use mathlib.Core.Path.{sym, _∙_}
 use native.Mathlib.Omega.{arith}
 use borrow.Author.Tests.{eq-eqb, ne-eqb, lt-ltb, le-ltb}
+use borrow.Author.Needs.{needs}
 use lib.ListN.{length}
 use Rattle.words.specs.Layout.{cellsOf, slotsOf}
-use Rattle.table.specs.Entry.{live, word1, cellOf}
-use Rattle.table.specs.Marks.{Marked}
+use Rattle.table.specs.Entry.{live}
 use Rattle.search.specs.Domain.{depthNamed}
 use Rattle.store.proofs.Checks.{ask-go, ask-stop, orElse-go, orElse-stop, shape-facts, store-shape}
 use Rattle.store.proofs.Raw.{check-rule}
 use Rattle.advance.specs.Notes.{entriesCheck}
 use Rattle.advance.proofs.Noting.{entries-cells, cells-fit}
 use Rattle.advance.proofs.Advanced.{check-is}
-use borrow.Author.Needs.{needs}
 use Rattle.advance.proofs.advance_check.Statement.{statement}
 use Rattle.advance.proofs.advance_check.Tie as tie
-use Rattle.advance.proofs.advance_check.Reads as reads
-use Rattle.advance.proofs.advance_check.Lts as lts
-use Rattle.advance.proofs.entries_check.Reads as entries-check-reads
-use Rattle.search.proofs.find_domain.Reads as find-domain-reads
-use Rattle.store.proofs.store_check.Reads as store-check-reads
-use Rattle.words.proofs.layout.cells_of.Reads as cells-of-reads
-use Rattle.words.proofs.layout.slots_of.Reads as slots-of-reads
 
--- src/lib.rt:180:9
 store-check-requires : tie.Need-store-check-requires
 store-check-requires c κs = (c .before .before .before .before .before .before .pre .0, (c .before .before .before .before .before .before .pre .1 .0, c .before .before .before .before .before .before .pre .1 .1))
 
--- src/lib.rt:182:9
 same-length : tie.Need-same-length
 same-length c = search needs
 
--- src/lib.rt:182:9
 same-length-2 : tie.Need-same-length-2
 same-length-2 c = search needs
 
--- src/lib.rt:182:9
 returns : tie.Need-returns
 returns c = (c .before .before .before .before .before .store-check .ensures .0 ∙ sym (check-is _ _ _ _ ∙ orElse-stop _ _ (λ e. c .if1 .taken (c .before .before .before .before .before .store-check .ensures .0 ∙ e))), λ z. absurd (c .if1 .taken z))
 
--- src/lib.rt:184:9
 find-domain-requires : tie.Need-find-domain-requires
 find-domain-requires c κs =
     let a = c .before .before .before .before .before .before .before .before .before .before .before .before .args in
@@ -47,36 +35,29 @@ find-domain-requires c κs =
     let f = shape-facts _ _ _ (store-shape _ _ _ pass) in
     (omega arith, check-rule (a .memory) (a .bodies) (a .table .now) pass .live)
 
--- src/lib.rt:186:9
 same-length-3 : tie.Need-same-length-3
 same-length-3 c = search needs
 
--- src/lib.rt:186:9
 same-length-4 : tie.Need-same-length-4
 same-length-4 c = search needs
 
--- src/lib.rt:186:9
 returns-2 : tie.Need-returns-2
 returns-2 c =
     let a = c .before .before .before .before .before .before .before .before .before .before .before .before .before .before .args in
     let d : depthNamed (a .table .now) (a .handle) ≤ 0 = omega (arith, c .before .find-domain .ensures, c .if2 .taken) in
     (sym (check-is _ _ _ _ ∙ orElse-go _ _ (sym (c .before .before .before .before .before .before .before .store-check .ensures .0) ∙ c .before .before .if1 .left) ∙ ask-stop _ 5 _ (le-ltb 0 _ d)), λ z. absurd (omega (arith, z)))
 
--- src/lib.rt:188:17
 shared-slice-read-if3 : tie.Need-shared-slice-read-if3
 shared-slice-read-if3 c =
     let f = shape-facts _ _ _ (store-shape _ _ _ (sym (c .before .before .before .before .before .before .before .before .store-check .ensures .0) ∙ c .before .before .before .if1 .left)) in
     omega arith
 
--- src/lib.rt:189:9
 same-length-5 : tie.Need-same-length-5
 same-length-5 c = search needs
 
--- src/lib.rt:189:9
 same-length-6 : tie.Need-same-length-6
 same-length-6 c = search needs
 
--- src/lib.rt:189:9
 returns-3 : tie.Need-returns-3
 returns-3 c =
     let a = c .before .before .before .before .before .before .before .before .before .before .before .before .before .before .before .before .args in
@@ -86,15 +67,12 @@ returns-3 c =
       λ z. absurd (omega (arith, z)),
     )
 
--- src/lib.rt:191:26
 slots-of-requires : tie.Need-slots-of-requires
 slots-of-requires c κs = search needs
 
--- src/lib.rt:191:49
 cells-of-requires : tie.Need-cells-of-requires
 cells-of-requires c κs = search needs
 
--- src/lib.rt:191:5
 entries-check-requires : tie.Need-entries-check-requires
 entries-check-requires c κs =
     let a = c .before .before .before .before .before .before .before .before .before .before .before .before .before .before .before .before .before .before .before .before .args in
@@ -110,19 +88,15 @@ entries-check-requires c κs =
       ((λ i l. rw s (fit i (omega (arith, q, l)))), omega (arith, s, c .before .before .before .before .before .before .before .before .before .before .before .before .before .before .before .before .before .before .before .before .pre .1), c .before .before .before .before .before .before .before .before .before .before .before .before .before .before .before .before .before .before .before .before .pre .1 .2),
     )
 
--- src/lib.rt:166:1
 same-length-7 : tie.Need-same-length-7
 same-length-7 c = search needs
 
--- src/lib.rt:166:1
 same-length-8 : tie.Need-same-length-8
 same-length-8 c = search needs
 
--- src/lib.rt:166:1
 same-length-9 : tie.Need-same-length-9
 same-length-9 c = search needs
 
--- src/lib.rt:166:1
 returns-4 : tie.Need-returns-4
 returns-4 c =
     let a = c .before .before .before .before .before .before .before .before .before .before .before .before .before .before .before .before .before .before .before .before .before .before .before .args in

@@ -1,51 +1,36 @@
+-- `advance::advance_few` meets its contract. Assumes nothing.
 use mathlib.Core.Path.{_≡_, ap, _∙_}
 use native.Mathlib.Omega.{arith}
+use borrow.Author.Needs.{needs}
 use lib.ListN.{length}
 use Rattle.table.proofs.Marks.{zeros-length, blank-zeros}
-use borrow.Author.Needs.{needs}
 use Rattle.advance.proofs.advance_few.Statement.{statement}
 use Rattle.advance.proofs.advance_few.Tie as tie
-use Rattle.advance.proofs.advance_few.Reads as reads
-use Rattle.advance.proofs.advance_few.Lts as lts
-use Rattle.advance.proofs.advance_marked.Reads as advance-marked-reads
-use Rattle.advance.proofs.few_groups.Reads as few-groups-reads
-use Rattle.advance.proofs.few_places.Reads as few-places-reads
-use Rattle.table.proofs.few_marks.Reads as few-marks-reads
-use Rattle.table.proofs.no_bodies.Reads as no-bodies-reads
 
--- src/lib.rt:450:20
 few-marks-requires : tie.Need-few-marks-requires
 few-marks-requires c κs = search needs
 
--- src/lib.rt:451:20
 no-bodies-requires : tie.Need-no-bodies-requires
 no-bodies-requires c κs = search needs
 
--- src/lib.rt:452:22
 few-groups-requires : tie.Need-few-groups-requires
 few-groups-requires c κs = search needs
 
--- src/lib.rt:453:22
 few-places-requires : tie.Need-few-places-requires
 few-places-requires c κs = search needs
 
--- src/lib.rt:459:9
 slice-aggregate-advance-marked : tie.Need-slice-aggregate-advance-marked
 slice-aggregate-advance-marked c = search needs
 
--- src/lib.rt:460:9
 slice-aggregate-advance-marked-2 : tie.Need-slice-aggregate-advance-marked-2
 slice-aggregate-advance-marked-2 c = search needs
 
--- src/lib.rt:461:9
 slice-aggregate-advance-marked-3 : tie.Need-slice-aggregate-advance-marked-3
 slice-aggregate-advance-marked-3 c = search needs
 
--- src/lib.rt:462:9
 slice-aggregate-advance-marked-4 : tie.Need-slice-aggregate-advance-marked-4
 slice-aggregate-advance-marked-4 c = search needs
 
--- src/lib.rt:454:5
 advance-marked-requires : tie.Need-advance-marked-requires
 advance-marked-requires c κs =
     let s : length (c .before .before .before .before .before .before .before .before .before .few-marks .result) ≡ 1024 = ap length (c .before .before .before .before .before .before .before .before .before .few-marks .ensures) ∙ zeros-length 1024 in
@@ -56,15 +41,12 @@ advance-marked-requires c κs =
       (rw (c .before .before .before .before .before .before .before .before .before .few-marks .ensures) (blank-zeros 1024), rw (c .before .before .before .before .before .before .before .before .no-bodies .ensures) (blank-zeros 4096), rw (c .before .before .before .before .before .before .before .few-groups .ensures) (blank-zeros 16)),
     )
 
--- src/lib.rt:444:1
 same-length : tie.Need-same-length
 same-length c = search needs
 
--- src/lib.rt:444:1
 same-length-2 : tie.Need-same-length-2
 same-length-2 c = search needs
 
--- src/lib.rt:444:1
 returns : tie.Need-returns
 returns c = search needs
 

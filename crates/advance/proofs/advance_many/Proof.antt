@@ -1,51 +1,36 @@
+-- `advance::advance_many` meets its contract. Assumes nothing.
 use mathlib.Core.Path.{_≡_, ap, _∙_}
 use native.Mathlib.Omega.{arith}
+use borrow.Author.Needs.{needs}
 use lib.ListN.{length}
 use Rattle.table.proofs.Marks.{zeros-length, blank-zeros}
-use borrow.Author.Needs.{needs}
 use Rattle.advance.proofs.advance_many.Statement.{statement}
 use Rattle.advance.proofs.advance_many.Tie as tie
-use Rattle.advance.proofs.advance_many.Reads as reads
-use Rattle.advance.proofs.advance_many.Lts as lts
-use Rattle.advance.proofs.advance_marked.Reads as advance-marked-reads
-use Rattle.advance.proofs.many_groups.Reads as many-groups-reads
-use Rattle.advance.proofs.many_places.Reads as many-places-reads
-use Rattle.table.proofs.many_marks.Reads as many-marks-reads
-use Rattle.table.proofs.no_bodies.Reads as no-bodies-reads
 
--- src/lib.rt:473:20
 many-marks-requires : tie.Need-many-marks-requires
 many-marks-requires c κs = search needs
 
--- src/lib.rt:474:20
 no-bodies-requires : tie.Need-no-bodies-requires
 no-bodies-requires c κs = search needs
 
--- src/lib.rt:475:22
 many-groups-requires : tie.Need-many-groups-requires
 many-groups-requires c κs = search needs
 
--- src/lib.rt:476:22
 many-places-requires : tie.Need-many-places-requires
 many-places-requires c κs = search needs
 
--- src/lib.rt:482:9
 slice-aggregate-advance-marked : tie.Need-slice-aggregate-advance-marked
 slice-aggregate-advance-marked c = search needs
 
--- src/lib.rt:483:9
 slice-aggregate-advance-marked-2 : tie.Need-slice-aggregate-advance-marked-2
 slice-aggregate-advance-marked-2 c = search needs
 
--- src/lib.rt:484:9
 slice-aggregate-advance-marked-3 : tie.Need-slice-aggregate-advance-marked-3
 slice-aggregate-advance-marked-3 c = search needs
 
--- src/lib.rt:485:9
 slice-aggregate-advance-marked-4 : tie.Need-slice-aggregate-advance-marked-4
 slice-aggregate-advance-marked-4 c = search needs
 
--- src/lib.rt:477:5
 advance-marked-requires : tie.Need-advance-marked-requires
 advance-marked-requires c κs =
     let s : length (c .before .before .before .before .before .before .before .before .before .many-marks .result) ≡ 65536 = ap length (c .before .before .before .before .before .before .before .before .before .many-marks .ensures) ∙ zeros-length 65536 in
@@ -56,15 +41,12 @@ advance-marked-requires c κs =
       (rw (c .before .before .before .before .before .before .before .before .before .many-marks .ensures) (blank-zeros 65536), rw (c .before .before .before .before .before .before .before .before .no-bodies .ensures) (blank-zeros 4096), rw (c .before .before .before .before .before .before .before .many-groups .ensures) (blank-zeros 1024)),
     )
 
--- src/lib.rt:468:1
 same-length : tie.Need-same-length
 same-length c = search needs
 
--- src/lib.rt:468:1
 same-length-2 : tie.Need-same-length-2
 same-length-2 c = search needs
 
--- src/lib.rt:468:1
 returns : tie.Need-returns
 returns c = search needs
 

@@ -1,64 +1,46 @@
-use Prim.Native.Nat.{ℕ, _+_, _-_, _*_, _≤_, _<_}
-use mathlib.Core.Path.{_≡_, refl, sym, ap, _∙_}
+-- `advance::advance_marked` meets its contract. Assumes nothing.
+use Prim.Native.Nat.{_-_}
+use mathlib.Core.Path.{refl, sym, ap, _∙_}
 use mathlib.Core.List.{List}
 use native.Mathlib.Omega.{arith}
-use lib.ListN.{length, getD, take}
+use borrow.Author.Needs.{needs}
+use lib.ListN.{length, take}
 use Rattle.words.specs.Layout.{cellsOf, slotsOf, pairsAt}
-use Rattle.words.specs.Scan.{count}
 use Rattle.words.specs.Stores.{Store, stores}
 use Rattle.words.specs.Journal.{journal, journalSteps}
 use Rattle.words.proofs.Scan.{count-le}
 use Rattle.store.proofs.Checks.{shape-facts, store-shape}
 use Rattle.store.proofs.Raw.{raw-rule}
-use Rattle.advance.specs.Advance.{advances, advanceWords}
+use Rattle.advance.specs.Advance.{advances}
 use Rattle.advance.proofs.Noting.{advances-few, marked-count, marked-listed, room-unmarked, listed-inside, listed-bytes, listed-words, entry-placed}
 use Rattle.advance.proofs.Listing.{plans-length}
 use Rattle.advance.proofs.Advanced.{advance-store, advance-low, advance-room, advance-refused, advance-performed}
-use borrow.Author.Needs.{needs}
 use Rattle.advance.proofs.advance_marked.Statement.{statement}
 use Rattle.advance.proofs.advance_marked.Tie as tie
-use Rattle.advance.proofs.advance_marked.Reads as reads
-use Rattle.advance.proofs.advance_marked.Lts as lts
-use Rattle.advance.proofs.advance_check.Reads as advance-check-reads
-use Rattle.advance.proofs.advance_words.Reads as advance-words-reads
-use Rattle.advance.proofs.copy_listed.Reads as copy-listed-reads
-use Rattle.advance.proofs.last_in_use.Reads as last-in-use-reads
-use Rattle.advance.proofs.list_cells.Reads as list-cells-reads
-use Rattle.store.proofs.answer_of.Reads as answer-of-reads
-use Rattle.words.proofs.layout.slots_of.Reads as slots-of-reads
-use Rattle.words.proofs.remaining.Reads as remaining-reads
 
--- src/lib.rt:404:9
 advance-check-requires : tie.Need-advance-check-requires
 advance-check-requires c κs = ((c .before .before .before .before .before .before .before .before .before .before .before .pre .0 .0, c .before .before .before .before .before .before .before .before .before .before .before .pre .0 .1), (c .before .before .before .before .before .before .before .before .before .before .before .pre .1 .0, c .before .before .before .before .before .before .before .before .before .before .before .pre .1 .1, c .before .before .before .before .before .before .before .before .before .before .before .pre .1 .2, omega (arith, c .before .before .before .before .before .before .before .before .before .before .before .pre .0)))
 
--- src/lib.rt:414:9
 same-length : tie.Need-same-length
 same-length c = search needs
 
--- src/lib.rt:414:9
 same-length-2 : tie.Need-same-length-2
 same-length-2 c = search needs
 
--- src/lib.rt:414:9
 same-length-3 : tie.Need-same-length-3
 same-length-3 c = search needs
 
--- src/lib.rt:414:9
 same-length-4 : tie.Need-same-length-4
 same-length-4 c = search needs
 
--- src/lib.rt:414:9
 returns : tie.Need-returns
 returns c =
     let a = c .before .before .before .before .before .before .before .before .before .before .before .before .before .before .before .before .before .before .before .args in
     advance-refused (a .memory .now) (a .bodies .now) (a .table .now) (a .handle) (a .budget) _ (c .before .before .before .before .before .before .before .advance-check .ensures .0) (c .if1 .taken)
 
--- src/lib.rt:416:9
 slots-of-requires : tie.Need-slots-of-requires
 slots-of-requires c κs = search needs
 
--- src/lib.rt:417:9
 last-in-use-requires : tie.Need-last-in-use-requires
 last-in-use-requires c κs =
     let a = c .before .before .before .before .before .before .before .before .before .before .before .before .before .before .before .before .before .before .before .before .before .args in
@@ -74,7 +56,6 @@ last-in-use-requires c κs =
     let q = c .before .slots-of .ensures in
     rw q (omega arith, omega arith)
 
--- src/lib.rt:418:9
 list-cells-requires : tie.Need-list-cells-requires
 list-cells-requires c κs =
     let a = c .before .before .before .before .before .before .before .before .before .before .before .before .before .before .before .before .before .before .before .before .before .before .before .before .before .args in
@@ -95,7 +76,6 @@ list-cells-requires c κs =
     let s = c .before .before .before .before .before .before .before .before .before .before .before .before .before .advance-check .kept .1 .1 .1 .1 .0 in
     (omega (arith, s, g0, c .before .before .before .before .before .before .before .before .before .before .before .before .before .before .before .before .before .before .before .before .before .before .before .before .before .pre .0), omega (arith, s, c .before .before .before .before .before .before .before .before .before .before .before .before .before .before .before .before .before .before .before .before .before .before .before .before .before .pre .0), omega (arith, number, few, less, c .before .before .before .before .before .before .before .before .before .before .before .before .before .before .before .before .before .before .before .before .before .before .before .before .before .pre .0))
 
--- src/lib.rt:419:9
 copy-listed-requires : tie.Need-copy-listed-requires
 copy-listed-requires c κs =
     let a = c .before .before .before .before .before .before .before .before .before .before .before .before .before .before .before .before .before .before .before .before .before .before .before .before .before .before .before .before .before .before .before .before .before .before .before .args in
@@ -128,11 +108,9 @@ copy-listed-requires c κs =
       λ r l. omega (arith, inside r l, f .memory-exact),
     )
 
--- src/lib.rt:420:72
 remaining-requires : tie.Need-remaining-requires
 remaining-requires c κs = search needs
 
--- src/lib.rt:420:9
 advance-words-requires : tie.Need-advance-words-requires
 advance-words-requires c κs =
     let a = c .before .before .before .before .before .before .before .before .before .before .before .before .before .before .before .before .before .before .before .before .before .before .before .before .before .before .before .before .before .before .before .before .before .before .before .before .before .before .before .before .before .before .before .before .before .args in
@@ -163,7 +141,6 @@ advance-words-requires c κs =
           (omega (arith, s, s0, f .cells-high, c .before .before .before .before .before .before .before .before .before .before .before .before .before .before .before .before .before .before .before .before .before .before .before .before .before .before .before .before .before .before .before .before .before .before .before .before .before .before .before .before .before .before .before .before .before .pre .0)) (omega (arith, g, g0, f .cells-high, c .before .before .before .before .before .before .before .before .before .before .before .before .before .before .before .before .before .before .before .before .before .before .before .before .before .before .before .before .before .before .before .before .before .before .before .before .before .before .before .before .before .before .before .before .before .pre .0)) (omega (arith, p, p2, amount, few, less, c .before .before .before .before .before .before .before .before .before .before .before .before .before .before .before .before .before .before .before .before .before .before .before .before .before .before .before .before .before .before .before .before .before .before .before .before .before .before .before .before .before .before .before .before .before .pre .0)),
     )
 
--- src/lib.rt:421:15
 add-answer-of : tie.Need-add-answer-of
 add-answer-of c =
     let a = c .before .before .before .before .before .before .before .before .before .before .before .before .before .before .before .before .before .before .before .before .before .before .before .before .before .before .before .before .before .before .before .before .before .before .before .before .before .before .before .before .before .before .before .before .before .before .before .before .args in
@@ -185,35 +162,27 @@ add-answer-of c =
     let list = marked-listed (cellsOf (length m)) (slotsOf (length t)) (cellsOf (length b)) t ok _ (told .1) (omega (arith, g0, f .cells-high, c .before .before .before .before .before .before .before .before .before .before .before .before .before .before .before .before .before .before .before .before .before .before .before .before .before .before .before .before .before .before .before .before .before .before .before .before .before .before .before .before .before .before .before .before .before .before .before .before .pre .0)) _ _ _ (c .before .before .before .before .before .before .before .before .before .before .before .before .before .before .before .before .before .before .before .before .before .before .list-cells .ensures .1) in
     omega (arith, c .before .before .before .before .before .before .before .before .before .before .before .before .copy-listed .ensures .0 .0, amount, few, f .slots-high, c .before .before .advance-words .ensures .1)
 
--- src/lib.rt:421:5
 answer-of-requires : tie.Need-answer-of-requires
 answer-of-requires c κs = search needs
 
--- src/lib.rt:387:1
 same-length-5 : tie.Need-same-length-5
 same-length-5 c = search needs
 
--- src/lib.rt:387:1
 same-length-6 : tie.Need-same-length-6
 same-length-6 c = search needs
 
--- src/lib.rt:387:1
 same-length-7 : tie.Need-same-length-7
 same-length-7 c = c .before .before .before .before .before .before .before .before .before .before .before .before .before .before .before .before .before .before .before .before .before .before .before .list-cells .kept .1 .0 ∙ c .before .before .before .before .before .before .before .before .before .before .before .before .before .before .before .before .before .before .before .before .before .before .before .before .before .before .before .before .before .before .before .before .before .before .before .before .before .advance-check .kept .1 .1 .1 .1 .0
 
--- src/lib.rt:387:1
 same-length-8 : tie.Need-same-length-8
 same-length-8 c = c .before .before .before .before .before .before .before .before .before .before .before .before .before .before .before .before .before .before .before .before .before .before .before .before .before .before .before .before .before .before .before .before .before .before .before .before .before .advance-check .kept .1 .1 .1 .1 .1 .0
 
--- src/lib.rt:387:1
 same-length-9 : tie.Need-same-length-9
 same-length-9 c = c .before .before .before .before .before .before .before .before .before .before .before .before .before .before .before .before .before .before .before .before .before .before .before .list-cells .kept .0 ∙ c .before .before .before .before .before .before .before .before .before .before .before .before .before .before .before .before .before .before .before .before .before .before .before .before .before .before .before .before .before .before .before .before .before .before .before .before .before .advance-check .kept .1 .1 .1 .1 .1 .1 .0
 
--- src/lib.rt:387:1
 same-length-10 : tie.Need-same-length-10
 same-length-10 c = search needs
 
--- src/lib.rt:387:1
 returns-2 : tie.Need-returns-2
 returns-2 c =
     let a = c .before .before .before .before .before .before .before .before .before .before .before .before .before .before .before .before .before .before .before .before .before .before .before .before .before .before .before .before .before .before .before .before .before .before .before .before .before .before .before .before .before .before .before .before .before .before .before .before .before .args in

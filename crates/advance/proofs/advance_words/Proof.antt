@@ -1,6 +1,8 @@
+-- `advance::advance_words` meets its contract. Assumes nothing.
 use Prim.Native.Nat.{ℕ, _+_, _*_, _≤_}
 use mathlib.Core.Path.{ap, _∙_}
 use native.Mathlib.Omega.{arith}
+use borrow.Author.Needs.{needs}
 use lib.ListN.{length}
 use Rattle.words.specs.Layout.{pairsAt}
 use Rattle.words.specs.Journal.{journalSteps}
@@ -10,28 +12,18 @@ use Rattle.table.specs.Entry.{live, word1}
 use Rattle.table.specs.Changes.{Change, entryChanges}
 use Rattle.advance.specs.Notes.{noted, noteChange}
 use Rattle.advance.proofs.Noting.{words-below}
-use borrow.Author.Needs.{needs}
 use Rattle.advance.proofs.advance_words.Statement.{statement}
 use Rattle.advance.proofs.advance_words.Tie as tie
-use Rattle.advance.proofs.advance_words.Reads as reads
-use Rattle.advance.proofs.advance_words.Lts as lts
-use Rattle.advance.proofs.write_words.Reads as write-words-reads
-use Rattle.words.proofs.finish_journal.Reads as finish-journal-reads
-use Rattle.words.proofs.layout.pairs_at.Reads as pairs-at-reads
 
--- src/lib.rt:381:16
 slice-read-live : tie.Need-slice-read-live
 slice-read-live c = search needs
 
--- src/lib.rt:382:9
 write-words-requires : tie.Need-write-words-requires
 write-words-requires c κs = search needs
 
--- src/lib.rt:383:27
 pairs-at-requires : tie.Need-pairs-at-requires
 pairs-at-requires c κs = search needs
 
--- src/lib.rt:383:5
 finish-journal-requires : tie.Need-finish-journal-requires
 finish-journal-requires c κs =
     let a = c .before .before .before .before .before .before .before .before .before .before .before .args in
@@ -42,11 +34,9 @@ finish-journal-requires c κs =
     let room : pairsAt e + 2 * length (entryChanges e f) ≤ length t = omega (arith, r .0, r .1, c .before .before .before .before .before .before .before .before .before .before .before .pre .0) in
     (omega (arith, r .1, c .before .before .before .before .before .before .before .before .before .before .before .pre .0), rw (c .pairs-at .ensures) (journal-ready (pairsAt e) (entryChanges e f) t _ (a .budget) (c .before .before .before .before .write-words .result) (r .0) room (r .2) (pendingAt-below e) (words-below e f)))
 
--- src/lib.rt:368:1
 same-length : tie.Need-same-length
 same-length c = search needs
 
--- src/lib.rt:368:1
 returns : tie.Need-returns
 returns c =
     let a = c .before .before .before .before .before .before .before .before .before .before .before .before .before .before .args in

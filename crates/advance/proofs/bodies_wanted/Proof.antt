@@ -1,3 +1,4 @@
+-- `advance::bodies_wanted` meets its contract. The loop's invariant: the two numbers count the copies and the entries that advance among those passed. Assumes nothing.
 use Prim.Native.Nat.{ℕ, _+_, _-_, _≤_}
 use mathlib.Core.Path.{_≡_, refl, ap, _∙_}
 use mathlib.Core.Bool.{not, _&&_}
@@ -13,11 +14,6 @@ use Rattle.advance.specs.Notes.{turns}
 use Rattle.advance.proofs.Noting.{turning-front, copies-front}
 use Rattle.advance.proofs.bodies_wanted.Statement.{statement}
 use Rattle.advance.proofs.bodies_wanted.Tie as tie
-use Rattle.advance.proofs.bodies_wanted.Reads as reads
-use Rattle.advance.proofs.bodies_wanted.Lts as lts
-use Rattle.advance.proofs.turns_word.Reads as turns-word-reads
-use Rattle.table.proofs.first_word.Reads as first-word-reads
-use Rattle.words.proofs.wide.Reads as wide-reads
 
 abbrev Inv-loop : tie.InvT-loop
 Inv-loop table slots top live copies₀ turning₀ i₀ copies turning i = (i ≤ top) × (copies ≡ count i (isCopy slots table)) × (turning ≡ count i (λ k. turns live (word1 slots table k)))
@@ -25,44 +21,34 @@ Inv-loop table slots top live copies₀ turning₀ i₀ copies turning i = (i �
 abbrev μ-loop : tie.MeasureT-loop
 μ-loop table slots top live copies₀ turning₀ i₀ copies turning i = top - i
 
--- src/lib.rt:122:5
 loop-holds : tie.Need-loop-holds Inv-loop μ-loop
 unfolding count
 loop-holds c = (search needs, refl, refl)
 
--- src/lib.rt:123:13
 first-word-requires : tie.Need-first-word-requires Inv-loop μ-loop
 first-word-requires c κs = search needs
 
--- src/lib.rt:124:19
 cast-copies : tie.Need-cast-copies Inv-loop μ-loop
 cast-copies c = search needs
 
--- src/lib.rt:124:9
 add-copies : tie.Need-add-copies Inv-loop μ-loop
 add-copies c = let a = c .before .before .before .before .args in omega (arith, count-le (c .before .before .loop .i) (isCopy (a .slots) (a .table .now)), byte-small (not (eqb (c .first-word .result) 0) && eqb (viaOf (c .first-word .result)) 0))
 
--- src/lib.rt:125:20
 turns-word-requires : tie.Need-turns-word-requires Inv-loop μ-loop
 turns-word-requires c κs = search needs
 
--- src/lib.rt:125:20
 cast-turning : tie.Need-cast-turning Inv-loop μ-loop
 cast-turning c = search needs
 
--- src/lib.rt:125:9
 add-turning : tie.Need-add-turning Inv-loop μ-loop
 add-turning c = let a = c .before .before .before .before .before .args in omega (arith, count-le (c .before .before .before .loop .i) (λ k. turns (a .live) (word1 (a .slots) (a .table .now) k)), byte-small (c .turns-word .result))
 
--- src/lib.rt:126:9
 add-i : tie.Need-add-i Inv-loop μ-loop
 add-i c = search needs
 
--- src/lib.rt:122:5
 loop-less : tie.Need-loop-less Inv-loop μ-loop
 loop-less c = search needs
 
--- src/lib.rt:122:5
 loop-again : tie.Need-loop-again Inv-loop μ-loop
 loop-again c =
     let a = c .before .before .before .before .before .args in
@@ -73,15 +59,12 @@ loop-again c =
       count-byte (λ k. turns (a .live) (word1 (a .slots) (a .table .now) k)) (s .i) (s .turning) (s .inv .2) _ (c .turns-word .ensures ∙ ap (turns (a .live)) word),
     )
 
--- src/lib.rt:128:10
 add-wide : tie.Need-add-wide Inv-loop μ-loop
 add-wide c = let a = c .before .before .before .args in omega (arith, count-le (c .before .loop .i) (isCopy (a .slots) (a .table .now)), count-le (c .before .loop .i) (λ k. turns (a .live) (word1 (a .slots) (a .table .now) k)))
 
--- src/lib.rt:128:5
 wide-requires : tie.Need-wide-requires Inv-loop μ-loop
 wide-requires c κs = search needs
 
--- src/lib.rt:115:1
 returns : tie.Need-returns Inv-loop μ-loop
 returns c =
     let a = c .before .before .before .before .args in

@@ -1,11 +1,12 @@
-use borrow.Author.Needs.{needs}
-use Prim.Native.Nat.{ℕ, _+_, _-_, _*_, _≤_, _<_}
+-- `advance::copy_listed` meets its contract. The loop's invariant: the bytes of the cells passed are stored, cut at the budget; their bodies stand in their places; and as many unmarked bodies are passed as cells. Assumes nothing.
+use Prim.Native.Nat.{ℕ, _+_, _-_, _*_, _≤_}
 use mathlib.Core.List.{List}
-use mathlib.Core.Path.{_≡_, refl, sym, ap, subst, _∙_}
+use mathlib.Core.Path.{_≡_, refl, ap, _∙_}
 use native.Mathlib.Nat.{not-suc-le-zero}
 use native.Mathlib.Omega.{arith}
-use lib.ListN.{length, getD, take, set, length-set}
-use Rattle.words.specs.Layout.{cellAt, cellsOf}
+use borrow.Author.Needs.{needs}
+use lib.ListN.{length, getD, take, length-set}
+use Rattle.words.specs.Layout.{cellsOf}
 use Rattle.words.specs.Scan.{count, nth}
 use Rattle.words.specs.Stores.{Store, store, stores, gather}
 use Rattle.words.specs.Cells.{cellPlan}
@@ -16,12 +17,6 @@ use Rattle.advance.specs.Notes.{unmarked}
 use Rattle.advance.proofs.Listing.{FilledTo, filled-more, plans-length, body-is, body-low, body-passed}
 use Rattle.advance.proofs.copy_listed.Statement.{statement}
 use Rattle.advance.proofs.copy_listed.Tie as tie
-use Rattle.advance.proofs.copy_listed.Reads as reads
-use Rattle.advance.proofs.copy_listed.Lts as lts
-use Rattle.search.proofs.next_free_body.Reads as next-free-body-reads
-use Rattle.words.proofs.copy_cell.Reads as copy-cell-reads
-use Rattle.words.proofs.layout.cells_of.Reads as cells-of-reads
-use Rattle.words.proofs.remaining.Reads as remaining-reads
 
 abbrev Inv-loop : tie.InvT-loop
 Inv-loop memory places₀ n used bodies₀ budget total at₀ r₀ places bodies at r = (r ≤ n) × (at ≤ cellsOf (length bodies₀)) × (count at (unmarked used) ≡ r) × (length places ≡ length places₀) × (length bodies ≡ length bodies₀)
@@ -31,40 +26,31 @@ Inv-loop memory places₀ n used bodies₀ budget total at₀ r₀ places bodies
 abbrev μ-loop : tie.MeasureT-loop
 μ-loop memory places₀ n used bodies₀ budget total at₀ r₀ places bodies at r = n - r
 
--- src/lib.rt:253:9
 cells-of-requires : tie.Need-cells-of-requires Inv-loop μ-loop
 cells-of-requires c κs = search needs
 
--- src/lib.rt:256:5
 loop-holds : tie.Need-loop-holds Inv-loop μ-loop
 unfolding count
 loop-holds c = (search needs, search needs, refl, refl, refl, ((λ k l. absurd (not-suc-le-zero l)), (λ k l. refl)), stores-none (c .before .before .before .before .before .args .budget) (c .before .before .before .before .before .args .bodies .now))
 
--- src/lib.rt:257:13
 next-free-body-requires : tie.Need-next-free-body-requires Inv-loop μ-loop
 next-free-body-requires c κs = (omega (arith, c .before .before .cells-of .ensures, c .before .before .before .before .before .before .before .pre .0), omega (arith, c .before .before .cells-of .ensures, c .before .loop .inv .1))
 
--- src/lib.rt:258:27
 mul-copy-cell : tie.Need-mul-copy-cell Inv-loop μ-loop
 mul-copy-cell c = search needs
 
--- src/lib.rt:258:27
 slice-read-copy-cell : tie.Need-slice-read-copy-cell Inv-loop μ-loop
 slice-read-copy-cell c = search needs
 
--- src/lib.rt:258:27
 cast-copy-cell : tie.Need-cast-copy-cell Inv-loop μ-loop
 cast-copy-cell c = omega (arith, c .slice-known3 .given (c .before .before .before .loop .r))
 
--- src/lib.rt:258:79
 mul-remaining : tie.Need-mul-remaining Inv-loop μ-loop
 mul-remaining c = search needs
 
--- src/lib.rt:258:61
 remaining-requires : tie.Need-remaining-requires Inv-loop μ-loop
 remaining-requires c κs = search needs
 
--- src/lib.rt:258:9
 copy-cell-requires : tie.Need-copy-cell-requires Inv-loop μ-loop
 copy-cell-requires c κs =
     let a = c .before .before .before .before .before .before .before .before .before .before .before .args in
@@ -75,7 +61,6 @@ copy-cell-requires c κs =
     let low = body-low (cellsOf (length (a .bodies .now))) (s .r) (s .at) (a .n) (a .used .now) here (c .before .before .before .before .before .before .before .before .before .before .before .pre .0 .4) (s .inv .1) (s .inv .2) in
     (rw same h, omega (arith, low, (c .before .before .before .next-free-body .ensures ∙ ap (λ (x : ℕ). unmarkedFrom x (a .used .now) (s .at)) (c .before .before .before .before .before .before .cells-of .ensures)), s .inv .4))
 
--- src/lib.rt:259:21
 cast-places : tie.Need-cast-places Inv-loop μ-loop
 cast-places c =
     let a = c .before .before .before .before .before .before .before .before .before .before .before .before .before .before .args in
@@ -83,15 +68,12 @@ cast-places c =
     let low = body-low (cellsOf (length (a .bodies .now))) (s .r) (s .at) (a .n) (a .used .now) (c .before .before .before .before .before .before .before .loop-test .taken) (c .before .before .before .before .before .before .before .before .before .before .before .before .before .before .pre .0 .4) (s .inv .1) (s .inv .2) in
     omega (arith, low, (c .before .before .before .before .before .before .next-free-body .ensures ∙ ap (λ (x : ℕ). unmarkedFrom x (a .used .now) (s .at)) (c .before .before .before .before .before .before .before .before .before .cells-of .ensures)), c .before .before .before .before .before .before .before .before .before .before .before .before .before .before .pre .0 .2, c .before .before .before .before .before .before .before .before .before .before .before .before .before .before .pre .0 .3)
 
--- src/lib.rt:259:9
 mul-places : tie.Need-mul-places Inv-loop μ-loop
 mul-places c = search needs
 
--- src/lib.rt:259:9
 slice-write-places : tie.Need-slice-write-places Inv-loop μ-loop
 slice-write-places c = search needs
 
--- src/lib.rt:260:14
 add-at : tie.Need-add-at Inv-loop μ-loop
 add-at c =
     let a = c .before .before .before .before .before .before .before .before .before .before .before .before .before .before .args in
@@ -99,15 +81,12 @@ add-at c =
     let low = body-low (cellsOf (length (a .bodies .now))) (s .r) (s .at) (a .n) (a .used .now) (c .before .before .before .before .before .before .before .loop-test .taken) (c .before .before .before .before .before .before .before .before .before .before .before .before .before .before .pre .0 .4) (s .inv .1) (s .inv .2) in
     omega (arith, low, (c .before .before .before .before .before .before .next-free-body .ensures ∙ ap (λ (x : ℕ). unmarkedFrom x (a .used .now) (s .at)) (c .before .before .before .before .before .before .before .before .before .cells-of .ensures)), c .before .before .before .before .before .before .before .before .before .before .before .before .before .before .pre .0 .2, c .before .before .before .before .before .before .before .before .before .before .before .before .before .before .pre .0 .3)
 
--- src/lib.rt:261:9
 add-r : tie.Need-add-r Inv-loop μ-loop
 add-r c = search needs
 
--- src/lib.rt:256:5
 loop-less : tie.Need-loop-less Inv-loop μ-loop
 loop-less c = search needs
 
--- src/lib.rt:256:5
 loop-again : tie.Need-loop-again Inv-loop μ-loop
 loop-again c =
     let a = c .before .before .before .before .before .before .before .before .before .before .before .before .before .before .args in
@@ -129,19 +108,15 @@ loop-again c =
       gather-turn plan store (a .budget) (s .r) (64 * s .r) (a .bodies .now) (s .bodies) _ (plans-length (a .memory .now) from (nth b (unmarked u)) (s .r)) (s .inv .6) e₂,
     )
 
--- src/lib.rt:263:5
 mul-result : tie.Need-mul-result Inv-loop μ-loop
 mul-result c = search needs
 
--- src/lib.rt:240:1
 same-length : tie.Need-same-length Inv-loop μ-loop
 same-length c = c .before .loop .inv .3
 
--- src/lib.rt:240:1
 same-length-2 : tie.Need-same-length-2 Inv-loop μ-loop
 same-length-2 c = c .before .loop .inv .4
 
--- src/lib.rt:240:1
 returns : tie.Need-returns Inv-loop μ-loop
 returns c =
     let a = c .before .before .before .before .before .before .before .args in

@@ -1,37 +1,28 @@
-use mathlib.Core.Path.{_≡_, sym, ap, _∙_}
-use mathlib.Core.Bool.{Bool, _||_}
+-- `advance::entries_check` meets its contract. Assumes nothing.
 use Prim.Native.Nat.{ℕ}
+use mathlib.Core.Path.{sym, ap, _∙_}
+use mathlib.Core.Bool.{Bool, _||_}
 use borrow.Author.Tests.{not-true, not-false, le-leb, lt-leb}
-use lib.Dec.{leb}
-use Rattle.store.proofs.Checks.{ask-go, ask-stop}
-use Rattle.table.specs.Entry.{live}
-use Rattle.advance.proofs.Noting.{covers}
 use borrow.Author.Needs.{needs}
+use lib.Dec.{leb}
+use Rattle.table.specs.Entry.{live}
+use Rattle.store.proofs.Checks.{ask-go, ask-stop}
+use Rattle.advance.proofs.Noting.{covers}
 use Rattle.advance.proofs.entries_check.Statement.{statement}
 use Rattle.advance.proofs.entries_check.Tie as tie
-use Rattle.advance.proofs.entries_check.Reads as reads
-use Rattle.advance.proofs.entries_check.Lts as lts
-use Rattle.advance.proofs.bodies_wanted.Reads as bodies-wanted-reads
-use Rattle.advance.proofs.last_in_use.Reads as last-in-use-reads
-use Rattle.advance.proofs.mark_groups.Reads as mark-groups-reads
 
--- src/lib.rt:152:16
 shared-slice-read-live : tie.Need-shared-slice-read-live
 shared-slice-read-live c = search needs
 
--- src/lib.rt:153:9
 last-in-use-requires : tie.Need-last-in-use-requires
 last-in-use-requires c κs = search needs
 
--- src/lib.rt:154:9
 mark-groups-requires : tie.Need-mark-groups-requires
 mark-groups-requires c κs = ((search needs, search needs, c .before .before .before .before .before .before .pre .0 .2, c .before .before .before .before .before .before .pre .0 .3, c .before .last-in-use .ensures .0, c .before .last-in-use .ensures .1), c .before .before .before .before .before .before .pre .1)
 
--- src/lib.rt:156:9
 same-length : tie.Need-same-length
 same-length c = search needs
 
--- src/lib.rt:156:9
 returns : tie.Need-returns
 returns c =
     let a = c .before .before .before .before .before .before .before .before .before .before .args in
@@ -39,15 +30,12 @@ returns c =
     let told = ap (λ (x : Bool). leb n 1 || x) (c .before .before .before .mark-groups .ensures .0) ∙ covers (a .slots) (a .table .now) (a .seen .now) n (c .before .before .before .before .before .before .before .before .before .before .pre .0 .4) in
     (sym (ask-stop _ 15 _ (sym told ∙ not-true _ (c .if1 .taken))), c .before .before .before .mark-groups .ensures .1)
 
--- src/lib.rt:158:17
 bodies-wanted-requires : tie.Need-bodies-wanted-requires
 bodies-wanted-requires c κs = (search needs, search needs, c .before .before .before .before .before .last-in-use .ensures .0, c .before .before .before .before .before .last-in-use .ensures .1)
 
--- src/lib.rt:159:9
 same-length-2 : tie.Need-same-length-2
 same-length-2 c = search needs
 
--- src/lib.rt:159:9
 returns-2 : tie.Need-returns-2
 returns-2 c =
     let a = c .before .before .before .before .before .before .before .before .before .before .before .before .args in
@@ -55,11 +43,9 @@ returns-2 c =
     let told = ap (λ (x : Bool). leb n 1 || x) (c .before .before .before .before .before .mark-groups .ensures .0) ∙ covers (a .slots) (a .table .now) (a .seen .now) n (c .before .before .before .before .before .before .before .before .before .before .before .before .pre .0 .4) in
     (sym (ask-go _ 15 _ (sym told ∙ not-false _ (c .before .before .if1 .left)) ∙ ask-stop _ 17 0 (ap (λ (x : ℕ). leb x (a .bodies)) (sym (c .before .bodies-wanted .ensures)) ∙ lt-leb _ _ (c .if2 .taken))), c .before .before .before .before .before .mark-groups .ensures .1)
 
--- src/lib.rt:140:1
 same-length-3 : tie.Need-same-length-3
 same-length-3 c = search needs
 
--- src/lib.rt:140:1
 returns-3 : tie.Need-returns-3
 returns-3 c =
     let a = c .before .before .before .before .before .before .before .before .before .before .before .before .args in

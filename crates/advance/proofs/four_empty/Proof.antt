@@ -1,59 +1,46 @@
-use Prim.Native.Nat.{ℕ, _+_}
+-- `advance::four_empty` meets its contract. Assumes nothing.
+use Prim.Native.Nat.{_+_}
 use mathlib.Core.Path.{_≡_}
 use native.Mathlib.Omega.{arith}
 use borrow.Author.Tests.{eqb-true}
-use Rattle.words.proofs.Scan.{by-le, and-split}
 use borrow.Author.Needs.{needs}
+use Rattle.words.proofs.Scan.{by-le, and-split}
 use Rattle.advance.proofs.four_empty.Statement.{statement}
 use Rattle.advance.proofs.four_empty.Tie as tie
-use Rattle.advance.proofs.four_empty.Reads as reads
-use Rattle.advance.proofs.four_empty.Lts as lts
 
--- src/lib.rt:235:7
 mul-result : tie.Need-mul-result
 mul-result c = search needs
 
--- src/lib.rt:235:7
 shared-slice-read-result : tie.Need-shared-slice-read-result
 shared-slice-read-result c = search needs
 
--- src/lib.rt:235:33
 add-result : tie.Need-add-result
 add-result c = search needs
 
--- src/lib.rt:235:26
 mul-result-2 : tie.Need-mul-result-2
 mul-result-2 c = search needs
 
--- src/lib.rt:235:26
 shared-slice-read-result-2 : tie.Need-shared-slice-read-result-2
 shared-slice-read-result-2 c = search needs
 
--- src/lib.rt:235:58
 add-result-2 : tie.Need-add-result-2
 add-result-2 c = search needs
 
--- src/lib.rt:235:51
 mul-result-3 : tie.Need-mul-result-3
 mul-result-3 c = search needs
 
--- src/lib.rt:235:51
 shared-slice-read-result-3 : tie.Need-shared-slice-read-result-3
 shared-slice-read-result-3 c = search needs
 
--- src/lib.rt:235:81
 add-result-3 : tie.Need-add-result-3
 add-result-3 c = search needs
 
--- src/lib.rt:235:74
 mul-result-4 : tie.Need-mul-result-4
 mul-result-4 c = search needs
 
--- src/lib.rt:235:74
 shared-slice-read-result-4 : tie.Need-shared-slice-read-result-4
 shared-slice-read-result-4 c = search needs
 
--- src/lib.rt:231:1
 returns : tie.Need-returns
 returns c = λ r.
     let halves = and-split _ _ r in

@@ -1,44 +1,34 @@
-use Prim.Native.Nat.{ℕ, _+_}
+-- `advance::four_free` meets its contract. Assumes nothing.
+use Prim.Native.Nat.{_+_}
 use mathlib.Core.Path.{_≡_, sym, _∙_}
 use native.Mathlib.Omega.{arith}
 use borrow.Author.Tests.{eqb-true}
-use Rattle.words.proofs.Scan.{by-le, and-split}
 use borrow.Author.Needs.{needs}
+use Rattle.words.proofs.Scan.{by-le, and-split}
 use Rattle.advance.proofs.four_free.Statement.{statement}
 use Rattle.advance.proofs.four_free.Tie as tie
-use Rattle.advance.proofs.four_free.Reads as reads
-use Rattle.advance.proofs.four_free.Lts as lts
-use Rattle.table.proofs.first_word.Reads as first-word-reads
 
--- src/lib.rt:55:7
 first-word-requires : tie.Need-first-word-requires
 first-word-requires c κs = search needs
 
--- src/lib.rt:55:69
 add-first-word : tie.Need-add-first-word
 add-first-word c = search needs
 
--- src/lib.rt:55:44
 first-word-requires-2 : tie.Need-first-word-requires-2
 first-word-requires-2 c κs = search needs
 
--- src/lib.rt:56:38
 add-first-word-2 : tie.Need-add-first-word-2
 add-first-word-2 c = search needs
 
--- src/lib.rt:56:13
 first-word-requires-3 : tie.Need-first-word-requires-3
 first-word-requires-3 c κs = search needs
 
--- src/lib.rt:56:79
 add-first-word-3 : tie.Need-add-first-word-3
 add-first-word-3 c = search needs
 
--- src/lib.rt:56:54
 first-word-requires-4 : tie.Need-first-word-requires-4
 first-word-requires-4 c κs = search needs
 
--- src/lib.rt:51:1
 returns : tie.Need-returns
 returns c = λ r.
     let halves = and-split _ _ r in

@@ -1,15 +1,12 @@
-use borrow.Author.Needs.{needs}
-use Prim.Native.Nat.{ℕ, _-_, _≤_, _<_}
-use mathlib.Core.Path.{_≡_}
+-- `advance::last_in_use` meets its contract. The loop's invariant: the entries from the n-th on are free. Assumes nothing.
+use Prim.Native.Nat.{_≤_}
 use native.Mathlib.Omega.{arith}
+use borrow.Author.Needs.{needs}
 use borrow.Author.Tests.{not-false}
 use Rattle.words.proofs.Scan.{by-le}
 use Rattle.advance.specs.Notes.{FreeFrom}
 use Rattle.advance.proofs.last_in_use.Statement.{statement}
 use Rattle.advance.proofs.last_in_use.Tie as tie
-use Rattle.advance.proofs.last_in_use.Reads as reads
-use Rattle.advance.proofs.last_in_use.Lts as lts
-use Rattle.advance.proofs.four_free.Reads as four-free-reads
 
 abbrev Inv-loop : tie.InvT-loop
 Inv-loop table slots n₀ n = (n ≤ slots) × FreeFrom slots table n
@@ -17,23 +14,18 @@ Inv-loop table slots n₀ n = (n ≤ slots) × FreeFrom slots table n
 abbrev μ-loop : tie.MeasureT-loop
 μ-loop table slots n₀ n = n
 
--- src/lib.rt:66:5
 loop-holds : tie.Need-loop-holds Inv-loop μ-loop
 loop-holds c = (search needs, λ i l h. absurd (omega arith))
 
--- src/lib.rt:67:13
 four-free-requires : tie.Need-four-free-requires Inv-loop μ-loop
 four-free-requires c κs = search needs
 
--- src/lib.rt:68:13
 returns : tie.Need-returns Inv-loop μ-loop
 returns c = (c .before .before .before .loop .inv .0, c .before .before .before .loop .inv .1)
 
--- src/lib.rt:66:5
 loop-less : tie.Need-loop-less Inv-loop μ-loop
 loop-less c = search needs
 
--- src/lib.rt:66:5
 loop-again : tie.Need-loop-again Inv-loop μ-loop
 loop-again c =
     let s = c .before .before .before .loop in (
@@ -41,7 +33,6 @@ loop-again c =
       λ i l h. by-le (s .n) i (λ far. s .inv .1 i far h) (λ near. c .before .four-free .ensures (not-false _ (c .if1 .left)) i l (omega arith)),
     )
 
--- src/lib.rt:61:1
 returns-2 : tie.Need-returns-2 Inv-loop μ-loop
 returns-2 c = (c .before .loop .inv .0, c .before .loop .inv .1)
 

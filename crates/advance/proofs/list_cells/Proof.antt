@@ -1,8 +1,9 @@
-use borrow.Author.Needs.{needs}
-use Prim.Native.Nat.{ℕ, _+_, _-_, _*_, _≤_, _<_}
+-- `advance::list_cells` meets its contract. The loop's invariant: the cells of the groups passed are listed, and the groups ahead have their bits still. Assumes nothing.
+use Prim.Native.Nat.{ℕ, _+_, _-_, _*_, _≤_}
 use mathlib.Core.Path.{_≡_, refl, sym, ap, subst, _∙_}
 use native.Mathlib.Nat.{not-suc-le-zero}
 use native.Mathlib.Omega.{arith}
+use borrow.Author.Needs.{needs}
 use lib.ListN.{length, getD, set, length-set}
 use lib.Seq.{getD-set-other}
 use Rattle.words.specs.Scan.{count}
@@ -11,10 +12,6 @@ use Rattle.advance.specs.Notes.{marked, Listed}
 use Rattle.advance.proofs.Listing.{group-count, listed-more, count-empty, listed-empty}
 use Rattle.advance.proofs.list_cells.Statement.{statement}
 use Rattle.advance.proofs.list_cells.Tie as tie
-use Rattle.advance.proofs.list_cells.Reads as reads
-use Rattle.advance.proofs.list_cells.Lts as lts
-use Rattle.advance.proofs.list_group.Reads as list-group-reads
-use Rattle.advance.proofs.past_empty.Reads as past-empty-reads
 
 abbrev Inv-loop : tie.InvT-loop
 Inv-loop groups₀ seen₀ places₀ n₀ g₀ groups seen places n g = (n ≡ count (64 * g) (marked groups₀)) × (length groups ≡ length groups₀) × (length seen ≡ length seen₀) × (length places ≡ length places₀)
@@ -23,11 +20,9 @@ Inv-loop groups₀ seen₀ places₀ n₀ g₀ groups seen places n g = (n ≡ c
 abbrev μ-loop : tie.MeasureT-loop
 μ-loop groups₀ seen₀ places₀ n₀ g₀ groups seen places n g = length groups₀ - g
 
--- src/lib.rt:260:9
 past-empty-requires : tie.Need-past-empty-requires Inv-loop μ-loop
 past-empty-requires c κs = search needs
 
--- src/lib.rt:261:5
 loop-holds : tie.Need-loop-holds Inv-loop μ-loop
 unfolding count
 loop-holds c =
@@ -43,27 +38,21 @@ loop-holds c =
       r .1,
     )
 
--- src/lib.rt:262:21
 mul-group : tie.Need-mul-group Inv-loop μ-loop
 mul-group c = search needs
 
--- src/lib.rt:262:21
 slice-read-group : tie.Need-slice-read-group Inv-loop μ-loop
 slice-read-group c = search needs
 
--- src/lib.rt:263:9
 mul-groups : tie.Need-mul-groups Inv-loop μ-loop
 mul-groups c = search needs
 
--- src/lib.rt:263:9
 slice-write-groups : tie.Need-slice-write-groups Inv-loop μ-loop
 slice-write-groups c = search needs
 
--- src/lib.rt:264:31
 mul-list-group : tie.Need-mul-list-group Inv-loop μ-loop
 mul-list-group c = search needs
 
--- src/lib.rt:264:9
 list-group-requires : tie.Need-list-group-requires Inv-loop μ-loop
 list-group-requires c κs =
     let a = c .before .before .before .before .before .before .before .before .before .before .args in
@@ -73,19 +62,15 @@ list-group-requires c κs =
     let all = group-count (a .groups .now) (s .groups) (s .g) (s .n) (s .inv .4 (s .g) (omega arith)) 64 (omega arith) (s .inv .0) in
     (omega (arith, c .before .before .before .before .before .before .before .before .before .before .pre, s .inv .2), omega (arith, c .before .before .before .before .before .before .before .before .before .before .pre), omega (arith, all, most, c .before .before .before .before .before .before .before .before .before .before .pre .2, s .inv .3))
 
--- src/lib.rt:265:32
 add-past-empty : tie.Need-add-past-empty Inv-loop μ-loop
 add-past-empty c = search needs
 
--- src/lib.rt:265:9
 past-empty-requires-2 : tie.Need-past-empty-requires-2 Inv-loop μ-loop
 past-empty-requires-2 c κs = omega (arith, length-set (c .before .before .before .before .before .before .before .before .before .before .loop .groups) (c .before .before .before .before .before .before .before .before .before .before .loop .g) (c .before .before .before .before .before .before .before .before .before .before .loop .n), c .before .before .before .before .before .before .before .before .before .loop-test .taken)
 
--- src/lib.rt:261:5
 loop-less : tie.Need-loop-less Inv-loop μ-loop
 loop-less c = omega (arith, c .past-empty2 .ensures .0, c .before .before .before .before .before .before .before .before .before .before .loop-test .taken)
 
--- src/lib.rt:261:5
 loop-again : tie.Need-loop-again Inv-loop μ-loop
 loop-again c =
     let a = c .before .before .before .before .before .before .before .before .before .before .before .before .before .before .before .before .before .args in
@@ -109,19 +94,15 @@ loop-again c =
       omega (arith, e .1, long),
     )
 
--- src/lib.rt:255:1
 same-length : tie.Need-same-length Inv-loop μ-loop
 same-length c = c .before .loop .inv .1
 
--- src/lib.rt:255:1
 same-length-2 : tie.Need-same-length-2 Inv-loop μ-loop
 same-length-2 c = c .before .loop .inv .2
 
--- src/lib.rt:255:1
 same-length-3 : tie.Need-same-length-3 Inv-loop μ-loop
 same-length-3 c = c .before .loop .inv .3
 
--- src/lib.rt:255:1
 returns : tie.Need-returns Inv-loop μ-loop
 returns c =
     let a = c .before .before .before .before .before .before .before .args in

@@ -1,26 +1,19 @@
-use lib.ListN.{set}
-use lib.ListN.{length-set}
-use Rattle.words.proofs.Scan.{count-le}
-use Rattle.advance.proofs.Listing.{next-room}
-use borrow.Author.Needs.{needs}
-use Prim.Native.Nat.{ℕ, _+_, _-_, _*_, _/_, _^_, _≤_, _<_}
+-- `advance::list_group` meets its contract. The loop's invariant: the cells of the group below its place `at` are listed, and `left` has the bits from there on. Assumes nothing.
+use Prim.Native.Nat.{ℕ, _+_, _-_, _/_, _^_, _≤_, _<_}
 use mathlib.Core.Bool.{true}
-use mathlib.Core.Path.{_≡_, refl, sym, ap, subst, _∙_}
+use mathlib.Core.Path.{_≡_, refl, sym, ap, _∙_}
 use native.Mathlib.Omega.{arith}
+use borrow.Author.Needs.{needs}
+use lib.ListN.{length-set, length, getD}
 use lib.Count.{trailingZeros}
-use lib.ListN.{length, getD}
 use lib.Seq.{getD-set-other}
+use Rattle.words.proofs.Scan.{count-le, by-le, true≢}
 use Rattle.words.specs.Scan.{count}
-use Rattle.words.proofs.Scan.{by-le, true≢}
-use Rattle.words.proofs.Nth.{count-below}
 use Rattle.search.proofs.From.{count-stop}
+use Rattle.advance.proofs.Listing.{next-room, GroupListed, count-past, next-set, next-low, next-first, next-count, next-left, none-left, group-more}
 use Rattle.advance.specs.Notes.{bit}
-use Rattle.advance.proofs.Listing.{GroupListed, count-past, next-set, next-low, next-first, next-count, next-left, none-left, group-more}
 use Rattle.advance.proofs.list_group.Statement.{statement}
 use Rattle.advance.proofs.list_group.Tie as tie
-use Rattle.advance.proofs.list_group.Reads as reads
-use Rattle.advance.proofs.list_group.Lts as lts
-use Rattle.words.proofs.wide.Reads as wide-reads
 
 abbrev Inv-loop : tie.InvT-loop
 Inv-loop group base seen₀ places₀ first left₀ at₀ n₀ seen places left at n = (at ≤ 64) × (left ≡ group / 2 ^ at) × (n ≡ first + count at (bit group)) × (length seen ≡ length seen₀) × (length places ≡ length places₀) × GroupListed group base first at seen places × ((k : ℕ) → k < base → getD seen k 0 ≡ getD seen₀ k 0) × ((r : ℕ) → r < first → getD places r 0 ≡ getD places₀ r 0)
@@ -28,72 +21,55 @@ Inv-loop group base seen₀ places₀ first left₀ at₀ n₀ seen places left 
 abbrev μ-loop : tie.MeasureT-loop
 μ-loop group base seen₀ places₀ first left₀ at₀ n₀ seen places left at n = 64 - at
 
--- src/lib.rt:76:5
 loop-holds : tie.Need-loop-holds Inv-loop μ-loop
 unfolding count
 loop-holds c = (search needs, search needs, search needs, refl, refl, λ j l. absurd (omega arith), (λ k l. refl), λ k l. refl)
 
--- src/lib.rt:78:15
 wide-requires : tie.Need-wide-requires Inv-loop μ-loop
 wide-requires c κs = search needs
 
--- src/lib.rt:78:9
 add-at : tie.Need-add-at Inv-loop μ-loop
 add-at c = omega (arith, next-low (c .before .before .before .before .before .args .group) (c .before .before .loop .at) (c .before .before .loop .left) (omega arith) (c .before .before .loop .inv .1) (c .before .loop-test .taken), c .wide .ensures)
 
--- src/lib.rt:79:22
 add-places : tie.Need-add-places Inv-loop μ-loop
 add-places c = omega (arith, next-low (c .before .before .before .before .before .args .group) (c .before .before .loop .at) (c .before .before .loop .left) (omega arith) (c .before .before .loop .inv .1) (c .before .loop-test .taken), c .wide .ensures)
 
--- src/lib.rt:79:21
 cast-places : tie.Need-cast-places Inv-loop μ-loop
 cast-places c = omega (arith, next-low (c .before .before .before .before .before .args .group) (c .before .before .loop .at) (c .before .before .loop .left) (omega arith) (c .before .before .loop .inv .1) (c .before .loop-test .taken), c .wide .ensures)
 
--- src/lib.rt:79:9
 mul-places : tie.Need-mul-places Inv-loop μ-loop
 mul-places c = omega (arith, next-room (c .before .before .before .before .before .args .group) (c .before .before .loop .at) (c .before .before .loop .left) (omega arith) (c .before .before .loop .inv .1) (c .before .loop-test .taken))
 
--- src/lib.rt:79:9
 slice-write-places : tie.Need-slice-write-places Inv-loop μ-loop
 slice-write-places c = omega (arith, next-room (c .before .before .before .before .before .args .group) (c .before .before .loop .at) (c .before .before .loop .left) (omega arith) (c .before .before .loop .inv .1) (c .before .loop-test .taken))
 
--- src/lib.rt:80:28
 sub-seen : tie.Need-sub-seen Inv-loop μ-loop
 sub-seen c = omega arith
 
--- src/lib.rt:80:27
 cast-seen : tie.Need-cast-seen Inv-loop μ-loop
 cast-seen c = omega (arith, count-le (c .before .before .loop .at) (bit (c .before .before .before .before .before .args .group)))
 
--- src/lib.rt:80:14
 add-seen : tie.Need-add-seen Inv-loop μ-loop
 add-seen c = omega (arith, next-low (c .before .before .before .before .before .args .group) (c .before .before .loop .at) (c .before .before .loop .left) (omega arith) (c .before .before .loop .inv .1) (c .before .loop-test .taken), c .wide .ensures)
 
--- src/lib.rt:80:9
 slice-write-seen : tie.Need-slice-write-seen Inv-loop μ-loop
 slice-write-seen c = omega (arith, next-low (c .before .before .before .before .before .args .group) (c .before .before .loop .at) (c .before .before .loop .left) (omega arith) (c .before .before .loop .inv .1) (c .before .loop-test .taken), c .wide .ensures)
 
--- src/lib.rt:81:9
 add-n : tie.Need-add-n Inv-loop μ-loop
 add-n c = omega (arith, next-room (c .before .before .before .before .before .args .group) (c .before .before .loop .at) (c .before .before .loop .left) (omega arith) (c .before .before .loop .inv .1) (c .before .loop-test .taken))
 
--- src/lib.rt:82:9
 add-at-2 : tie.Need-add-at-2 Inv-loop μ-loop
 add-at-2 c = omega (arith, next-low (c .before .before .before .before .before .args .group) (c .before .before .loop .at) (c .before .before .loop .left) (omega arith) (c .before .before .loop .inv .1) (c .before .loop-test .taken), c .wide .ensures)
 
--- src/lib.rt:83:25
 cast-left : tie.Need-cast-left Inv-loop μ-loop
 cast-left c = omega (arith, next-low (c .before .before .before .before .before .args .group) (c .before .before .loop .at) (c .before .before .loop .left) (omega arith) (c .before .before .loop .inv .1) (c .before .loop-test .taken), c .wide .ensures)
 
--- src/lib.rt:83:17
 shr-left : tie.Need-shr-left Inv-loop μ-loop
 shr-left c = omega (arith, next-low (c .before .before .before .before .before .args .group) (c .before .before .loop .at) (c .before .before .loop .left) (omega arith) (c .before .before .loop .inv .1) (c .before .loop-test .taken), c .wide .ensures)
 
--- src/lib.rt:76:5
 loop-less : tie.Need-loop-less Inv-loop μ-loop
 loop-less c = omega (arith, next-low (c .before .before .before .before .before .args .group) (c .before .before .loop .at) (c .before .before .loop .left) (omega arith) (c .before .before .loop .inv .1) (c .before .loop-test .taken), c .wide .ensures)
 
--- src/lib.rt:76:5
 loop-again : tie.Need-loop-again Inv-loop μ-loop
 loop-again c =
     let a = c .before .before .before .before .before .args in
@@ -118,15 +94,12 @@ loop-again c =
       (λ r l. getD-set-other (s .places) (s .n) r (a .base + p) 0 (λ q. omega arith) ∙ s .inv .7 r l),
     )
 
--- src/lib.rt:61:1
 same-length : tie.Need-same-length Inv-loop μ-loop
 same-length c = c .before .loop .inv .3
 
--- src/lib.rt:61:1
 same-length-2 : tie.Need-same-length-2 Inv-loop μ-loop
 same-length-2 c = c .before .loop .inv .4
 
--- src/lib.rt:61:1
 returns : tie.Need-returns Inv-loop μ-loop
 returns c =
     let a = c .before .before .before .before .args in

@@ -1,8 +1,9 @@
-use borrow.Author.Needs.{needs}
+-- `advance::mark_groups` meets its contract. The loop's invariant: the bits set are those of the entries passed that advance, and `good` tells whether the parent holds their cells. Assumes nothing.
 use Prim.Native.Nat.{ℕ, _+_, _-_, _≤_}
 use mathlib.Core.Bool.{Bool, not, _&&_, _||_}
 use mathlib.Core.Path.{_≡_, refl, ap, sym, subst, _∙_}
 use native.Mathlib.Omega.{arith}
+use borrow.Author.Needs.{needs}
 use lib.ListN.{length, getD}
 use Rattle.words.specs.Scan.{all}
 use Rattle.words.proofs.Scan.{all-next}
@@ -13,13 +14,6 @@ use Rattle.advance.proofs.Bits.{turned-none, turned-more}
 use Rattle.advance.proofs.Noting.{covered-front, turned-front}
 use Rattle.advance.proofs.mark_groups.Statement.{statement}
 use Rattle.advance.proofs.mark_groups.Tie as tie
-use Rattle.advance.proofs.mark_groups.Reads as reads
-use Rattle.advance.proofs.mark_groups.Lts as lts
-use Rattle.advance.proofs.mark_turning.Reads as mark-turning-reads
-use Rattle.advance.proofs.turns_word.Reads as turns-word-reads
-use Rattle.table.proofs.first_word.Reads as first-word-reads
-use Rattle.table.proofs.has_depth.Reads as has-depth-reads
-use Rattle.words.proofs.wide.Reads as wide-reads
 
 abbrev Inv-loop : tie.InvT-loop
 Inv-loop table slots top live seen groups₀ good₀ i₀ groups good i = (i ≤ top) × (length groups ≡ length groups₀) × Turned slots table live i groups
@@ -28,50 +22,39 @@ Inv-loop table slots top live seen groups₀ good₀ i₀ groups good i = (i ≤
 abbrev μ-loop : tie.MeasureT-loop
 μ-loop table slots top live seen groups₀ good₀ i₀ groups good i = top - i
 
--- src/lib.rt:128:5
 loop-holds : tie.Need-loop-holds Inv-loop μ-loop
 unfolding all
 loop-holds c = (search needs, search needs, turned-none (c .before .before .before .args .slots) (c .before .before .before .args .table .now) (c .before .before .before .args .live) (c .before .before .before .args .groups .now) (c .before .before .before .pre .1 .2), refl)
 
--- src/lib.rt:129:13
 first-word-requires : tie.Need-first-word-requires Inv-loop μ-loop
 first-word-requires c κs = search needs
 
--- src/lib.rt:130:35
 wide-requires : tie.Need-wide-requires Inv-loop μ-loop
 wide-requires c κs = search needs
 
--- src/lib.rt:130:30
 shared-slice-read-has-depth : tie.Need-shared-slice-read-has-depth Inv-loop μ-loop
 shared-slice-read-has-depth c = let h = c .before .before .before .before .before .before .before .before .pre .1 .0 (c .before .before .before .before .loop .i) (omega (arith, c .before .before .before .before .before .before .before .before .pre .0)) in omega (arith, h, c .before .wide .ensures, ap cellOf (c .before .before .first-word .ensures))
 
--- src/lib.rt:130:56
 sub-has-depth : tie.Need-sub-has-depth Inv-loop μ-loop
 sub-has-depth c = search needs
 
--- src/lib.rt:130:13
 has-depth-requires : tie.Need-has-depth-requires Inv-loop μ-loop
 has-depth-requires c κs = search needs
 
--- src/lib.rt:131:25
 turns-word-requires : tie.Need-turns-word-requires Inv-loop μ-loop
 turns-word-requires c κs = search needs
 
--- src/lib.rt:132:9
 mark-turning-requires : tie.Need-mark-turning-requires Inv-loop μ-loop
 mark-turning-requires c κs =
     let h = c .before .before .before .before .before .before .before .before .before .before .before .pre .1 .0 (c .before .before .before .before .before .before .before .loop .i) (omega (arith, c .before .before .before .before .before .before .before .before .before .before .before .pre .0)) in
     omega (arith, h, ap cellOf (c .before .before .before .before .before .first-word .ensures), c .before .before .before .before .before .before .before .loop .inv .1, c .before .before .before .before .before .before .before .before .before .before .before .pre .1 .1)
 
--- src/lib.rt:133:9
 add-i : tie.Need-add-i Inv-loop μ-loop
 add-i c = search needs
 
--- src/lib.rt:128:5
 loop-less : tie.Need-loop-less Inv-loop μ-loop
 loop-less c = search needs
 
--- src/lib.rt:128:5
 loop-again : tie.Need-loop-again Inv-loop μ-loop
 loop-again c =
     let a = c .before .before .before .before .before .before .before .before .before .before .before .before .before .before .args in
@@ -89,11 +72,9 @@ loop-again c =
       (λ j. s .inv .3 j && now j) ∙ all-next (s .i) (λ k. at (word1 (a .slots) (a .table .now) k)),
     )
 
--- src/lib.rt:113:1
 same-length : tie.Need-same-length Inv-loop μ-loop
 same-length c = c .before .loop .inv .1
 
--- src/lib.rt:113:1
 returns : tie.Need-returns Inv-loop μ-loop
 returns c =
     let a = c .before .before .before .before .before .args in

@@ -1,62 +1,48 @@
-use mir.Val.{boolByte}
-use Prim.Native.Nat.{ℕ, _+_, _*_, _/_, _%_, _^_, _<_}
+-- `advance::mark_turning` meets its contract. Assumes nothing.
+use Prim.Native.Nat.{ℕ, _*_, _/_, _%_, _^_}
 use mathlib.Core.Bool.{Bool, cond}
-use mathlib.Core.Path.{_≡_, sym, ap, _∙_}
+use mathlib.Core.Path.{_≡_, ap, _∙_}
 use native.Mathlib.Omega.{arith}
+use mir.Val.{boolByte}
+use borrow.Author.Needs.{needs}
 use lib.Bits.{bitOr}
 use lib.ListN.{getD, set}
 use Rattle.table.specs.Entry.{cellOf}
 use Rattle.advance.specs.Notes.{turns}
 use Rattle.advance.proofs.Bits.{shifted-bit}
-use borrow.Author.Needs.{needs}
 use Rattle.advance.proofs.mark_turning.Statement.{statement}
 use Rattle.advance.proofs.mark_turning.Tie as tie
-use Rattle.advance.proofs.mark_turning.Reads as reads
-use Rattle.advance.proofs.mark_turning.Lts as lts
-use Rattle.advance.proofs.turns_word.Reads as turns-word-reads
-use Rattle.words.proofs.wide.Reads as wide-reads
 
--- src/lib.rt:154:9
 wide-requires : tie.Need-wide-requires
 wide-requires c κs = search needs
 
--- src/lib.rt:155:17
 turns-word-requires : tie.Need-turns-word-requires
 turns-word-requires c κs = search needs
 
--- src/lib.rt:155:17
 cast-turns : tie.Need-cast-turns
 cast-turns c = search needs
 
--- src/lib.rt:156:25
 mul-groups : tie.Need-mul-groups
 mul-groups c = search needs
 
--- src/lib.rt:156:25
 slice-read-groups : tie.Need-slice-read-groups
 slice-read-groups c = search needs
 
--- src/lib.rt:156:56
 cast-groups : tie.Need-cast-groups
 cast-groups c = search needs
 
--- src/lib.rt:156:46
 shl-groups : tie.Need-shl-groups
 shl-groups c = search needs
 
--- src/lib.rt:156:5
 mul-groups-2 : tie.Need-mul-groups-2
 mul-groups-2 c = search needs
 
--- src/lib.rt:156:5
 slice-write-groups : tie.Need-slice-write-groups
 slice-write-groups c = search needs
 
--- src/lib.rt:150:1
 same-length : tie.Need-same-length
 same-length c = search needs
 
--- src/lib.rt:150:1
 returns : tie.Need-returns
 returns c =
     let a = c .before .before .before .before .args in

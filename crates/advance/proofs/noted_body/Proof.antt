@@ -1,45 +1,35 @@
+-- `advance::noted_body` meets its contract. Assumes nothing.
 use Prim.Native.Nat.{_+_, _/_}
-use lib.ListN.{getD}
 use native.Mathlib.Omega.{arith}
 use borrow.Author.Needs.{needs}
+use lib.ListN.{getD}
 use Rattle.advance.proofs.noted_body.Statement.{statement}
 use Rattle.advance.proofs.noted_body.Tie as tie
-use Rattle.advance.proofs.noted_body.Reads as reads
-use Rattle.advance.proofs.noted_body.Lts as lts
 
--- src/lib.rt:160:17
 mul-place : tie.Need-mul-place
 mul-place c = search needs
 
--- src/lib.rt:160:17
 shared-slice-read-place : tie.Need-shared-slice-read-place
 shared-slice-read-place c = search needs
 
--- src/lib.rt:160:46
 shared-slice-read-place-2 : tie.Need-shared-slice-read-place-2
 shared-slice-read-place-2 c = search needs
 
--- src/lib.rt:160:46
 cast-place : tie.Need-cast-place
 cast-place c = search needs
 
--- src/lib.rt:160:17
 add-place : tie.Need-add-place
 add-place c = search needs
 
--- src/lib.rt:161:5
 mul-result : tie.Need-mul-result
 mul-result c = search needs
 
--- src/lib.rt:161:5
 shared-slice-read-result : tie.Need-shared-slice-read-result
 shared-slice-read-result c = search needs
 
--- src/lib.rt:161:5
 cast-result : tie.Need-cast-result
 cast-result c = omega (arith, c .shared-slice-known3 .given (getD (c .before .before .before .args .groups .now) (c .before .before .before .args .cell / 64) 0 + getD (c .before .before .before .args .seen .now) (c .before .before .before .args .cell) 0))
 
--- src/lib.rt:156:1
 returns : tie.Need-returns
 returns c = search needs
 

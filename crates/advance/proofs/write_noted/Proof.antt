@@ -1,38 +1,26 @@
-use Prim.Native.Nat.{ℕ, _+_, _-_, _*_, _≤_}
+-- `advance::write_noted` meets its contract. Assumes nothing.
+use Prim.Native.Nat.{_+_, _-_, _*_}
 use mathlib.Core.Path.{_≡_, sym, ap, subst, _∙_}
 use mathlib.Core.Bool.{true, false}
 use native.Mathlib.Omega.{arith}
 use borrow.Author.Tests.{not-true, not-false}
+use borrow.Author.Needs.{needs}
 use Rattle.words.specs.Layout.{pairsAt}
 use Rattle.table.specs.Entry.{word1, cellOf}
 use Rattle.advance.specs.Notes.{turns, noted, Placed}
 use Rattle.advance.proofs.Noting.{entry-stays, entry-turns}
-use borrow.Author.Needs.{needs}
 use Rattle.advance.proofs.write_noted.Statement.{statement}
 use Rattle.advance.proofs.write_noted.Tie as tie
-use Rattle.advance.proofs.write_noted.Reads as reads
-use Rattle.advance.proofs.write_noted.Lts as lts
-use Rattle.advance.proofs.noted_body.Reads as noted-body-reads
-use Rattle.advance.proofs.turns_word.Reads as turns-word-reads
-use Rattle.table.proofs.first_word.Reads as first-word-reads
-use Rattle.table.proofs.write_entry.Reads as write-entry-reads
-use Rattle.words.proofs.layout.pairs_at.Reads as pairs-at-reads
-use Rattle.words.proofs.remaining.Reads as remaining-reads
-use Rattle.words.proofs.wide.Reads as wide-reads
 
--- src/lib.rt:181:9
 first-word-requires : tie.Need-first-word-requires
 first-word-requires c κs = search needs
 
--- src/lib.rt:182:9
 turns-word-requires : tie.Need-turns-word-requires
 turns-word-requires c κs = search needs
 
--- src/lib.rt:183:9
 same-length : tie.Need-same-length
 same-length c = search needs
 
--- src/lib.rt:183:9
 returns : tie.Need-returns
 returns c =
     let a = c .before .before .before .before .before .before .before .before .args in
@@ -40,11 +28,9 @@ returns c =
     let n : turns (a .live) w ≡ false = ap (turns (a .live)) (sym (c .before .before .first-word .ensures)) ∙ sym (c .before .turns-word .ensures) ∙ not-true _ (c .if1 .taken) in
     entry-stays (a .slots) (a .i) (a .live) (pairsAt (a .slots) + 2 * a .p) (a .budget - 2 * a .p) (noted (a .groups .now) (a .seen .now) (a .places .now)) (a .table .now) w n
 
--- src/lib.rt:185:49
 wide-requires : tie.Need-wide-requires
 wide-requires c κs = search needs
 
--- src/lib.rt:185:9
 noted-body-requires : tie.Need-noted-body-requires
 noted-body-requires c κs =
     let a = c .before .before .before .before .before .before .before .before .before .args in
@@ -54,43 +40,33 @@ noted-body-requires c κs =
     let h = subst (Placed (a .groups .now) (a .seen .now) (a .places .now)) at (c .before .before .before .before .before .before .before .before .before .pre .1 y) in
     (h .group, h .cell, h .place)
 
--- src/lib.rt:186:23
 mul-copy : tie.Need-mul-copy
 mul-copy c = search needs
 
--- src/lib.rt:186:16
 sub-copy : tie.Need-sub-copy
 sub-copy c = search needs
 
--- src/lib.rt:190:9
 pairs-at-requires : tie.Need-pairs-at-requires
 pairs-at-requires c κs = search needs
 
--- src/lib.rt:190:27
 mul-write-entry : tie.Need-mul-write-entry
 mul-write-entry c = search needs
 
--- src/lib.rt:190:9
 add-write-entry : tie.Need-add-write-entry
 add-write-entry c = search needs
 
--- src/lib.rt:194:27
 mul-remaining : tie.Need-mul-remaining
 mul-remaining c = search needs
 
--- src/lib.rt:194:9
 remaining-requires : tie.Need-remaining-requires
 remaining-requires c κs = search needs
 
--- src/lib.rt:187:5
 write-entry-requires : tie.Need-write-entry-requires
 write-entry-requires c κs = (search needs, search needs, omega (arith, c .before .before .before .before .before .before .before .before .before .before .before .before .before .pre .0, c .before .pairs-at .ensures))
 
--- src/lib.rt:166:1
 same-length-2 : tie.Need-same-length-2
 same-length-2 c = search needs
 
--- src/lib.rt:166:1
 returns-2 : tie.Need-returns-2
 returns-2 c =
     let a = c .before .before .before .before .before .before .before .before .before .before .before .before .before .before .before .before .args in

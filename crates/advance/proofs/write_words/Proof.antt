@@ -1,3 +1,4 @@
+-- `advance::write_words` meets its contract. The loop's invariant: the table is that which the pairs of the entries passed leave, cut at the budget, and `p` is their number. Assumes nothing.
 use Prim.Native.Nat.{ℕ, _+_, _-_, _*_, _≤_}
 use mathlib.Core.Path.{_≡_, refl, ap, _∙_}
 use mathlib.Core.List.{List, []}
@@ -15,9 +16,6 @@ use Rattle.advance.specs.Notes.{noted, noteChange}
 use Rattle.advance.proofs.Noting.{changes-front}
 use Rattle.advance.proofs.write_words.Statement.{statement}
 use Rattle.advance.proofs.write_words.Tie as tie
-use Rattle.advance.proofs.write_words.Reads as reads
-use Rattle.advance.proofs.write_words.Lts as lts
-use Rattle.advance.proofs.write_noted.Reads as write-noted-reads
 
 abbrev Inv-loop : tie.InvT-loop
 Inv-loop table₀ slots top live groups seen places budget p₀ i₀ table p i =
@@ -28,11 +26,9 @@ Inv-loop table₀ slots top live groups seen places budget p₀ i₀ table p i =
 abbrev μ-loop : tie.MeasureT-loop
 μ-loop table₀ slots top live groups seen places budget p₀ i₀ table p i = top - i
 
--- src/lib.rt:360:5
 loop-holds : tie.Need-loop-holds Inv-loop μ-loop
 loop-holds c = (search needs, search needs, refl, refl, stores-none (c .before .before .before .before .args .budget) (c .before .before .before .before .args .table .now))
 
--- src/lib.rt:361:14
 write-noted-requires : tie.Need-write-noted-requires Inv-loop μ-loop
 write-noted-requires c κs =
     let a = c .before .before .before .before .before .before .before .args in
@@ -42,19 +38,15 @@ write-noted-requires c κs =
     getD-written (pairsAt (a .slots)) (a .budget) (firstAt (a .slots) (s .i)) ws (a .table .now) (s .table) (omega arith) (s .inv .4) in
     ((omega arith, c .before .before .before .before .before .before .before .pre .0 .0, s .inv .2 ∙ c .before .before .before .before .before .before .before .pre .0 .1, s .inv .1), rw same (c .before .before .before .before .before .before .before .pre .1 (s .i) (omega arith)))
 
--- src/lib.rt:361:9
 add-p : tie.Need-add-p Inv-loop μ-loop
 add-p c = omega (arith, c .before .before .write-noted .ensures .1)
 
--- src/lib.rt:362:9
 add-i : tie.Need-add-i Inv-loop μ-loop
 add-i c = search needs
 
--- src/lib.rt:360:5
 loop-less : tie.Need-loop-less Inv-loop μ-loop
 loop-less c = search needs
 
--- src/lib.rt:360:5
 loop-again : tie.Need-loop-again Inv-loop μ-loop
 loop-again c =
     let a = c .before .before .before .before .before .before .before .before .before .before .args in
@@ -72,11 +64,9 @@ loop-again c =
       pairs-turn f [] (pairsAt (a .slots)) (a .budget) (s .i) (s .p) (a .table .now) (s .table) _ (s .inv .3) (s .inv .4) e₂,
     )
 
--- src/lib.rt:344:1
 same-length : tie.Need-same-length Inv-loop μ-loop
 same-length c = c .before .loop .inv .2
 
--- src/lib.rt:344:1
 returns : tie.Need-returns Inv-loop μ-loop
 returns c =
     let a = c .before .before .before .before .before .before .args in
