@@ -11,7 +11,7 @@ use Rattle.restore.proofs.restore.Met as restore-proof
 use Rattle.look.proofs.look.Met as look-proof
 use Rattle.look.proofs.look_place.Met as look-place-proof
 use Rattle.look.proofs.look_answer.Met as look-answer-proof
-use Rattle.demands.specs.Demands.{Proved, Demand1, Demand2, Demand3, Counted}
+use Rattle.demands.specs.Demands.{Proved, Demand1, Demand2, Demand3, Counted, Demands}
 use Rattle.demands.proofs.Refused as refused
 use Rattle.demands.proofs.Meant as meant
 use Rattle.demands.proofs.Theorem as theorem
@@ -44,3 +44,12 @@ demand-3 = theorem.demand-3
 -- and what keeps demand 3 from holding of nothing
 pub counted : Counted
 counted = theorem.counted
+
+pub demands : (M : Type 1) → Demands M
+demands M = record {
+  proved = proved M;
+  demand-1 = demand-1;
+  demand-2 = demand-2;
+  demand-3 = demand-3;
+  counted = counted;
+}

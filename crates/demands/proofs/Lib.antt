@@ -7,5 +7,9 @@ pub mod Within
 pub mod Seen
 pub mod Steps
 pub mod Theorem
+pub mod Bounded
+pub mod Ready
+pub mod Reopening
+pub mod Numbers
 pub mod Refused
 pub mod Meant

@@ -1,48 +1,46 @@
 -- Demand 2: what each call leaves to be seen, that every state reached can be opened, and what opening finds after a cut. Assumes nothing.
-use Prim.Native.Nat.{ℕ, zero, suc, _+_, _*_, _≤_, _<_}
-use mathlib.Core.Bool.{Bool, true, false, cond, _&&_, true≢false, false≢true}
-use mathlib.Core.List.{List, [], _∷_}
-use mathlib.Core.Logic.{_⊎_, inl, inr}
-use mathlib.Core.Option.{Option, none, some}
+use Prim.Native.Nat.{ℕ, zero, suc, _+_, _*_, _<_}
+use mathlib.Core.Bool.{Bool, true, false, cond}
+use mathlib.Core.List.{List, map}
+use mathlib.Core.Logic.{inl}
+use mathlib.Core.Option.{some}
 use mathlib.Core.Path.{_≡_, refl, sym, ap, subst, _∙_}
 use native.Mathlib.Omega.{arith}
-use borrow.Author.Tests.{ltb-true, lt-ltb, leb-false, eqb-true, eqb-false}
-use lib.Dec.{leb, ltb, eqb}
+use borrow.Author.Tests.{ltb-true, lt-ltb, leb-false}
+use lib.Dec.{leb, ltb}
 use lib.ListN.{length}
 use Rattle.words.specs.Layout.{cellsOf}
-use Rattle.words.specs.Stores.{Store, stores}
 use Rattle.words.specs.Journal.{pending}
-use Rattle.words.proofs.Scan.{by-bool, by-le}
-use Rattle.words.proofs.Plans.{length-stores}
-use Rattle.table.proofs.Checks.{Lengths, lengths-facts}
+use Rattle.words.proofs.Scan.{by-bool}
+use Rattle.table.proofs.Checks.{lengths-facts}
 use Rattle.model.specs.State.{State}
-use Rattle.model.specs.Answer.{Status, isDone, isStopped, isRefused, Report, done, stopped, refused, ended, View, view, stepsOf}
-use Rattle.model.specs.Calls.{Effect, refuse, change, fresh}
+use Rattle.model.specs.Answer.{isDone, isStopped, isRefused, Report, ended, View, stepsOf}
+use Rattle.model.specs.Calls.{Effect, refuse, change, makeSteps, listed}
 use Rattle.model.specs.Restore.{viewedWith}
 use Rattle.model.specs.History.{Request, create, list, add, delete, advance, commit, restore, look}
-use Rattle.model.specs.Session.{Input, make, call, opening, write, effectOf, memoryAfter, memoryAt, viewOf, Mixed}
+use Rattle.model.specs.Session.{make, call, opening, effectOf, memoryAfter, memoryAt, viewOf, Mixed}
 use Rattle.model.proofs.Views.{memory-whole, memory-mixed}
-use Rattle.store.specs.Outcome.{Buffers, buffers, Outcome, outcome}
-use Rattle.store.specs.State.{stateOf, standing}
-use Rattle.store.specs.Calls.{makeCall, openCall}
-use Rattle.store.specs.Means.{seen, orRefused, roomOf}
+use Rattle.store.specs.Outcome.{Buffers, buffers, inTable, perform, Outcome, outcome}
+use Rattle.store.specs.Checks.{makeCheck}
+use Rattle.store.specs.State.{stateOf, standing, slots}
+use Rattle.store.specs.Calls.{makePlan, makeCall, openCall}
+use Rattle.store.specs.Means.{seen, orRefused, listMeans, roomOf}
 use Rattle.store.proofs.Checks.{store-shape, shape-lengths}
-use Rattle.store.proofs.Outcome.{one-store as one-more}
-use Rattle.store.proofs.Means.{seenOf, by-check, make-means, open-means}
-use Rattle.store.proofs.Pending.{pendingAfter, afterPending, leftPending}
-use Rattle.store.proofs.Standing.{stands-for, only-state, is-standing}
+use Rattle.store.proofs.Outcome.{one-store as one-more, table-after}
+use Rattle.store.proofs.Making.{make-none}
+use Rattle.store.proofs.Means.{seenOf, by-check, long, make-means, open-means}
+use Rattle.store.proofs.Pending.{afterPending}
+use Rattle.store.proofs.Standing.{stands-for, only-state}
 use Rattle.look.proofs.Placing.{look-means}
-use Rattle.demands.specs.Session.{callOn, inputOn, buffersAfter}
-use Rattle.demands.specs.Demands.{asked, opens, shows, callView, OneMore, Found, not-made, wholly-made, noMake, madeFrom, MakeDone, Demand2}
-use Rattle.demands.proofs.Shape.{standing-opens}
-use Rattle.demands.proofs.Seen.{call-means, call-refusal}
-use Rattle.demands.proofs.Steps.{pairs-left, call-kept, viewed-stands, open-seen, still-opens, written-standing}
-use Rattle.demands.proofs.Theorem.{Halted, make-stands}
-
-opening-keeps : (k : ℕ) (b : Buffers) → opens b ≡ 0
-    → (standing ((outcome (openCall b) k b) .buffers) ≡ standing b) × ((outcome (openCall b) k b) .buffers .memory ≡ b .memory)
-opening-keeps k b e =
-    let v = open-seen k b e in (ap (λ (v : View). v .state) v ∙ sym (is-standing b e), ap (λ (v : View). v .memory) v)
+use Rattle.demands.specs.Session.{callOn}
+use Rattle.demands.specs.Demands.{asked, opens, shows, callView, OneMore, Found, not-made, wholly-made, lengthsRight, madeFrom, Demand2}
+use Rattle.demands.proofs.Seen.{call-means, call-refusal, call-passed}
+use Rattle.demands.proofs.Steps.{pairs-left, call-kept}
+use Rattle.demands.proofs.Theorem.{Halted}
+use Rattle.demands.proofs.Bounded.{input-bounded}
+use Rattle.demands.proofs.Ready.{done-clears, done-ready, reached}
+use Rattle.demands.proofs.Reopening.{opening-keeps, reopened}
+use Rattle.demands.proofs.Refused.{open-refuses}
 
 exact : (b : Buffers) → asked b ≡ 0 → length (b .memory) ≡ 64 * cellsOf (length (b .memory))
 exact b e =
@@ -58,36 +56,32 @@ call-shows c k b =
     (λ e _. call-means c k b e)
     refl
 
--- ---- every state reached can be opened
+-- ---- a make cut after a store: no store is left
 
-input-opens : (c : Request) (k : ℕ) (b : Buffers) → opens b ≡ 0 → opens ((callOn c k b) .buffers) ≡ 0
-input-opens c k b o =
-    by-check (λ q. asked b ≡ q → opens ((callOn c k b) .buffers) ≡ 0) (asked b)
-    (λ n e _.
-    let same = call-kept c k b (ap (λ (x : Report). x .status) (call-refusal c k n b e)) in
-    subst (λ (x : Buffers). opens x ≡ 0) (sym same) o)
-    (λ e _.
-    let v = viewed-stands (effectOf (roomOf b) (b .memory) c (stateOf b)) k (stateOf b) (b .memory) (memoryAt k c (stateOf b) (b .memory)) in
-    standing-opens ((callOn c k b) .buffers) (v .0) (ap (λ (v : View). v .state) (call-means c k b e) ∙ v .1))
-    refl
+make-performs : (k : ℕ) (b : Buffers) → lengthsRight b ≡ true → outcome (makeCall b) k b
+    ≡ outcome (perform (map (λ x. inTable x) (makePlan (cellsOf (length (b .memory))) (slots b) (cellsOf (length (b .bodies))))) 0) k b
+unfolding makeCall makeCheck
+make-performs k b fit = rw fit
 
-list-opens : (l : List Input) (b : Buffers) → noMake l ≡ true → opens b ≡ 0 → opens (buffersAfter l b) ≡ 0
-list-opens [] b n o = o
-list-opens (make k ∷ is) b n o = absurd (false≢true n)
-list-opens (call c k ∷ is) b n o = list-opens is ((callOn c k b) .buffers) n (input-opens c k b o)
-list-opens (opening k ∷ is) b n o = list-opens is ((outcome (openCall b) k b) .buffers) n (still-opens (cellsOf (length (b .memory))) k b o)
-list-opens (write ws ∷ is) b n o =
-    list-opens is (buffers (stores ws (b .memory)) (b .bodies) (b .table)) n (rw (length-stores ws (b .memory)) o)
+cut-made : (k : ℕ) (b : Buffers) → lengthsRight b ≡ true → 0 < k → k < makeSteps (slots b) → opens (madeFrom b k) ≡ 2
+cut-made k b fit pos less =
+    ap (λ (o : Outcome). opens (o .buffers))
+    (make-performs k b fit ∙ table-after (makePlan (cellsOf (length (b .memory))) (slots b) (cellsOf (length (b .bodies)))) 0 k (b .memory) (b .bodies) (b .table))
+    ∙ make-none (b .memory) (b .bodies) (b .table) fit (long (length (b .memory)) (length (b .bodies)) (b .table) fit) k pos less
 
-reached : (b : Buffers) (k : ℕ) (l : List Input) → MakeDone b k → noMake l ≡ true → opens (buffersAfter l (madeFrom b k)) ≡ 0
-reached b k l e n = list-opens l (madeFrom b k) n (standing-opens (madeFrom b k) fresh (make-stands k b e))
+list-shows : (b : Buffers) → asked b ≡ 0 → listMeans b ≡ listed (stateOf b)
+unfolding listMeans
+list-shows b e = rw e
 
 -- ---- cuts
 
-cut : (c : Request) (k : ℕ) (b : Buffers) → asked b ≡ 0 → (callOn c k b) .report .status ≡ isStopped → Found c b ((callOn c k b) .buffers)
+cut : (c : Request) (k : ℕ) (b : Buffers) → (callOn c k b) .report .status ≡ isStopped → Found c b ((callOn c k b) .buffers)
 unfolding ended
-cut c k b good stop = go (effectOf (roomOf b) (b .memory) c (stateOf b)) refl
+cut c k b stop = go (effectOf (roomOf b) (b .memory) c (stateOf b)) refl
   where
+    good : asked b ≡ 0
+    good = call-passed c k b (λ r. subst Halted (sym stop ∙ r) tt)
+
     left : Buffers
     left = (callOn c k b) .buffers
 
@@ -149,12 +143,19 @@ demand-2 = record {
   open-shows = open-means;
   call-shows = call-shows;
   look-shows = look-means;
+  list-shows = list-shows;
   one-store-make = λ k b. one-more (makeCall b) k b;
   one-store-open = λ k b. one-more (openCall b) k b;
   one-store = one-store;
+  bound = λ i b. input-bounded i b .few;
+  enough = λ i b. input-bounded i b .whole;
+  done-clears = done-clears;
+  done-ready = done-ready;
   stands = stands-for;
   one-state = λ b s e. only-state b e s;
   reached = reached;
+  make-cut = λ k j b fit pos less. open-refuses j 1 (madeFrom b k) (cut-made k b fit pos less);
   cut = cut;
+  reopened = λ c k ks j b. reopened k j ks b c;
   opening-keeps = opening-keeps;
 }

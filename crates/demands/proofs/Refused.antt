@@ -1,27 +1,22 @@
 -- Demand 1: what is refused, by which number, and that a refusal changes nothing. Assumes nothing.
 use Prim.Native.Nat.{ℕ, zero, suc}
-use mathlib.Core.Bool.{Bool, true, false, _&&_, true≢false, false≢true}
-use mathlib.Core.List.{List}
+use mathlib.Core.Bool.{true, false, false≢true}
 use mathlib.Core.Option.{Option, none, some}
 use mathlib.Core.Path.{_≡_, refl, sym, ap, subst, _∙_}
 use borrow.Author.Tests.{ne-eqb, eq-eqb}
-use lib.Dec.{leb, ltb, eqb}
-use lib.ListN.{length}
-use Rattle.words.specs.Layout.{cellsOf}
 use Rattle.words.specs.Journal.{pending}
-use Rattle.model.specs.State.{State}
-use Rattle.model.specs.Answer.{Status, isDone, isStopped, isRefused, Report, done, stopped, refused, ask, View}
-use Rattle.model.specs.Calls.{Effect, refuse, change, orRefuse, listed}
-use Rattle.model.specs.Holdings.{isLive, isInnermost, rangeOk, addChecks, deleteChecks, advanceChecks, commitChecks}
-use Rattle.model.specs.Restore.{viewedWith, restoreChecks, lookChecks}
+use Rattle.model.specs.Answer.{Status, isDone, isStopped, isRefused, Report, refused, View}
+use Rattle.model.specs.Calls.{Effect, refuse, listed}
+use Rattle.model.specs.Holdings.{isLive}
+use Rattle.model.specs.Restore.{viewedWith}
 use Rattle.model.specs.History.{Request, create, list, add, delete, advance, commit, restore, look}
 use Rattle.model.specs.Session.{Input, make, call, opening, write, effectOf, memoryAt, viewOf}
-use Rattle.store.specs.Outcome.{Buffers, Outcome, outcome, leaves, Call, refuse as refusing, perform}
+use Rattle.store.specs.Outcome.{Buffers, Outcome, outcome, leaves}
 use Rattle.store.specs.Checks.{shapeCheck, tableCheck, makeCheck, openCheck, storeCheck}
-use Rattle.store.specs.State.{stateOf, standing}
+use Rattle.store.specs.State.{stateOf}
 use Rattle.store.specs.Calls.{makeCall, openCall}
 use Rattle.store.specs.Means.{makeMeans, listMeans, orListRefused, roomOf}
-use Rattle.store.proofs.Means.{seenOf, by-check, make-means}
+use Rattle.store.proofs.Means.{make-means}
 use Rattle.look.specs.Look.{lookPlace, placeReport}
 use Rattle.look.specs.declared.Place.{Place}
 use Rattle.look.specs.declared.Place.the-variants.{Refused, Memory, Bodies}
@@ -30,6 +25,7 @@ use Rattle.demands.specs.Demands.{lengthsRight, headerRight, tableRight,
 use Rattle.demands.proofs.Shape.{refused-kept, refused-report}
 use Rattle.demands.proofs.Seen.{call-means, call-refusal}
 use Rattle.demands.proofs.Steps.{call-kept, open-refusal}
+use Rattle.demands.proofs.Numbers.{input-numbered}
 
 abbrev Done : Status → Type 0
 Done isDone = Unit {0}
@@ -107,7 +103,7 @@ module _ (b : Buffers) where
   unfolding openCheck shapeCheck tableCheck
   opens-4 e f t = rw (e, f, t)
 
-open-refuses : (k n : ℕ) (b : Buffers) → opens b ≡ suc n → outcome (openCall b) k b ≡ leaves (refused (suc n)) b
+pub open-refuses : (k n : ℕ) (b : Buffers) → opens b ≡ suc n → outcome (openCall b) k b ≡ leaves (refused (suc n)) b
 open-refuses k n b e =
     let r = open-refusal k n b e in
     refused-outcome _ (suc n) b r (refused-kept (openCall b) k b (ap (λ (x : Report). x .status) r))
@@ -164,12 +160,13 @@ wrong-header (write ws) b c e f = absurd (false≢true c)
 
 pub demand-1 : Demand1
 demand-1 = record {
+  numbered = input-numbered;
   kept = input-kept;
   wrong-length = wrong-length;
   wrong-header = wrong-header;
   unopened = λ c k b e f n. call-refuses c k 2 b (asked-3 b e f n);
   wrong-table = λ c k b e f p t. call-refuses c k 3 b (asked-4 b e f p t);
-  wrong-pairs = λ k b e f t. open-refuses k 3 b (opens-4 b e f t);
+  wrong-table-opening = λ k b e f t. open-refuses k 3 b (opens-4 b e f t);
   stale-handle = λ c h k b good e d. state-refuses c k 5 b good (stale c h b e d);
   past-add = λ h first n kind label k b good live inner kinds range. state-refuses (add h first n kind label) k 8 b good (rw (live, inner, kinds, range));
   past-delete = λ h first n k b good live range. state-refuses (delete h first n) k 8 b good (rw (live, range));

@@ -1,29 +1,24 @@
 -- What every call leaves to be seen is one equation with the model's meanings, whatever the call: where questions 1 to 4 are answered yes, the
 -- report, the state and memory are those of `viewOf`; where one is answered no, the call is refused with its number and changes nothing.
 -- Assumes nothing.
-use Prim.Native.Nat.{ℕ, zero, suc, _+_, _*_, _≤_, _<_}
-use mathlib.Core.Bool.{Bool, true, false, cond, _&&_}
+use Prim.Native.Nat.{ℕ, zero, suc}
 use mathlib.Core.List.{List, []}
-use mathlib.Core.Option.{Option, none, some}
-use mathlib.Core.Path.{_≡_, refl, sym, ap, subst, _∙_}
-use native.Mathlib.Omega.{arith}
-use lib.Dec.{leb, ltb, eqb, leb·zero}
+use mathlib.Core.Option.{Option, some}
+use mathlib.Core.Path.{_≡_, refl, sym, ap, _∙_}
+use lib.Dec.{ltb, leb·zero}
 use lib.ListN.{length}
 use Rattle.words.specs.Layout.{cellsOf}
-use Rattle.words.specs.Journal.{pending}
 use Rattle.words.proofs.Scan.{by-bool}
 use Rattle.model.specs.State.{State}
-use Rattle.model.specs.Answer.{Report, done, stopped, refused, ended, ask, View, view, stepsOf}
-use Rattle.model.specs.Calls.{Effect, refuse, change, orRefuse, viewed, listed}
-use Rattle.model.specs.Holdings.{Room}
-use Rattle.model.specs.Restore.{viewedWith, Looked, lookChecks, looked, lookedBy, lookEffect}
+use Rattle.model.specs.Answer.{isRefused, Report, done, refused, ended, View, view}
+use Rattle.model.specs.Calls.{Effect, change, orRefuse}
+use Rattle.model.specs.Restore.{viewedWith, Looked, lookChecks, lookedBy}
 use Rattle.model.specs.History.{Request, create, list, add, delete, advance, commit, restore, look}
-use Rattle.model.specs.Session.{effectOf, memoryAt, viewOf}
+use Rattle.model.specs.Session.{viewOf}
 use Rattle.model.proofs.Views.{viewed-plain}
-use Rattle.store.specs.Outcome.{Buffers, buffers, Outcome, outcome, leaves}
-use Rattle.store.specs.Checks.{storeCheck}
-use Rattle.store.specs.State.{stateOf, standing}
-use Rattle.store.specs.Means.{seen, orRefused, callMeans, listMeans, orListRefused, roomOf}
+use Rattle.store.specs.Outcome.{Buffers, leaves}
+use Rattle.store.specs.State.{stateOf}
+use Rattle.store.specs.Means.{seen, callMeans, listMeans, roomOf}
 use Rattle.store.proofs.Means.{seenOf, by-check, store-standing}
 use Rattle.store.proofs.Created.{create-means}
 use Rattle.add.proofs.Added.{add-means}
@@ -105,3 +100,11 @@ call-refusal (advance h) k n b e = ap (λ (v : View). v .report) (advance-means 
 call-refusal (commit h) k n b e = ap (λ (v : View). v .report) (commit-means h k b ∙ plain-refused _ k n b e)
 call-refusal (restore h) k n b e = ap (λ (v : View). v .report) (restore-means h k b) ∙ rw e
 call-refusal (look h c) k n b e = look-refusal h c n b e
+
+-- so a call that is not refused passed them
+pub call-passed : (c : Request) (k : ℕ) (b : Buffers) → ((callOn c k b) .report .status ≡ isRefused → ⊥) → asked b ≡ 0
+call-passed c k b f =
+    by-check (λ q. asked b ≡ q → asked b ≡ 0) (asked b)
+    (λ n e _. absurd (f (ap (λ (r : Report). r .status) (call-refusal c k n b e))))
+    (λ e _. e)
+    refl

@@ -1,31 +1,31 @@
 -- Each input of a session over buffers is a move of the session over what the buffers stand for: the state that opening finds, memory, and which
 -- opening is due. Assumes nothing.
-use Prim.Native.Nat.{ℕ, zero, suc, _+_, _*_, _≤_, _<_}
+use Prim.Native.Nat.{ℕ, zero, suc, _+_, _*_, _<_}
 use mathlib.Core.Bool.{Bool, true, false, cond, not, _&&_, _||_, true≢false, false≢true}
-use mathlib.Core.List.{List, [], _∷_}
+use mathlib.Core.List.{List}
 use mathlib.Core.Option.{Option, none, some}
 use mathlib.Core.Path.{_≡_, refl, sym, ap, subst, _∙_}
 use native.Mathlib.Omega.{arith}
-use borrow.Author.Tests.{ltb-true, ltb-false, lt-ltb, le-ltb, eqb-true, eqb-false, leb-true, leb-false, le-leb, eq-eqb}
-use lib.Dec.{leb, ltb, eqb, leb·zero, eqb·suc-zero}
-use lib.ListN.{length, take}
-use Rattle.words.specs.Layout.{cellAt, cellsOf, slotsOf}
+use borrow.Author.Tests.{ltb-true, lt-ltb, le-ltb, leb-true, leb-false}
+use lib.Dec.{leb, ltb, leb·zero, eqb·suc-zero}
+use lib.ListN.{length}
+use Rattle.words.specs.Layout.{cellsOf}
 use Rattle.words.specs.Stores.{Store, stores}
 use Rattle.words.specs.Journal.{pending}
 use Rattle.words.proofs.Plans.{length-stores}
-use Rattle.words.proofs.Scan.{by-bool, by-le}
+use Rattle.words.proofs.Scan.{by-bool}
 use Rattle.table.specs.Checks.{lengthsOk}
-use Rattle.table.proofs.Checks.{Lengths, lengths-facts}
+use Rattle.table.proofs.Checks.{lengths-facts}
 use Rattle.model.specs.State.{State}
-use Rattle.model.specs.Answer.{Status, isDone, isStopped, isRefused, Report, done, stopped, refused, ended, ask, View, view, stepsOf}
-use Rattle.model.specs.Calls.{Effect, refuse, change, orRefuse, makeSteps, makeState, makeView, openSteps, openView}
+use Rattle.model.specs.Answer.{isRefused, Report, stopped, refused, ended, View, stepsOf}
+use Rattle.model.specs.Calls.{Effect, refuse, change, orRefuse, makeSteps, makeView, openSteps, openView}
 use Rattle.model.specs.Restore.{viewedWith, lookChecks}
 use Rattle.model.specs.History.{Request, create, list, add, delete, advance, commit, restore, look}
 use Rattle.model.specs.Session.{Input, make, call, opening, write, Due, nothingDue, dropDue, finishDue, World, world, effectOf, memoryAt, viewOf, Move, call-refused, open-refused, written-to}
 use Rattle.model.proofs.Views.{dueAfter, make-moves, open-idle-moves, open-drop-moves, open-finish-moves}
 use Rattle.model.proofs.Idle.{every-view-moves}
-use Rattle.store.specs.Outcome.{Buffers, buffers, Outcome, outcome, leaves, Call, refuse as refusing, unless, perform}
-use Rattle.store.specs.Checks.{makeCheck, openCheck, storeCheck}
+use Rattle.store.specs.Outcome.{Buffers, buffers, Outcome, outcome, leaves, Call, refuse as refusing, perform}
+use Rattle.store.specs.Checks.{makeCheck}
 use Rattle.store.specs.State.{stateOf, standing, slots}
 use Rattle.store.specs.Calls.{makeCall, openCall}
 use Rattle.store.specs.Means.{makeMeans, openMeans, roomOf}
@@ -33,7 +33,7 @@ use Rattle.store.proofs.Means.{seenOf, by-check, make-means, open-means, store-
 use Rattle.store.proofs.Checks.{store-idle}
 use Rattle.store.proofs.Created.{create-pending}
 use Rattle.store.proofs.Standing.{is-standing}
-use Rattle.store.proofs.Pending.{pendingAfter, afterPending, leftPending, make-pending, open-pending-after}
+use Rattle.store.proofs.Pending.{afterPending, leftPending, make-pending, open-pending-after}
 use Rattle.add.proofs.Added.{add-pending}
 use Rattle.delete.proofs.Deleted.{delete-pending}
 use Rattle.advance.proofs.Advanced.{advance-pending}
@@ -200,7 +200,7 @@ unfolding makeMeans
 make-seen k b e = make-means k b ∙ rw e
 
 -- with no step made everything is as it was
-unstepped : (c : Call) (b : Buffers) → (outcome c 0 b) .buffers ≡ b
+pub unstepped : (c : Call) (b : Buffers) → (outcome c 0 b) .buffers ≡ b
 unfolding outcome
 unstepped (refusing n) b = refl
 unstepped (perform plan h) b = refl

@@ -1,44 +1,42 @@
 -- Demand 3 over lent buffers: every session over buffers is a session over what they stand for, so every mismatch count in it is 0; and the laws
 -- against an empty count. Assumes nothing.
-use Prim.Native.Nat.{ℕ, zero, suc, _+_, _*_, _≤_, _<_}
-use mathlib.Core.Bool.{Bool, true, false, cond, not, _&&_, _||_, true≢false, false≢true}
-use mathlib.Core.List.{List, [], _∷_, _++_}
+use Prim.Native.Nat.{ℕ, suc, _+_, _*_}
+use mathlib.Core.Bool.{Bool, true, false, not, _||_}
+use mathlib.Core.List.{List, [], _∷_, _++_, append-assoc, append-nil}
 use mathlib.Core.Option.{Option, none, some}
 use mathlib.Core.Path.{_≡_, refl, sym, ap, subst, _∙_}
 use native.Mathlib.Omega.{arith}
-use borrow.Author.Tests.{leb-true, eq-eqb}
-use lib.Dec.{leb, ltb, eqb, leb·zero, eqb·suc-zero}
+use borrow.Author.Tests.{leb-true}
+use lib.Dec.{leb, leb·zero, eqb·suc-zero}
 use lib.ListN.{length}
 use Rattle.words.specs.Layout.{cellsOf}
 use Rattle.words.specs.Journal.{pending}
 use Rattle.words.proofs.Scan.{by-bool, and-split}
-use Rattle.table.specs.Checks.{lengthsOk}
-use Rattle.table.proofs.Checks.{Lengths, lengths-facts}
 use Rattle.model.specs.State.{State}
-use Rattle.model.specs.Answer.{Status, isDone, isStopped, isRefused, Report, done, stopped, refused, ended, ask, View, view, stepsOf}
-use Rattle.model.specs.Calls.{Effect, refuse, change, fresh, makeSteps, makeState, makeView}
+use Rattle.model.specs.Answer.{Status, isDone, isStopped, isRefused, Report, done, stopped, refused, ended, View, stepsOf}
+use Rattle.model.specs.Calls.{Effect, refuse, change, fresh, makeSteps, makeView}
 use Rattle.model.specs.Holdings.{named}
 use Rattle.model.specs.Restore.{viewedWith}
-use Rattle.model.specs.History.{Request, restore, called, opened, Observation, observed, Tracked, History, begun, withWaiting, finished, observe, trackedAt, mismatches, countEvent, counts, historyAfter}
-use Rattle.model.specs.Session.{Input, make, call, opening, write, shown, effectOf, memoryAt, Due, nothingDue, dropDue, finishDue, World, world, memoryOf, Move, Session, end, next, afterMake, AllZero, Agrees, atOpening}
+use Rattle.model.specs.History.{restore, Event, called, opened, Observation, observed, Tracked, History, begun, observe, trackedAt, mismatches, countEvent, counts, historyAfter}
+use Rattle.model.specs.Session.{Input, make, call, opening, shown, effectOf, memoryAt, Due, nothingDue, dropDue, finishDue, world, Move, Session, end, next, afterMake, Agrees, atOpening}
 use Rattle.model.proofs.Demand as abstract
 use Rattle.store.specs.Outcome.{Buffers, Outcome, outcome}
 use Rattle.store.specs.Checks.{makeCheck}
 use Rattle.store.specs.State.{stateOf, standing, slots}
 use Rattle.store.specs.Calls.{makeCall, openCall}
-use Rattle.store.specs.Means.{orRefused, makeMeans, roomOf}
+use Rattle.store.specs.Means.{makeMeans, roomOf}
 use Rattle.store.proofs.Means.{seenOf, by-check, make-means, store-standing}
 use Rattle.store.proofs.Standing.{is-standing}
 use Rattle.store.proofs.Pending.{make-pending}
 use Rattle.demands.specs.Session.{callOn, inputOn, session, buffersAfter, wasStopped, isOpening, openingRule}
-use Rattle.demands.specs.Demands.{lengthsRight, asked, opens, madeFrom, MakeDone, Demand3, historyOf, historyNow, openings, allStopped, CountsOne, Counted}
-use Rattle.demands.proofs.Shape.{None, Alike, input-alike}
+use Rattle.demands.specs.Demands.{lengthsRight, asked, opens, madeFrom, MakeDone, Demand3, historyOf, historyNow, openings, allStopped, openedAfter, countsOf, CountsOne, Counted}
+use Rattle.demands.proofs.Shape.{input-alike, refused-kept}
 use Rattle.demands.proofs.Steps.{Fits, Pends, Moves, worldOf, exact, open-seen, open-refusal, not-due, input-moves}
-use Rattle.demands.proofs.Seen.{call-means, call-refusal}
+use Rattle.demands.proofs.Seen.{call-means, call-passed}
 
 -- ---- from make
 
-abbrev Told : Status → Type 0
+abbrev pub Told : Status → Type 0
 Told isDone = Unit {0}
 Told isStopped = ⊥
 Told isRefused = ⊥
@@ -56,11 +54,11 @@ make-view : (k : ℕ) (b : Buffers) → MakeDone b k → seenOf (outcome (makeCa
 unfolding makeMeans makeCheck
 make-view k b e = make-means k b ∙ rw (make-passed k b e)
 
-ended-enough : (need h k : ℕ) → (ended need h k) .status ≡ isDone → leb need k ≡ true
+pub ended-enough : (need h k : ℕ) → (ended need h k) .status ≡ isDone → leb need k ≡ true
 unfolding ended
 ended-enough need h k e = by-bool (leb need k) (λ t. t) (λ t. let r = rw t at e in absurd (subst Told (sym r) tt))
 
-make-enough : (k : ℕ) (b : Buffers) → MakeDone b k → leb (makeSteps (slots b)) k ≡ true
+pub make-enough : (k : ℕ) (b : Buffers) → MakeDone b k → leb (makeSteps (slots b)) k ≡ true
 make-enough k b e = ended-enough (makeSteps (slots b)) 0 k (ap (λ (v : View). v .report .status) (sym (make-view k b e)) ∙ e)
 
 pub make-stands : (k : ℕ) (b : Buffers) → MakeDone b k → standing (madeFrom b k) ≡ some fresh
@@ -99,7 +97,7 @@ Halted isStopped = Unit {0}
 Halted isRefused = ⊥
 
 -- with nothing pending an opening is never stopped, and takes no step
-idle-opening : (k : ℕ) (b : Buffers) → ((s : State) → standing b ≡ some s → pending (b .table) ≡ 0)
+pub idle-opening : (k : ℕ) (b : Buffers) → ((s : State) → standing b ≡ some s → pending (b .table) ≡ 0)
     → (((outcome (openCall b) k b) .report .status ≡ isStopped → ⊥) × ((outcome (openCall b) k b) .report .steps ≡ 0))
 unfolding ended
 idle-opening k b f = by-check (λ q. opens b ≡ q → Goal) (opens b) (λ n e _. no-store n e) (λ e _. store e) refl
@@ -126,7 +124,45 @@ history-then [] rest b n = refl
 history-then (i ∷ is) rest b n =
     history-then is rest ((inputOn i b) .buffers) (observe (observed (shown i ((inputOn i b) .report)) ((inputOn i b) .buffers .memory)) n)
 
--- stopped openings leave it as it is
+-- and the counts
+counts-then : (l rest : List Input) (b : Buffers) (n : History)
+    → counts n (session (l ++ rest) b) ≡ counts n (session l b) ++ counts (historyAfter n (session l b)) (session rest (buffersAfter l b))
+counts-then [] rest b n = refl
+counts-then (i ∷ is) rest b n =
+    let o : Observation = observed (shown i ((inputOn i b) .report)) ((inputOn i b) .buffers .memory) in
+    ap (λ (cs : List ℕ). countEvent (o .event) (o .memory) n ++ cs) (counts-then is rest ((inputOn i b) .buffers) (observe o n))
+    ∙ sym (append-assoc (countEvent (o .event) (o .memory) n) (counts (observe o n) (session is ((inputOn i b) .buffers)))
+    (counts (historyAfter n (session (i ∷ is) b)) (session rest (buffersAfter (i ∷ is) b))))
+
+pub buffers-then : (l rest : List Input) (b : Buffers) → buffersAfter (l ++ rest) b ≡ buffersAfter rest (buffersAfter l b)
+buffers-then [] rest b = refl
+buffers-then (i ∷ is) rest b = buffers-then is rest ((inputOn i b) .buffers)
+
+pub openings-then : (ks : List ℕ) (i : ℕ) → openings (ks ++ i ∷ []) ≡ openings ks ++ opening i ∷ []
+openings-then [] i = refl
+openings-then (k ∷ ks) i = ap (λ (l : List Input). opening k ∷ l) (openings-then ks i)
+
+-- an opening leaves memory as it is
+open-memory : (k : ℕ) (b : Buffers) → (outcome (openCall b) k b) .buffers .memory ≡ b .memory
+open-memory k b =
+    by-check (λ q. opens b ≡ q → (outcome (openCall b) k b) .buffers .memory ≡ b .memory) (opens b)
+    (λ n e _. ap (λ (x : Buffers). x .memory) (refused-kept (openCall b) k b (ap (λ (r : Report). r .status) (open-refusal k n b e))))
+    (λ e _. ap (λ (v : View). v .memory) (open-seen k b e))
+    refl
+
+openings-memory : (ks : List ℕ) (b : Buffers) → (buffersAfter (openings ks) b) .memory ≡ b .memory
+openings-memory [] b = refl
+openings-memory (k ∷ ks) b = openings-memory ks ((outcome (openCall b) k b) .buffers) ∙ open-memory k b
+
+-- stopped openings add none
+stopped-counts : (ks : List ℕ) (b : Buffers) (n : History) → allStopped ks b → counts n (session (openings ks) b) ≡ []
+stopped-counts [] b n a = refl
+stopped-counts (k ∷ ks) b n a =
+    let o : Outcome = outcome (openCall b) k b in
+    ap (λ (t : Status). countEvent (opened k t (o .report .steps)) (o .buffers .memory) n ++ counts (observe (observed (opened k t (o .report .steps)) (o .buffers .memory)) n) (session (openings ks) (o .buffers))) (a .0)
+    ∙ stopped-counts ks (o .buffers) n (a .1)
+
+-- and leave the history as it is
 stopped-openings : (ks : List ℕ) (b : Buffers) (n : History) → allStopped ks b → historyAfter n (session (openings ks) b) ≡ n
 stopped-openings [] b n a = refl
 stopped-openings (k ∷ ks) b n a =
@@ -197,6 +233,11 @@ history-agrees b k l s e rule there =
 
 -- ---- every completed restore of a domain not excluded adds exactly one count
 
+-- the history has the domain that handle h names, and an event adds exactly the count of its mismatches, unless it is excluded
+abbrev EventCounts : (h : ℕ) → (before : Buffers) → History → Event → (memory : List ℕ) → History → Type 0
+EventCounts h b n e memory now =
+    (q : Tracked) × (trackedAt (named h (stateOf b)) (n .domains) ≡ some q) × (q .excluded ≡ false → countEvent e memory now ≡ mismatches memory q ∷ [])
+
 module _ (b : Buffers) (k : ℕ) (l : List Input) (h j : ℕ) (e : MakeDone b k) (rule : openingRule false (l ++ call (restore h) j ∷ []) (madeFrom b k) ≡ true) where
   abbrev last : Buffers
   last = buffersAfter l (madeFrom b k)
@@ -217,21 +258,14 @@ module _ (b : Buffers) (k : ℕ) (l : List Input) (h j : ℕ) (e : MakeDone b k)
       input-moves (cellsIn b) (call (restore h) j) (buffersAfter l (madeFrom b k)) nothingDue false
       (subst (λ (d : Due). Fits (cellsIn b) (buffersAfter l (madeFrom b k)) d) none-due (before .fits)) (λ _. refl) refl
 
-  -- a restore that is not refused passed questions 1 to 4
-  passed : ((callOn (restore h) j (buffersAfter l (madeFrom b k))) .report .status ≡ isRefused → ⊥) → asked (buffersAfter l (madeFrom b k)) ≡ 0
-  passed f =
-      by-check (λ q. asked (buffersAfter l (madeFrom b k)) ≡ q → asked (buffersAfter l (madeFrom b k)) ≡ 0) (asked (buffersAfter l (madeFrom b k)))
-      (λ n z _. absurd (f (ap (λ (r : Report). r .status) (call-refusal (restore h) j n (buffersAfter l (madeFrom b k)) z))))
-      (λ z _. z) refl
-
   stands : asked (buffersAfter l (madeFrom b k)) ≡ 0 → standing (buffersAfter l (madeFrom b k)) ≡ some (stateOf (buffersAfter l (madeFrom b k)))
   stands z = store-standing (buffersAfter l (madeFrom b k) .memory) (buffersAfter l (madeFrom b k) .bodies) (buffersAfter l (madeFrom b k) .table) z
 
-  pub done-counts : (callOn (restore h) j (buffersAfter l (madeFrom b k))) .report .status ≡ isDone
-      → CountsOne h (buffersAfter l (madeFrom b k)) (historyOf (madeFrom b k) l) (called (restore h) j isDone)
+  event-done : (callOn (restore h) j (buffersAfter l (madeFrom b k))) .report .status ≡ isDone
+      → EventCounts h (buffersAfter l (madeFrom b k)) (historyOf (madeFrom b k) l) (called (restore h) j isDone)
       ((callOn (restore h) j (buffersAfter l (madeFrom b k))) .buffers .memory) (historyOf (madeFrom b k) l)
-  done-counts d =
-      let z = passed (λ r. subst Told (sym d ∙ r) tt) in
+  event-done d =
+      let z = call-passed (restore h) j last (λ r. subst Told (sym d ∙ r) tt) in
       let seen-is = call-means (restore h) j last z in
       let v = viewed-done (effectOf (roomOf last) (last .memory) (restore h) (stateOf last)) j (stateOf last) (last .memory) (memoryAt j (restore h) (stateOf last) (last .memory))
       (ap (λ (v : View). v .report .status) (sym seen-is) ∙ d) in
@@ -242,13 +276,28 @@ module _ (b : Buffers) (k : ℕ) (l : List Input) (h j : ℕ) (e : MakeDone b k)
       (subst (λ (o : Option State). Move (cellsIn b) (world o (last .memory) nothingDue) (call (restore h) j) (done (v .0) (v .1 .0)) (worldOf ((callOn (restore h) j last) .buffers) (moves .due))) (stands z)
       (subst (λ (x : Report). Move (cellsIn b) (worldOf last nothingDue) (call (restore h) j) x (worldOf ((callOn (restore h) j last) .buffers) (moves .due))) r (moves .move)))
 
+  pub done-counts : (callOn (restore h) j (buffersAfter l (madeFrom b k))) .report .status ≡ isDone → CountsOne h (madeFrom b k) l (call (restore h) j ∷ [])
+  done-counts d =
+      let c = event-done d in
+      let o : Outcome = callOn (restore h) j last in
+      let n : History = historyOf (madeFrom b k) l in (
+        c .0,
+        c .1,
+        λ g.
+            let one : countEvent (called (restore h) j (o .report .status)) (o .buffers .memory) n ≡ mismatches (o .buffers .memory) (c .0) ∷ [] =
+            ap (λ (t : Status). countEvent (called (restore h) j t) (o .buffers .memory) n) d ∙ c .2 g in
+            counts-then l (call (restore h) j ∷ []) (madeFrom b k) begun
+            ∙ ap (λ (cs : List ℕ). countsOf (madeFrom b k) l ++ cs) (append-nil (countEvent (called (restore h) j (o .report .status)) (o .buffers .memory) n) ∙ one)
+            ∙ ap (λ (x : Buffers). countsOf (madeFrom b k) l ++ mismatches (x .memory) (c .0) ∷ []) (sym (buffers-then l (call (restore h) j ∷ []) (madeFrom b k))),
+      )
+
   -- stopped: what it leaves has nothing pending, and then no opening takes a step; or an opening is to finish it
-  pub late-counts : (ks : List ℕ) (i x : ℕ) → (callOn (restore h) j (buffersAfter l (madeFrom b k))) .report .status ≡ isStopped
+  event-late : (ks : List ℕ) (i x : ℕ) → (callOn (restore h) j (buffersAfter l (madeFrom b k))) .report .status ≡ isStopped
       → allStopped ks ((callOn (restore h) j (buffersAfter l (madeFrom b k))) .buffers)
       → (outcome (openCall (buffersAfter (openings ks) ((callOn (restore h) j (buffersAfter l (madeFrom b k))) .buffers))) i (buffersAfter (openings ks) ((callOn (restore h) j (buffersAfter l (madeFrom b k))) .buffers))) .report ≡ done (suc x) 0
-      → CountsOne h (buffersAfter l (madeFrom b k)) (historyOf (madeFrom b k) l) (opened i isDone (suc x))
+      → EventCounts h (buffersAfter l (madeFrom b k)) (historyOf (madeFrom b k) l) (opened i isDone (suc x))
       ((callOn (restore h) j (buffersAfter l (madeFrom b k))) .buffers .memory) (historyOf (madeFrom b k) (l ++ call (restore h) j ∷ openings ks))
-  late-counts ks i x d stops took = by-due (moves .due) (moves .fits .pends) (moves .move)
+  event-late ks i x d stops took = by-due (moves .due) (moves .fits .pends) (moves .move)
     where
       left : Buffers
       left = (callOn (restore h) j (buffersAfter l (madeFrom b k))) .buffers
@@ -258,11 +307,11 @@ module _ (b : Buffers) (k : ℕ) (l : List Input) (h j : ℕ) (e : MakeDone b k)
 
       Goal : Type 0
       Goal =
-          CountsOne h (buffersAfter l (madeFrom b k)) (historyOf (madeFrom b k) l) (opened i isDone (suc x))
+          EventCounts h (buffersAfter l (madeFrom b k)) (historyOf (madeFrom b k) l) (opened i isDone (suc x))
           ((callOn (restore h) j (buffersAfter l (madeFrom b k))) .buffers .memory) (historyOf (madeFrom b k) (l ++ call (restore h) j ∷ openings ks))
 
       z : asked (buffersAfter l (madeFrom b k)) ≡ 0
-      z = passed (λ r. subst Halted (sym d ∙ r) tt)
+      z = call-passed (restore h) j (buffersAfter l (madeFrom b k)) (λ r. subst Halted (sym d ∙ r) tt)
 
       -- nothing pending: the first opening is done with no step
       idle : (ks : List ℕ) → ((s : State) → standing left ≡ some s → pending (left .table) ≡ 0) → allStopped ks left
@@ -287,6 +336,66 @@ module _ (b : Buffers) (k : ℕ) (l : List Input) (h j : ℕ) (e : MakeDone b k)
           (subst (λ (o : Option State). Session (cellsIn b) (afterMake ((madeFrom b k) .memory)) (session l (madeFrom b k)) (world o (last .memory) nothingDue)) (stands z) here)
           (subst (λ (o : Option State). Move (cellsIn b) (world o (last .memory) nothingDue) (call (restore h) j) ((callOn (restore h) j (buffersAfter l (madeFrom b k))) .report) (worldOf left finishDue)) (stands z) m) in
           (c .0, c .1, λ g. ap (λ (t : History). countEvent (opened i isDone (suc x)) (left .memory) t) history-is ∙ c .2 g)
+
+  -- the stopped restore adds no count, nor does a stopped opening; the opening that is done adds one, of the memory that it leaves
+  pub late-counts : (ks : List ℕ) (i x : ℕ) → (callOn (restore h) j (buffersAfter l (madeFrom b k))) .report .status ≡ isStopped
+      → allStopped ks ((callOn (restore h) j (buffersAfter l (madeFrom b k))) .buffers)
+      → (openedAfter ks i ((callOn (restore h) j (buffersAfter l (madeFrom b k))) .buffers)) .report ≡ done (suc x) 0
+      → CountsOne h (madeFrom b k) l (call (restore h) j ∷ openings (ks ++ i ∷ []))
+  late-counts ks i x d stops took =
+      let c = event-late ks i x d stops took in (c .0, c .1, λ g. longer (c .0) (c .2 g))
+    where
+      made : Buffers
+      made = madeFrom b k
+
+      left : Buffers
+      left = (callOn (restore h) j (buffersAfter l (madeFrom b k))) .buffers
+
+      more : List Input
+      more = openings ks ++ opening i ∷ []
+
+      n : History
+      n = historyOf (madeFrom b k) l
+
+      -- the history after the stopped restore, and before the last opening
+      n₁ : Status → History
+      n₁ t = observe (observed (called (restore h) j t) (left .memory)) n
+
+      now : History
+      now = historyOf (madeFrom b k) (l ++ call (restore h) j ∷ openings ks)
+
+      before-last : Buffers
+      before-last = buffersAfter (openings ks) left
+
+      end-memory : (buffersAfter (l ++ call (restore h) j ∷ openings (ks ++ i ∷ [])) (madeFrom b k)) .memory ≡ left .memory
+      end-memory =
+          ap (λ (x : Buffers). x .memory) (buffers-then l (call (restore h) j ∷ openings (ks ++ i ∷ [])) (madeFrom b k))
+          ∙ openings-memory (ks ++ i ∷ []) left
+
+      last-event : (q : Tracked) → countEvent (opened i isDone (suc x)) (left .memory) now ≡ mismatches (left .memory) q ∷ []
+          → counts now (session (opening i ∷ []) before-last) ≡ mismatches (left .memory) q ∷ []
+      last-event q one =
+          let o : Outcome = outcome (openCall before-last) i before-last in
+          append-nil (countEvent (opened i (o .report .status) (o .report .steps)) (o .buffers .memory) now)
+          ∙ ap (λ (r : Report). countEvent (opened i (r .status) (r .steps)) (o .buffers .memory) now) took
+          ∙ ap (λ (m : List ℕ). countEvent (opened i isDone (suc x)) m now) (open-memory i before-last ∙ openings-memory ks left)
+          ∙ one
+
+      longer : (q : Tracked) → countEvent (opened i isDone (suc x)) (left .memory) now ≡ mismatches (left .memory) q ∷ []
+          → countsOf (madeFrom b k) (l ++ call (restore h) j ∷ openings (ks ++ i ∷ []))
+          ≡ countsOf (madeFrom b k) l ++ mismatches ((buffersAfter (l ++ call (restore h) j ∷ openings (ks ++ i ∷ [])) (madeFrom b k)) .memory) q ∷ []
+      longer q one =
+          let status : Status = (callOn (restore h) j (buffersAfter l (madeFrom b k))) .report .status in
+          let split : counts (n₁ status) (session more left) ≡ counts now (session (opening i ∷ []) before-last) =
+          counts-then (openings ks) (opening i ∷ []) left (n₁ status)
+          ∙ ap (λ (cs : List ℕ). cs ++ counts (historyAfter (n₁ status) (session (openings ks) left)) (session (opening i ∷ []) before-last)) (stopped-counts ks left (n₁ status) stops)
+          ∙ ap (λ (m : History). counts m (session (opening i ∷ []) before-last)) (sym (history-then l (call (restore h) j ∷ openings ks) (madeFrom b k) begun)) in
+          let none : countEvent (called (restore h) j status) (left .memory) n ≡ [] = ap (λ (t : Status). countEvent (called (restore h) j t) (left .memory) n) d in
+          ap (λ (ks : List Input). countsOf (madeFrom b k) (l ++ call (restore h) j ∷ ks)) (openings-then ks i)
+          ∙ counts-then l (call (restore h) j ∷ more) (madeFrom b k) begun
+          ∙ ap (λ (cs : List ℕ). countsOf (madeFrom b k) l ++ (cs ++ counts (n₁ status) (session more left))) none
+          ∙ ap (λ (cs : List ℕ). countsOf (madeFrom b k) l ++ cs) (split ∙ last-event q one)
+          ∙ ap (λ (m : List ℕ). countsOf (madeFrom b k) l ++ mismatches m q ∷ []) (sym end-memory)
 
 pub counted : Counted
 counted = record {

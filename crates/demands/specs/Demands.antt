@@ -2,8 +2,8 @@
 --
 -- "Every call on every input ends and stays inside its buffers" is what a proof of a Rattle function says by itself: it ends, and no index leaves
 -- its slice; and no exported call has a `requires`, so that this holds on every input. `Proved` names the proved contract of each call.
-use Prim.Native.Nat.{ℕ, suc, _<_}
-use mathlib.Core.Bool.{Bool, true, false, cond, _&&_}
+use Prim.Native.Nat.{ℕ, zero, suc, _+_, _*_, _≤_, _<_}
+use mathlib.Core.Bool.{Bool, true, false, cond, not, _&&_}
 use mathlib.Core.List.{List, [], _∷_, _++_}
 use mathlib.Core.Logic.{_⊎_}
 use mathlib.Core.Option.{Option, none, some}
@@ -15,16 +15,16 @@ use Rattle.words.specs.Journal.{pending}
 use Rattle.table.specs.Checks.{lengthsOk, headerOk}
 use Rattle.table.specs.Rule.{tableOk}
 use Rattle.model.specs.State.{State}
-use Rattle.model.specs.Answer.{isDone, isStopped, isRefused, Report, done, refused, View}
-use Rattle.model.specs.Calls.{change}
+use Rattle.model.specs.Answer.{Status, isDone, isStopped, isRefused, Report, done, refused, View}
+use Rattle.model.specs.Calls.{change, makeSteps, listed}
 use Rattle.model.specs.Holdings.{named, isLive, isInnermost, rangeOk}
-use Rattle.model.specs.History.{Request, create, list, add, delete, advance, commit, restore, look, Event, called, opened, History, Tracked, begun, finished, trackedAt, mismatches, countEvent, counts, historyAfter}
+use Rattle.model.specs.History.{Request, create, list, add, delete, advance, commit, restore, look, History, Tracked, begun, finished, trackedAt, mismatches, counts, historyAfter}
 use Rattle.model.specs.Session.{Input, make, call, opening, write, effectOf, memoryAfter, viewOf, Mixed, AllZero, Agrees}
 use Rattle.store.specs.Outcome.{Buffers, Step, step, Outcome, outcome, leaves}
 use Rattle.store.specs.Checks.{openCheck, storeCheck}
 use Rattle.store.specs.State.{StandsFor, slots, effectiveTable, stateOf, standing}
 use Rattle.store.specs.Calls.{makeCall, openCall}
-use Rattle.store.specs.Means.{seen, orRefused, makeMeans, openMeans, roomOf}
+use Rattle.store.specs.Means.{seen, orRefused, makeMeans, openMeans, listMeans, roomOf}
 use Rattle.look.specs.Look.{lookPlace, shownAt, lookMeans}
 use Rattle.store.proofs.make.Statement as make-contract
 use Rattle.store.proofs.open.Statement as open-contract
@@ -38,7 +38,7 @@ use Rattle.restore.proofs.restore.Statement as restore-contract
 use Rattle.look.proofs.look.Statement as look-contract
 use Rattle.look.proofs.look_place.Statement as look-place-contract
 use Rattle.look.proofs.look_answer.Statement as look-answer-contract
-use Rattle.demands.specs.Session.{callOn, inputOn, session, buffersAfter, openingRule}
+use Rattle.demands.specs.Session.{callOn, inputOn, session, buffersAfter, wasStopped, openingRule}
 
 -- ---- the proved contract of each exported call
 
@@ -99,8 +99,14 @@ handleOf (commit h) = some h
 handleOf (restore h) = some h
 handleOf (look h c) = some h
 
+-- "the number in document 01": that of one of its questions, 1 to 17
+abbrev pub isQuestion : ℕ → Bool
+isQuestion n = leb 1 n && leb n 17
+
 pub record Demand1 : Type 0 where
-  -- a refusal has its number, no step and no handle, and leaves every buffer as lent
+  -- a refusal has the number of a question
+  pub numbered : (i : Input) (b : Buffers) → (inputOn i b) .report .status ≡ isRefused → isQuestion ((inputOn i b) .report .refusal) ≡ true
+  -- and no step and no handle, and leaves every buffer as lent
   pub kept : (i : Input) (b : Buffers) → (inputOn i b) .report .status ≡ isRefused → inputOn i b ≡ leaves (refused ((inputOn i b) .report .refusal)) b
   -- "any call a wrong length"
   pub wrong-length : (i : Input) (b : Buffers) → isCall i ≡ true → lengthsRight b ≡ false → inputOn i b ≡ leaves (refused 1) b
@@ -110,7 +116,7 @@ pub record Demand1 : Type 0 where
       → callOn c k b ≡ leaves (refused 3) b
   pub wrong-table : (c : Request) (k : ℕ) (b : Buffers) → lengthsRight b ≡ true → headerRight b ≡ true → pending (b .table) ≡ 0 → tableRight b ≡ false
       → callOn c k b ≡ leaves (refused 4) b
-  pub wrong-pairs : (k : ℕ) (b : Buffers) → lengthsRight b ≡ true → headerRight b ≡ true → tableRight b ≡ false
+  pub wrong-table-opening : (k : ℕ) (b : Buffers) → lengthsRight b ≡ true → headerRight b ≡ true → tableRight b ≡ false
       → outcome (openCall b) k b ≡ leaves (refused 4) b
   -- "a dead handle"
   pub stale-handle : (c : Request) (h k : ℕ) (b : Buffers) → asked b ≡ 0 → handleOf c ≡ some h → isLive h (stateOf b) ≡ false
@@ -134,6 +140,19 @@ shows o = seen (o .report) (o .buffers)
 abbrev pub callView : Request → (budget : ℕ) → Buffers → View
 callView c k b = orRefused (asked b) b (viewOf (roomOf b) c k (stateOf b) (b .memory))
 
+-- "Open needs at most 2E + 11 steps, every other call at most 70E + 32"
+abbrev pub stepBound : Input → (slots : ℕ) → ℕ
+stepBound (make k) e = 70 * e + 32
+stepBound (call c k) e = 70 * e + 32
+stepBound (opening k) e = 2 * e + 11
+stepBound (write ws) e = 0
+
+abbrev pub budgetOf : Input → ℕ
+budgetOf (make k) = k
+budgetOf (call c k) = k
+budgetOf (opening k) = k
+budgetOf (write ws) = 0
+
 -- "After a cut, opening finds the call wholly made or not made": not made, with nothing for opening to do, and memory mixed only where the call
 -- puts bytes back; or made, with pairs for opening to put in place, and memory whole
 pub data Found (c : Request) (b left : Buffers) : Type 0 where
@@ -141,16 +160,41 @@ pub data Found (c : Request) (b left : Buffers) : Type 0 where
   wholly-made : {bytes words h : ℕ} {new : State} → effectOf (roomOf b) (b .memory) c (stateOf b) ≡ change bytes words h new → standing left ≡ some new
       → 0 < pending (left .table) → left .memory ≡ memoryAfter c (stateOf b) (b .memory) → Found c b left
 
+-- openings with these budgets, all of them stopped, and then one with budget j
+abbrev pub openings : List ℕ → List Input
+openings [] = []
+openings (k ∷ ks) = opening k ∷ openings ks
+
+abbrev pub allStopped : List ℕ → Buffers → Type 0
+allStopped [] b = Unit {0}
+allStopped (k ∷ ks) b = ((outcome (openCall b) k b) .report .status ≡ isStopped) × allStopped ks ((outcome (openCall b) k b) .buffers)
+
+abbrev pub openedAfter : List ℕ → (j : ℕ) → Buffers → Outcome
+openedAfter ks j b = inputOn (opening j) (buffersAfter (openings ks) b)
+
+-- what the first done opening after a cut leaves, `final`: the state and the memory that the cut left; of a call not made, everything that it left;
+-- of one wholly made, word for word and byte for byte, what the call leaves when it is not cut
+pub record Reopened (c : Request) (b left final : Buffers) : Type 0 where
+  pub state : standing final ≡ standing left
+  pub memory : final .memory ≡ left .memory
+  pub unmade : pending (left .table) ≡ 0 → final ≡ left
+  pub made : 0 < pending (left .table) → (k : ℕ) → (callOn c k b) .report .status ≡ isDone → final ≡ (callOn c k b) .buffers
+
 -- "The buffers after budget k + 1 differ from those after k in at most one word or byte": they are the same, or one store more is made
 abbrev pub OneMore : (before after : Buffers) → Type 0
 OneMore b c = (c ≡ b) ⊎ ((s : Step) × (c ≡ step s b))
 
-abbrev pub noMake : List Input → Bool
-noMake [] = true
-noMake (make k ∷ is) = false
-noMake (call c k ∷ is) = noMake is
-noMake (opening k ∷ is) = noMake is
-noMake (write ws ∷ is) = noMake is
+-- "save that a cut make may leave no store": a make that was stopped after a store; at budget 0 it has made none
+abbrev pub isCutMake : Input → Status → Bool
+isCutMake (make zero) r = false
+isCutMake (make (suc k)) r = wasStopped r
+isCutMake (call c k) r = false
+isCutMake (opening k) r = false
+isCutMake (write ws) r = false
+
+abbrev pub noCutMake : List Input → Buffers → Bool
+noCutMake [] b = true
+noCutMake (i ∷ is) b = not (isCutMake i ((inputOn i b) .report .status)) && noCutMake is ((inputOn i b) .buffers)
 
 -- the buffers after a make with budget k, and whether it was done
 abbrev pub madeFrom : Buffers → (k : ℕ) → Buffers
@@ -164,18 +208,31 @@ pub record Demand2 : Type 0 where
   pub open-shows : (k : ℕ) (b : Buffers) → shows (outcome (openCall b) k b) ≡ openMeans k b
   pub call-shows : (c : Request) (k : ℕ) (b : Buffers) → shows (callOn c k b) ≡ callView c k b
   pub look-shows : (h c : ℕ) (b : Buffers) → shownAt (lookPlace h c b) b ≡ lookMeans h c b
-  -- (list shows what `listMeans` says: its contract is an equation with it, `of-list`)
+  -- (`listMeans` is what list's contract is an equation with, `of-list`)
+  pub list-shows : (b : Buffers) → asked b ≡ 0 → listMeans b ≡ listed (stateOf b)
   -- "The buffers after budget k + 1 differ from those after k in at most one word or byte"
   pub one-store-make : (k : ℕ) (b : Buffers) → OneMore ((outcome (makeCall b) k b) .buffers) ((outcome (makeCall b) (suc k) b) .buffers)
   pub one-store-open : (k : ℕ) (b : Buffers) → OneMore ((outcome (openCall b) k b) .buffers) ((outcome (openCall b) (suc k) b) .buffers)
   pub one-store : (c : Request) (k : ℕ) (b : Buffers) → OneMore ((callOn c k b) .buffers) ((callOn c (suc k) b) .buffers)
+  -- no call makes more steps than its bound, and with such a budget none is stopped
+  pub bound : (i : Input) (b : Buffers) → (inputOn i b) .report .steps ≤ stepBound i (slots b)
+  pub enough : (i : Input) (b : Buffers) → stepBound i (slots b) ≤ budgetOf i → (inputOn i b) .report .status ≡ isStopped → ⊥
+  -- a call that is done, an opening too, leaves word 6 zero, and questions 1 to 4 are answered yes after it
+  pub done-clears : (i : Input) (b : Buffers) → isCall i ≡ true → (inputOn i b) .report .status ≡ isDone → pending ((inputOn i b) .buffers .table) ≡ 0
+  pub done-ready : (i : Input) (b : Buffers) → isCall i ≡ true → (inputOn i b) .report .status ≡ isDone → asked ((inputOn i b) .buffers) ≡ 0
   -- "A table that opening accepts stands for one state of domains and holdings"
   pub stands : (b : Buffers) → opens b ≡ 0 → StandsFor (slots b) (effectiveTable b) (b .bodies) (stateOf b)
   pub one-state : (b : Buffers) (s : State) → opens b ≡ 0 → StandsFor (slots b) (effectiveTable b) (b .bodies) s → s ≡ stateOf b
-  -- "every state reached can be opened": after every list of calls and writes from a make that was done, up to another make, which may be cut
-  pub reached : (b : Buffers) (k : ℕ) (l : List Input) → MakeDone b k → noMake l ≡ true → opens (buffersAfter l (madeFrom b k)) ≡ 0
+  -- "every state reached can be opened": after every list of calls and writes from a make that was done, in which no make was cut after a store
+  pub reached : (b : Buffers) (k : ℕ) (l : List Input) → MakeDone b k → noCutMake l (madeFrom b k) ≡ true → opens (buffersAfter l (madeFrom b k)) ≡ 0
+  -- and one cut after a store leaves what opening refuses with 2: stopped at 1 to 2E + 16
+  pub make-cut : (k j : ℕ) (b : Buffers) → lengthsRight b ≡ true → 0 < k → k < makeSteps (slots b)
+      → outcome (openCall (madeFrom b k)) j (madeFrom b k) ≡ leaves (refused 2) (madeFrom b k)
   -- a cut call, and the openings after it: each keeps state and memory, whether it is done or stopped
-  pub cut : (c : Request) (k : ℕ) (b : Buffers) → asked b ≡ 0 → (callOn c k b) .report .status ≡ isStopped → Found c b ((callOn c k b) .buffers)
+  pub cut : (c : Request) (k : ℕ) (b : Buffers) → (callOn c k b) .report .status ≡ isStopped → Found c b ((callOn c k b) .buffers)
+  pub reopened : (c : Request) (k : ℕ) (ks : List ℕ) (j : ℕ) (b : Buffers) → (callOn c k b) .report .status ≡ isStopped
+      → allStopped ks ((callOn c k b) .buffers) → (openedAfter ks j ((callOn c k b) .buffers)) .report .status ≡ isDone
+      → Reopened c b ((callOn c k b) .buffers) ((openedAfter ks j ((callOn c k b) .buffers)) .buffers)
   pub opening-keeps : (k : ℕ) (b : Buffers) → opens b ≡ 0
       → (standing ((outcome (openCall b) k b) .buffers) ≡ standing b) × ((outcome (openCall b) k b) .buffers .memory ≡ b .memory)
 
@@ -196,19 +253,16 @@ historyOf b l = historyAfter begun (session l b)
 abbrev pub historyNow : Buffers → History → History
 historyNow b n = cond (eqb (pending (b .table)) 0) n (finished (n .waiting) (b .memory) n)
 
--- openings with these budgets, all of them stopped
-abbrev pub openings : List ℕ → List Input
-openings [] = []
-openings (k ∷ ks) = opening k ∷ openings ks
+-- the counts of a session
+abbrev pub countsOf : Buffers → List Input → List ℕ
+countsOf b l = counts begun (session l b)
 
-abbrev pub allStopped : List ℕ → Buffers → Type 0
-allStopped [] b = Unit {0}
-allStopped (k ∷ ks) b = ((outcome (openCall b) k b) .report .status ≡ isStopped) × allStopped ks ((outcome (openCall b) k b) .buffers)
-
--- the history has the domain that handle h names, and an event adds exactly the count of its mismatches, unless it is excluded
-abbrev pub CountsOne : (h : ℕ) → (before : Buffers) → History → Event → (memory : List ℕ) → History → Type 0
-CountsOne h b n e memory now =
-    (q : Tracked) × (trackedAt (named h (stateOf b)) (n .domains) ≡ some q) × (q .excluded ≡ false → countEvent e memory now ≡ mismatches memory q ∷ [])
+-- Some more inputs after the session l from b complete a restore of the domain that handle h names: the history has that domain, and unless it is
+-- excluded the counts of the longer session are those of l and one more, of its mismatches in the memory at the end.
+abbrev pub CountsOne : (h : ℕ) → Buffers → (l more : List Input) → Type 0
+CountsOne h b l more =
+    (q : Tracked) × (trackedAt (named h (stateOf (buffersAfter l b))) ((historyOf b l) .domains) ≡ some q)
+    × (q .excluded ≡ false → countsOf b (l ++ more) ≡ countsOf b l ++ mismatches ((buffersAfter (l ++ more) b) .memory) q ∷ [])
 
 pub record Counted : Type 0 where
   -- wherever there is a store, the history's next handle, handles in order, cells, labels and values are those of the state that it stands for
@@ -216,14 +270,20 @@ pub record Counted : Type 0 where
       → standing (buffersAfter l (madeFrom b k)) ≡ some s → Agrees s (historyNow (buffersAfter l (madeFrom b k)) (historyOf (madeFrom b k) l))
   -- so every restore answered done counts
   pub done-counts : (b : Buffers) (k : ℕ) (l : List Input) (h j : ℕ) → MakeDone b k → openingRule false (l ++ call (restore h) j ∷ []) (madeFrom b k) ≡ true
-      → (callOn (restore h) j (buffersAfter l (madeFrom b k))) .report .status ≡ isDone
-      → CountsOne h (buffersAfter l (madeFrom b k)) (historyOf (madeFrom b k) l) (called (restore h) j isDone)
-      ((callOn (restore h) j (buffersAfter l (madeFrom b k))) .buffers .memory) (historyOf (madeFrom b k) l)
+      → (callOn (restore h) j (buffersAfter l (madeFrom b k))) .report .status ≡ isDone → CountsOne h (madeFrom b k) l (call (restore h) j ∷ [])
   -- and every stopped one whose first done opening takes a step
   pub late-counts : (b : Buffers) (k : ℕ) (l : List Input) (h j : ℕ) (ks : List ℕ) (i x : ℕ) → MakeDone b k
       → openingRule false (l ++ call (restore h) j ∷ []) (madeFrom b k) ≡ true
       → (callOn (restore h) j (buffersAfter l (madeFrom b k))) .report .status ≡ isStopped
       → allStopped ks ((callOn (restore h) j (buffersAfter l (madeFrom b k))) .buffers)
-      → (outcome (openCall (buffersAfter (openings ks) ((callOn (restore h) j (buffersAfter l (madeFrom b k))) .buffers))) i (buffersAfter (openings ks) ((callOn (restore h) j (buffersAfter l (madeFrom b k))) .buffers))) .report ≡ done (suc x) 0
-      → CountsOne h (buffersAfter l (madeFrom b k)) (historyOf (madeFrom b k) l) (opened i isDone (suc x))
-      ((callOn (restore h) j (buffersAfter l (madeFrom b k))) .buffers .memory) (historyOf (madeFrom b k) (l ++ call (restore h) j ∷ openings ks))
+      → (openedAfter ks i ((callOn (restore h) j (buffersAfter l (madeFrom b k))) .buffers)) .report ≡ done (suc x) 0
+      → CountsOne h (madeFrom b k) l (call (restore h) j ∷ openings (ks ++ i ∷ []))
+
+-- ---- the whole: the contracts of the calls and of the functions of C, and the demands
+
+pub record Demands (M : Type 1) : Type 2 where
+  pub proved : Proved M
+  pub demand-1 : Demand1
+  pub demand-2 : Demand2
+  pub demand-3 : Demand3
+  pub counted : Counted
