@@ -12,8 +12,11 @@ use Rattle.words.proofs.Plans.{tab-below}
 use Rattle.model.specs.Answer.{Report}
 use Rattle.model.specs.Calls.{Listed}
 use Rattle.store.specs.Outcome.{Buffers, Outcome, leaves}
+use Rattle.look.specs.Look.{placeWithin}
 use Rattle.look.specs.declared.Place.{Place}
-use Rattle.domain_store.specs.Boundary.{numberOf, returned, returnedBy, eight, listedInC, listedBy, lookedBy}
+use Rattle.look.specs.declared.Place.the-variants.{Refused, Memory, Bodies}
+use Rattle.look.proofs.Placing.{memory-within, bodies-within}
+use Rattle.domain_store.specs.Boundary.{numberOf, returned, returnedBy, eight, listedInC, listedBy, lookedInC, lookedBy, offsetWithin}
 
 pub told : (n s : ℕ) (r : Report) (b : Buffers) (o : Outcome) → n ≡ numberOf (r .status) (r .refusal) → s ≡ r .steps → leaves r b ≡ o → returned n s b ≡ returnedBy o
 told n s r b o e f g = (λ i. returned (e i) (f i) b) ∙ ap returnedBy g
@@ -36,6 +39,13 @@ pub listed : (n : ℕ) (r : Report) (k : ℕ) (hs to : List ℕ) (l : Listed) �
     → record { report = r; count = k; handles = hs } ≡ l → ((j : ℕ) → j < 8 → getD to j 0 ≡ getD hs j 0) → listedInC n k (eight to) ≡ listedBy l
 listed n r k hs to l e g h = (λ i. listedInC (e i) k (tab-below _ (λ j. getD hs j 0) 8 h i)) ∙ ap listedBy g
 
--- a place that was found, by its case
-pub placed : (p q : Place) (x : Place) → x ≡ p → x ≡ q → lookedBy p ≡ lookedBy q
-placed p q x e f = ap lookedBy (sym e ∙ f)
+-- a place that was found, by its case: refused, in memory, in bodies
+module _ (b : Buffers) (x q : Place) (same : x ≡ q) (within : placeWithin x b) where
+  pub in-none : (n : ℕ) → x ≡ Refused n → (lookedInC n 0 0 ≡ lookedBy q) × offsetWithin 0 0 b
+  in-none n e = (ap lookedBy (sym e ∙ same), (λ z. absurd (omega arith), λ z. absurd (omega arith)))
+
+  pub in-memory : (at : ℕ) → x ≡ Memory at → (lookedInC 0 1 at ≡ lookedBy q) × offsetWithin 1 at b
+  in-memory at e = (ap lookedBy (sym e ∙ same), (λ z. memory-within b x at e within, λ z. absurd (omega arith)))
+
+  pub in-bodies : (at : ℕ) → x ≡ Bodies at → (lookedInC 0 2 at ≡ lookedBy q) × offsetWithin 2 at b
+  in-bodies at e = (ap lookedBy (sym e ∙ same), (λ z. absurd (omega arith), λ z. bodies-within b x at e within))

@@ -1,7 +1,8 @@
 -- What a function of C gives back: a number, and what it stores into its out parameters.
-use Prim.Native.Nat.{ℕ}
+use Prim.Native.Nat.{ℕ, _+_, _≤_}
 use mathlib.Core.List.{List}
-use lib.ListN.{getD}
+use mathlib.Core.Path.{_≡_}
+use lib.ListN.{length, getD}
 use Rattle.words.specs.Stores.{tab}
 use Rattle.model.specs.Answer.{Status, isDone, isStopped, isRefused, Report}
 use Rattle.model.specs.Calls.{Listed}
@@ -56,3 +57,7 @@ abbrev pub lookedBy : Place → LookedInC
 lookedBy (Refused n) = lookedInC n 0 0
 lookedBy (Memory at) = lookedInC 0 1 at
 lookedBy (Bodies at) = lookedInC 0 2 at
+
+-- the 64 bytes at that offset lie inside that buffer
+abbrev pub offsetWithin : (place offset : ℕ) → Buffers → Type 0
+offsetWithin place offset b = (place ≡ 1 → offset + 64 ≤ length (b .memory)) × (place ≡ 2 → offset + 64 ≤ length (b .bodies))

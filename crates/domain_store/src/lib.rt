@@ -14,7 +14,7 @@ ghost use Rattle.commit.specs.Commit.{commitCall};
 ghost use Rattle.advance.specs.Advance.{advanceCall};
 ghost use Rattle.restore.specs.Restore.{restoreCall};
 ghost use Rattle.look.specs.Look.{lookPlace};
-ghost use Rattle.domain_store.specs.Boundary.{numberOf, returned, returnedBy, eight, listedInC, listedBy, lookedInC, lookedBy};
+ghost use Rattle.domain_store.specs.Boundary.{numberOf, returned, returnedBy, eight, listedInC, listedBy, lookedInC, lookedBy, offsetWithin};
 
 // Tells how a call ended: its steps through the out parameter, its number as the result.
 fn tell(answer: Answer, steps: &mut u64) -> u32
@@ -238,7 +238,7 @@ pub extern "C" fn ds_list(
     number_of(listing.answer)
 }
 
-// Tells where the 64 bytes stand that restore would leave in a cell.
+// Tells where the 64 bytes stand that restore would leave in a cell: they lie inside the buffer named.
 #[no_mangle]
 pub extern "C" fn ds_look(
     memory: &[u8],
@@ -249,7 +249,8 @@ pub extern "C" fn ds_look(
     place: &mut u32,
     offset: &mut u64,
 ) -> u32
-    ensures { λ r. ⌜ lookedInC r (now (place .exit)) (now (offset .exit)) ≡ lookedBy (lookPlace handle cell (buffers (now (memory .entry)) (now (bodies .entry)) (now (table .entry)))) ⌝ }
+    ensures found { λ r. ⌜ lookedInC r (now (place .exit)) (now (offset .exit)) ≡ lookedBy (lookPlace handle cell (buffers (now (memory .entry)) (now (bodies .entry)) (now (table .entry)))) ⌝ }
+    ensures within { λ _. ⌜ offsetWithin (now (place .exit)) (now (offset .exit)) (buffers (now (memory .entry)) (now (bodies .entry)) (now (table .entry))) ⌝ }
 {
     match look_place(memory, bodies, table, handle, cell) {
         Place::Refused(no) => {

@@ -26,7 +26,7 @@ use Rattle.store.proofs.Checks.{ask-yes, ask-rest, orElse-both, store-shape, sh
 use Rattle.store.proofs.Means.{by-check}
 use Rattle.store.proofs.Raw.{raw-named, check-rule}
 use Rattle.store.proofs.Outermost.{from-slot, from-fits, store-bytes}
-use Rattle.look.specs.Look.{lookCheck, placeIn, placed, lookPlace, placeReport, placePart, shownAt, orLookRefused, lookMeans}
+use Rattle.look.specs.Look.{lookCheck, placeIn, placed, lookPlace, placeReport, placePart, placeWithin, shownAt, orLookRefused, lookMeans}
 use Rattle.look.specs.declared.Place.{Place}
 use Rattle.look.specs.declared.Place.the-variants.{Refused, Memory, Bodies}
 
@@ -246,45 +246,45 @@ look-means h c b =
 -- ---- the part that look shows
 
 -- the 64 bytes at a place lie in their buffer
-abbrev pub Within : Place → Buffers → Type 0
-Within (Refused n) b = Unit {0}
-Within (Memory at) b = at + 64 ≤ length (b .memory)
-Within (Bodies at) b = at + 64 ≤ length (b .bodies)
-
 module _ (h c : ℕ) (b : Buffers) where
-  place-within : Passed (length (b .memory)) (length (b .bodies)) (b .table) h c → Within (placeIn (slotsOf (length (b .table))) (b .table) (depthNamed (b .table) h) c) b
+  place-within : Passed (length (b .memory)) (length (b .bodies)) (b .table) h c → placeWithin (placeIn (slotsOf (length (b .table))) (b .table) (depthNamed (b .table) h) c) b
   place-within p =
       let t : List ℕ = b .table in
       let f = shape-facts (length (b .memory)) (length (b .bodies)) (b .table) (store-shape (length (b .memory)) (length (b .bodies)) (b .table) (p .store)) in
       by-bool (heldFrom (slotsOf (length (b .table))) (b .table) (depthNamed (b .table) h) c)
       (λ held.
-      subst (λ (x : Place). Within x b) (sym (place-bodies (slotsOf (length (b .table))) (b .table) (depthNamed (b .table) h) c held))
+      subst (λ (x : Place). placeWithin x b) (sym (place-bodies (slotsOf (length (b .table))) (b .table) (depthNamed (b .table) h) c held))
       (omega (arith, f .bodies-exact, found-body (length (b .memory)) (length (b .bodies)) (b .table) h c p held)))
       (λ free.
-      subst (λ (x : Place). Within x b) (sym (place-memory (slotsOf (length (b .table))) (b .table) (depthNamed (b .table) h) c free))
+      subst (λ (x : Place). placeWithin x b) (sym (place-memory (slotsOf (length (b .table))) (b .table) (depthNamed (b .table) h) c free))
       (omega (arith, f .memory-exact, p .cell)))
 
-  pub look-within : Within (lookPlace h c b) b
+  pub look-within : placeWithin (lookPlace h c b) b
   unfolding lookPlace
   look-within = go (lookCheck (length (b .memory)) (length (b .bodies)) (b .table) h c) refl
     where
       go : (q : ℕ) → lookCheck (length (b .memory)) (length (b .bodies)) (b .table) h c ≡ q
-          → Within (placed q (placeIn (slotsOf (length (b .table))) (b .table) (depthNamed (b .table) h) c)) b
+          → placeWithin (placed q (placeIn (slotsOf (length (b .table))) (b .table) (depthNamed (b .table) h) c)) b
       go zero e = place-within (check-passed (length (b .memory)) (length (b .bodies)) (b .table) h c e)
       go (suc n) e = tt
 
-  -- by the place that the code has
-  pub memory-within : (p : Place) (at : ℕ) → p ≡ Memory at → p ≡ lookPlace h c b → at + 64 ≤ length (b .memory)
-  memory-within p at q e = subst (λ (x : Place). Within x b) (sym e ∙ q) look-within
-
-  pub bodies-within : (p : Place) (at : ℕ) → p ≡ Bodies at → p ≡ lookPlace h c b → at + 64 ≤ length (b .bodies)
-  bodies-within p at q e = subst (λ (x : Place). Within x b) (sym e ∙ q) look-within
+  -- so a place that is look's meets all of its clauses
+  pub placed-means : (p : Place) → p ≡ lookPlace h c b → (p ≡ lookPlace h c b) × ((shownAt p b ≡ lookMeans h c b) × placeWithin p b)
+  placed-means p e =
+      (e, (ap (λ (x : Place). shownAt x b) e ∙ look-means h c b, subst (λ (x : Place). placeWithin x b) (sym e) look-within))
 
   pub part-shown : (p q : Place) (part : List ℕ) → p ≡ q → p ≡ lookPlace h c b → shownAt p b ≡ lookMeans h c b → part ≡ placePart q b
       → (part ≡ placePart (lookPlace h c b) b) × (part ≡ lookMeans h c b .part)
   part-shown p q part same found means e =
       let here : part ≡ placePart p b = e ∙ ap (λ (x : Place). placePart x b) (sym same) in
       (here ∙ ap (λ (x : Place). placePart x b) found, here ∙ ap (λ (l : Looked). l .part) means)
+
+-- what the clause says of the place that the code has
+pub memory-within : (b : Buffers) (p : Place) (at : ℕ) → p ≡ Memory at → placeWithin p b → at + 64 ≤ length (b .memory)
+memory-within b p at q w = subst (λ (x : Place). placeWithin x b) q w
+
+pub bodies-within : (b : Buffers) (p : Place) (at : ℕ) → p ≡ Bodies at → placeWithin p b → at + 64 ≤ length (b .bodies)
+bodies-within b p at q w = subst (λ (x : Place). placeWithin x b) q w
 
 -- look's answer
 pub answer-refused : (h c q : ℕ) (b : Buffers) → q ≡ lookCheck (length (b .memory)) (length (b .bodies)) (b .table) h c → (q ≡ 0 → ⊥) → refused q ≡ lookMeans h c b .report

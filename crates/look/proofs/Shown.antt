@@ -1,12 +1,12 @@
 -- What look shows: the 64 bytes that restore of the same handle leaves in that cell, from bodies where a domain from the named one inwards holds
 -- the cell, else from memory. Assumes nothing.
 use Prim.Native.Nat.{ℕ, _+_, _-_, _*_, _≤_, _<_}
-use mathlib.Core.Bool.{Bool, true, false, cond}
+use mathlib.Core.Bool.{true, cond}
 use mathlib.Core.List.{List}
 use mathlib.Core.Path.{_≡_, refl, sym, ap, subst, _∙_}
 use native.Mathlib.Omega.{arith}
 use borrow.Author.Tests.{eqb-true, eqb-false}
-use lib.Dec.{eqb}
+use lib.Dec.{ltb, eqb}
 use lib.ListN.{length, getD, take, drop, length-take, length-drop}
 use lib.Seq.{ext-getD, getD-take, getD-drop}
 use Rattle.words.specs.Layout.{cellAt, cellsOf, slotsOf}
@@ -19,18 +19,19 @@ use Rattle.search.specs.Search.{heldFrom, bodyFrom}
 use Rattle.search.specs.Domain.{depthNamed}
 use Rattle.model.specs.State.{State}
 use Rattle.model.specs.Answer.{done, refused}
-use Rattle.model.specs.Holdings.{named, isHeld}
+use Rattle.model.specs.Holdings.{named, isHeld, isLive, rangeOk}
 use Rattle.model.specs.Restore.{Looked, cellOfByte, placeInCell, outermost, restoredCell, restoredByte, restoredMemory, cellsPutBack, memoryAfterSteps}
 use Rattle.model.proofs.Views.{all-stored}
-use Rattle.store.specs.Outcome.{Buffers, buffers}
-use Rattle.store.specs.State.{stateOf}
-use Rattle.store.proofs.Checks.{store-shape, shape-facts}
+use Rattle.store.specs.Outcome.{Buffers}
+use Rattle.store.specs.Checks.{storeCheck}
+use Rattle.store.specs.State.{slots, stateOf}
+use Rattle.store.proofs.Checks.{store-shape, shape-facts, orElse-go, ask-go}
 use Rattle.store.proofs.Raw.{raw-named}
 use Rattle.store.proofs.Outermost.{store-held}
-use Rattle.look.specs.Look.{lookCheck, lookPlace, placePart, lookMeans}
+use Rattle.look.specs.Look.{lookCheck, lookPlace, placePart, placeWithin, lookMeans, placeByState}
 use Rattle.look.specs.declared.Place.{Place}
-use Rattle.look.specs.declared.Place.the-variants.{Refused, Memory, Bodies}
-use Rattle.look.proofs.Placing.{Passed, check-passed, place-memory, place-bodies, place-shown, look-refused, look-placed, look-means, Within, look-within, answer-refused, answer-done}
+use Rattle.look.specs.declared.Place.the-variants.{Memory, Bodies}
+use Rattle.look.proofs.Placing.{Passed, check-passed, place-memory, place-bodies, place-shown, look-refused, look-placed, look-means, look-within, answer-refused, answer-done}
 
 -- look's number, of its buffers
 abbrev pub checked : (h c : ℕ) → Buffers → ℕ
@@ -66,10 +67,10 @@ look-length h c b =
         (λ p.
         let at : ℕ = cellAt (bodyFrom (slotsOf (length (b .table))) (b .table) (depthNamed (b .table) h) c) in
         let q = look-placed h c b pass ∙ place-bodies (slotsOf (length (b .table))) (b .table) (depthNamed (b .table) h) c p in
-        ap (λ (x : Place). length (placePart x b)) q ∙ part-length (b .bodies) at (subst (λ (x : Place). Within x b) q (look-within h c b)))
+        ap (λ (x : Place). length (placePart x b)) q ∙ part-length (b .bodies) at (subst (λ (x : Place). placeWithin x b) q (look-within h c b)))
         (λ p.
         let q = look-placed h c b pass ∙ place-memory (slotsOf (length (b .table))) (b .table) (depthNamed (b .table) h) c p in
-        ap (λ (x : Place). length (placePart x b)) q ∙ part-length (b .memory) (cellAt c) (subst (λ (x : Place). Within x b) q (look-within h c b)))
+        ap (λ (x : Place). length (placePart x b)) q ∙ part-length (b .memory) (cellAt c) (subst (λ (x : Place). placeWithin x b) q (look-within h c b)))
 
 -- ---- what restore leaves in a cell
 
@@ -125,25 +126,35 @@ module _ (h c : ℕ) (b : Buffers) (pass : checked h c b ≡ 0) where
       look-restores
       ∙ ap (λ (s : List ℕ). cellBytes s c) (sym (all-stored (cellsOf (length (b .memory))) k (named h (stateOf b)) (stateOf b) (b .memory) exact l))
 
-  -- ---- "a part of the lent bodies, or of the lent memory where nobody from that domain inwards holds the cell"
+-- ---- "a part of the lent bodies, or of the lent memory where nobody from that domain inwards holds the cell": which of them, and at which offset
 
-  pub look-memory : lookPlace h c b
-      ≡ cond (isHeld (outermost (named h (stateOf b)) c (stateOf b))) (Bodies (cellAt (bodyFrom (slotsOf (length (b .table))) (b .table) (depthNamed (b .table) h) c))) (Memory (cellAt c))
-  look-memory =
-      let held : isHeld (outermost (named h (stateOf b)) c (stateOf b)) ≡ heldFrom (slotsOf (length (b .table))) (b .table) (depthNamed (b .table) h) c =
-      ap (λ (d : ℕ). isHeld (outermost d c (stateOf b))) same-depth ∙ store-held (b .memory) (b .bodies) (b .table) (passed .store) (depthNamed (b .table) h) c (passed .live) in
-      look-placed h c b pass
-      ∙ by-bool (heldFrom (slotsOf (length (b .table))) (b .table) (depthNamed (b .table) h) c)
-      (λ p. rw (held, p) (place-bodies (slotsOf (length (b .table))) (b .table) (depthNamed (b .table) h) c p))
-      (λ p. rw (held, p) (place-memory (slotsOf (length (b .table))) (b .table) (depthNamed (b .table) h) c p))
+asked-yes : (h c : ℕ) (b : Buffers) → storeCheck (length (b .memory)) (length (b .bodies)) (b .table) ≡ 0 → isLive h (stateOf b) ≡ true
+    → rangeOk (cellsOf (length (b .memory))) c 1 ≡ true → checked h c b ≡ 0
+unfolding lookCheck
+asked-yes h c b pass live range =
+    let five : ltb 0 (depthNamed (b .table) h) ≡ true = ap (ltb 0) (sym (raw-named (b .memory) (b .bodies) (b .table) pass h)) ∙ live in
+    orElse-go _ _ pass ∙ ask-go _ _ _ five ∙ ask-go _ _ _ range
 
--- so the place tells whether the cell is held
-abbrev pub inBodies : Place → Bool
-inBodies (Refused n) = false
-inBodies (Memory at) = false
-inBodies (Bodies at) = true
+pub look-tells : (h c : ℕ) (b : Buffers) → storeCheck (length (b .memory)) (length (b .bodies)) (b .table) ≡ 0 → isLive h (stateOf b) ≡ true
+    → rangeOk (cellsOf (length (b .memory))) c 1 ≡ true → lookPlace h c b ≡ placeByState h c b
+look-tells h c b store live range = found ∙ ap place (sym same)
+  where
+    pass : checked h c b ≡ 0
+    pass = asked-yes h c b store live range
 
-pub look-tells : (h c : ℕ) (b : Buffers) → checked h c b ≡ 0 → inBodies (lookPlace h c b) ≡ isHeld (outermost (named h (stateOf b)) c (stateOf b))
-look-tells h c b pass =
-    ap inBodies (look-memory h c b pass)
-    ∙ by-bool (isHeld (outermost (named h (stateOf b)) c (stateOf b))) (λ p. rw p) (λ p. rw p)
+    same : named h (stateOf b) ≡ depthNamed (b .table) h
+    same = raw-named (b .memory) (b .bodies) (b .table) store h
+
+    -- the place by the state, of a domain at depth d
+    place : ℕ → Place
+    place d = cond (isHeld (outermost d c (stateOf b))) (Bodies (cellAt (bodyFrom (slots b) (b .table) d c))) (Memory (cellAt c))
+
+    held : isHeld (outermost (depthNamed (b .table) h) c (stateOf b)) ≡ heldFrom (slots b) (b .table) (depthNamed (b .table) h) c
+    held = store-held (b .memory) (b .bodies) (b .table) store (depthNamed (b .table) h) c (passed h c b pass .live)
+
+    found : lookPlace h c b ≡ place (depthNamed (b .table) h)
+    found =
+        look-placed h c b pass
+        ∙ by-bool (heldFrom (slots b) (b .table) (depthNamed (b .table) h) c)
+        (λ p. rw (held, p) (place-bodies (slots b) (b .table) (depthNamed (b .table) h) c p))
+        (λ p. rw (held, p) (place-memory (slots b) (b .table) (depthNamed (b .table) h) c p))

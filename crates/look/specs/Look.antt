@@ -1,5 +1,5 @@
 -- Look: its questions, the part that it shows, and what it means.
-use Prim.Native.Nat.{ℕ}
+use Prim.Native.Nat.{ℕ, _+_, _≤_}
 use mathlib.Core.Bool.{cond}
 use mathlib.Core.List.{List, []}
 use lib.Dec.{ltb}
@@ -8,11 +8,11 @@ use Rattle.words.specs.Layout.{cellAt, cellsOf, slotsOf}
 use Rattle.search.specs.Search.{heldFrom, bodyFrom}
 use Rattle.search.specs.Domain.{depthNamed}
 use Rattle.model.specs.Answer.{Report, done, refused, ask, orElse}
-use Rattle.model.specs.Holdings.{rangeOk}
-use Rattle.model.specs.Restore.{Looked, looked, lookRefused}
+use Rattle.model.specs.Holdings.{named, isHeld, rangeOk}
+use Rattle.model.specs.Restore.{Looked, looked, lookRefused, outermost}
 use Rattle.store.specs.Outcome.{Buffers}
 use Rattle.store.specs.Checks.{storeCheck}
-use Rattle.store.specs.State.{stateOf}
+use Rattle.store.specs.State.{slots, stateOf}
 use Rattle.look.specs.declared.Place.{Place}
 use Rattle.look.specs.declared.Place.the-variants.{Refused, Memory, Bodies}
 
@@ -46,6 +46,12 @@ placePart (Refused n) b = []
 placePart (Memory at) b = take 64 (drop at (b .memory))
 placePart (Bodies at) b = take 64 (drop at (b .bodies))
 
+-- the 64 bytes at that offset lie inside that buffer
+abbrev pub placeWithin : Place → Buffers → Type 0
+placeWithin (Refused n) b = Unit {0}
+placeWithin (Memory at) b = at + 64 ≤ length (b .memory)
+placeWithin (Bodies at) b = at + 64 ≤ length (b .bodies)
+
 abbrev pub shownAt : Place → Buffers → Looked
 shownAt p b = record { report = placeReport p; part = placePart p b }
 
@@ -58,3 +64,11 @@ unfoldable pub lookMeans : (h c : ℕ) → Buffers → Looked
 lookMeans h c b =
     orLookRefused (storeCheck (length (b .memory)) (length (b .bodies)) (b .table))
     (looked (cellsOf (length (b .memory))) h c (stateOf b) (b .memory))
+
+-- which buffer and which offset, by the state: the body at the end of the first holder's chain where a domain from the named one inwards holds the
+-- cell, else the cell in memory
+abbrev pub placeByState : (h c : ℕ) → Buffers → Place
+placeByState h c b =
+    cond (isHeld (outermost (named h (stateOf b)) c (stateOf b)))
+    (Bodies (cellAt (bodyFrom (slots b) (b .table) (named h (stateOf b)) c)))
+    (Memory (cellAt c))

@@ -19,7 +19,7 @@ ghost use Rattle.words.specs.Layout.{pairsAt, maxSlots, maxLive};
 ghost use Rattle.table.specs.Entry.{live};
 ghost use Rattle.search.specs.Search.{stepsIn, heldFrom, sourceIn};
 ghost use Rattle.store.specs.Outcome.{buffers, report};
-ghost use Rattle.look.specs.Look.{lookCheck, placeIn, lookPlace, placePart, shownAt, lookMeans};
+ghost use Rattle.look.specs.Look.{lookCheck, placeIn, lookPlace, placePart, placeWithin, shownAt, lookMeans};
 
 // Where the 64 bytes stand: refused by a question's number, or at this offset of the lent memory, or of the lent bodies.
 pub enum Place {
@@ -64,11 +64,12 @@ fn find_place(table: &[u32], slots: usize, depth: u32, cell: u32) -> Place
     }
 }
 
-// Where restore would take the bytes of this cell from.
+// Where restore would take the bytes of this cell from: 64 bytes that lie inside the buffer named.
 pub fn look_place(memory: &[u8], bodies: &[u8], table: &[u32], handle: u32, cell: u32) -> Place
     ensures found { λ r. ⌜ r ≡ lookPlace handle cell (buffers (now (memory .entry)) (now (bodies .entry)) (now (table .entry))) ⌝ }
     ensures means { λ r. ⌜ shownAt r (buffers (now (memory .entry)) (now (bodies .entry)) (now (table .entry)))
         ≡ lookMeans handle cell (buffers (now (memory .entry)) (now (bodies .entry)) (now (table .entry))) ⌝ }
+    ensures within { λ r. ⌜ placeWithin r (buffers (now (memory .entry)) (now (bodies .entry)) (now (table .entry))) ⌝ }
 {
     let no = look_check(memory.len(), bodies.len(), table, handle, cell);
     if no != 0 {

@@ -29,7 +29,7 @@ enum-known-at c = search needs
 add-result : tie.Need-add-result
 add-result c =
     let a = c .before .before .before .before .before .before .before .args in
-    let w = memory-within (a .handle) (a .cell) (buffers (a .memory .now) (a .bodies .now) (a .table .now)) _ _ (c .before .at .given .1) (c .before .before .before .look-place .ensures .0) in
+    let w = memory-within (buffers (a .memory .now) (a .bodies .now) (a .table .now)) _ _ (c .before .at .given .1) (c .before .before .before .look-place .ensures .1 .1) in
     search needs
 
 sub-result-2 : tie.Need-sub-result-2
@@ -41,7 +41,7 @@ part-result-start-2 c = search needs
 part-result-end-2 : tie.Need-part-result-end-2
 part-result-end-2 c =
     let a = c .before .before .before .before .before .before .before .args in
-    let w = memory-within (a .handle) (a .cell) (buffers (a .memory .now) (a .bodies .now) (a .table .now)) _ _ (c .before .at .given .1) (c .before .before .before .look-place .ensures .0) in
+    let w = memory-within (buffers (a .memory .now) (a .bodies .now) (a .table .now)) _ _ (c .before .at .given .1) (c .before .before .before .look-place .ensures .1 .1) in
     omega arith
 
 enum-known-at-2 : tie.Need-enum-known-at-2
@@ -50,7 +50,7 @@ enum-known-at-2 c = search needs
 add-result-2 : tie.Need-add-result-2
 add-result-2 c =
     let a = c .before .before .before .before .before .before .before .args in
-    let w = bodies-within (a .handle) (a .cell) (buffers (a .memory .now) (a .bodies .now) (a .table .now)) _ _ (c .before .at2 .given .1) (c .before .before .before .look-place .ensures .0) in
+    let w = bodies-within (buffers (a .memory .now) (a .bodies .now) (a .table .now)) _ _ (c .before .at2 .given .1) (c .before .before .before .look-place .ensures .1 .1) in
     search needs
 
 sub-result-3 : tie.Need-sub-result-3
@@ -62,23 +62,23 @@ part-result-start-3 c = search needs
 part-result-end-3 : tie.Need-part-result-end-3
 part-result-end-3 c =
     let a = c .before .before .before .before .before .before .before .args in
-    let w = bodies-within (a .handle) (a .cell) (buffers (a .memory .now) (a .bodies .now) (a .table .now)) _ _ (c .before .at2 .given .1) (c .before .before .before .look-place .ensures .0) in
+    let w = bodies-within (buffers (a .memory .now) (a .bodies .now) (a .table .now)) _ _ (c .before .at2 .given .1) (c .before .before .before .look-place .ensures .1 .1) in
     omega arith
 
 returns : tie.Need-returns
 returns c =
     let a = c .before .before .before .before .before .before .before .args in
-    part-shown (a .handle) (a .cell) (buffers (a .memory .now) (a .bodies .now) (a .table .now)) _ _ _ (c .before .enum-told .given .1) (c .before .before .before .look-place .ensures .0) (c .before .before .before .look-place .ensures .1) refl
+    part-shown (a .handle) (a .cell) (buffers (a .memory .now) (a .bodies .now) (a .table .now)) _ _ _ (c .before .enum-told .given .1) (c .before .before .before .look-place .ensures .0) (c .before .before .before .look-place .ensures .1 .0) refl
 
 returns-2 : tie.Need-returns-2
 returns-2 c =
     let a = c .before .before .before .before .before .before .before .before .args in
-    part-shown (a .handle) (a .cell) (buffers (a .memory .now) (a .bodies .now) (a .table .now)) _ _ _ (c .before .before .at .given .1) (c .before .before .before .before .look-place .ensures .0) (c .before .before .before .before .look-place .ensures .1) (part-from (a .memory .now) (c .before .before .at .given .0 .0))
+    part-shown (a .handle) (a .cell) (buffers (a .memory .now) (a .bodies .now) (a .table .now)) _ _ _ (c .before .before .at .given .1) (c .before .before .before .before .look-place .ensures .0) (c .before .before .before .before .look-place .ensures .1 .0) (part-from (a .memory .now) (c .before .before .at .given .0 .0))
 
 returns-3 : tie.Need-returns-3
 returns-3 c =
     let a = c .before .before .before .before .before .before .before .before .args in
-    part-shown (a .handle) (a .cell) (buffers (a .memory .now) (a .bodies .now) (a .table .now)) _ _ _ (c .before .before .at2 .given .1) (c .before .before .before .before .look-place .ensures .0) (c .before .before .before .before .look-place .ensures .1) (part-from (a .bodies .now) (c .before .before .at2 .given .0 .0))
+    part-shown (a .handle) (a .cell) (buffers (a .memory .now) (a .bodies .now) (a .table .now)) _ _ _ (c .before .before .at2 .given .1) (c .before .before .before .before .look-place .ensures .0) (c .before .before .before .before .look-place .ensures .1 .0) (part-from (a .bodies .now) (c .before .before .at2 .given .0 .0))
 
 pub look-spec : {M : Type 1} → statement M
 look-spec =

@@ -1,10 +1,8 @@
 -- `look_place` meets its contract. Assumes nothing.
-use mathlib.Core.Path.{sym, ap, _∙_}
+use mathlib.Core.Path.{sym, _∙_}
 use native.Mathlib.Omega.{arith}
-use Rattle.look.specs.Look.{shownAt}
-use Rattle.look.specs.declared.Place.{Place}
 use Rattle.store.specs.Outcome.{Buffers, buffers}
-use Rattle.look.proofs.Placing.{look-refused, look-found, look-means, check-passed, live-within, store-room, place-requires}
+use Rattle.look.proofs.Placing.{look-refused, look-found, placed-means, check-passed, live-within, store-room, place-requires}
 use borrow.Author.Needs.{needs}
 use Rattle.look.proofs.look_place.Statement.{statement}
 use Rattle.look.proofs.look_place.Tie as tie
@@ -17,7 +15,7 @@ returns c =
     let a = c .before .before .before .before .before .args in
     let b : Buffers = buffers (a .memory .now) (a .bodies .now) (a .table .now) in
     let e = look-refused (a .handle) (a .cell) b _ (c .before .look-check .ensures) (c .if1 .taken) in
-    (e, ap (λ (p : Place). shownAt p b) e ∙ look-means (a .handle) (a .cell) b)
+    placed-means (a .handle) (a .cell) b _ e
 
 slots-of-requires : tie.Need-slots-of-requires
 slots-of-requires c κs = search needs
@@ -40,7 +38,7 @@ returns-2 c =
     let a = c .before .before .before .before .before .before .before .before .args in
     let b : Buffers = buffers (a .memory .now) (a .bodies .now) (a .table .now) in
     let e = look-found (a .handle) (a .cell) b _ _ _ (sym (c .before .before .before .before .look-check .ensures) ∙ c .before .before .before .if1 .left) (c .before .before .slots-of .ensures) (c .before .find-domain .ensures) (c .find-place .ensures) in
-    (e, ap (λ (p : Place). shownAt p b) e ∙ look-means (a .handle) (a .cell) b)
+    placed-means (a .handle) (a .cell) b _ e
 
 pub look-place-spec : {M : Type 1} → statement M
 look-place-spec =
