@@ -1,7 +1,7 @@
 -- From a call's contract to what its function of C gives back. Assumes nothing.
 use Prim.Native.Nat.{ℕ, _+_, _<_}
 use mathlib.Core.List.{List}
-use mathlib.Core.Path.{_≡_, refl, sym, ap, subst, _∙_}
+use mathlib.Core.Path.{_≡_, sym, ap, subst, _∙_}
 use native.Mathlib.Omega.{arith}
 use borrow.Author.Tests.{eqb-true, eqb-false}
 use lib.Dec.{eqb}
@@ -35,9 +35,13 @@ copied from to k l h j b =
     subst (λ (x : ℕ). getD (set to k (getD from k 0)) x 0 ≡ getD from x 0) (sym q) (getD-set-same to k (getD from k 0) 0 l))
     (λ z. getD-set-other to k j (getD from k 0) 0 (eqb-false j k z) ∙ h j (let n = eqb-false j k z in omega arith))
 
-pub listed : (n : ℕ) (r : Report) (k : ℕ) (hs to : List ℕ) (l : Listed) → n ≡ numberOf (r .status) (r .refusal)
-    → record { report = r; count = k; handles = hs } ≡ l → ((j : ℕ) → j < 8 → getD to j 0 ≡ getD hs j 0) → listedInC n k (eight to) ≡ listedBy l
-listed n r k hs to l e g h = (λ i. listedInC (e i) k (tab-below _ (λ j. getD hs j 0) 8 h i)) ∙ ap listedBy g
+-- what a listing tells: its number and its count, and the handles that were copied
+module _ (r : Report) (k : ℕ) (hs : List ℕ) (l : Listed) (g : record { report = r; count = k; handles = hs } ≡ l) where
+  pub listed : (n : ℕ) → n ≡ numberOf (r .status) (r .refusal) → listedInC n k ≡ listedBy l
+  listed n e = (λ i. listedInC (e i) k) ∙ ap listedBy g
+
+  pub handles-listed : (to : List ℕ) → ((j : ℕ) → j < 8 → getD to j 0 ≡ getD hs j 0) → eight to ≡ eight (l .handles)
+  handles-listed to h = tab-below _ (λ j. getD hs j 0) 8 h ∙ ap (λ (x : Listed). eight (x .handles)) g
 
 -- a place that was found, by its case: refused, in memory, in bodies
 module _ (b : Buffers) (x q : Place) (same : x ≡ q) (within : placeWithin x b) where

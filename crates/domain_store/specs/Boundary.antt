@@ -4,7 +4,7 @@ use mathlib.Core.List.{List}
 use mathlib.Core.Path.{_≡_}
 use lib.ListN.{length, getD}
 use Rattle.words.specs.Stores.{tab}
-use Rattle.model.specs.Answer.{Status, isDone, isStopped, isRefused, Report}
+use Rattle.model.specs.Answer.{Status, isDone, isStopped, isRefused}
 use Rattle.model.specs.Calls.{Listed}
 use Rattle.store.specs.Outcome.{Buffers, Outcome}
 use Rattle.look.specs.declared.Place.{Place}
@@ -32,17 +32,16 @@ returnedBy o = returned (numberOf (o .report .status) (o .report .refusal)) (o .
 abbrev pub eight : List ℕ → List ℕ
 eight hs = tab 8 (λ j. getD hs j 0)
 
--- list: the number, how many domains are live, and their handles
+-- list: the number, and how many domains are live; their handles are the eight words of the array
 pub record ListedInC : Type 0 where
   pub number : ℕ
   pub count : ℕ
-  pub handles : List ℕ
 
-abbrev pub listedInC : (number count : ℕ) → List ℕ → ListedInC
-listedInC n c hs = record { number = n; count = c; handles = hs }
+abbrev pub listedInC : (number count : ℕ) → ListedInC
+listedInC n c = record { number = n; count = c }
 
 abbrev pub listedBy : Listed → ListedInC
-listedBy l = listedInC (numberOf (l .report .status) (l .report .refusal)) (l .count) (eight (l .handles))
+listedBy l = listedInC (numberOf (l .report .status) (l .report .refusal)) (l .count)
 
 -- look: the number, which buffer (1 memory, 2 bodies, 0 refused), and the offset of the 64 bytes in it
 pub record LookedInC : Type 0 where

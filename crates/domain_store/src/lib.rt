@@ -217,7 +217,8 @@ pub extern "C" fn ds_restore(
     tell(answer, steps)
 }
 
-// Gives the number of live domains and their handles. Its promise says of the array what the array's type says already, that it has eight words.
+// Gives the number of live domains and their handles. What it promises of the handles says of the array what the array's type says already, that
+// it has eight words.
 #[no_mangle]
 pub extern "C" fn ds_list(
     memory: &[u8],
@@ -226,7 +227,8 @@ pub extern "C" fn ds_list(
     handles: &mut [u32; 8],
     count: &mut u32,
 ) -> u32
-    ensures { λ r. ⌜ (length (now (handles .entry)) ≡ 8 → listedInC r (now (count .exit)) (eight (now (handles .exit))) ≡ listedBy (listMeans (buffers (now (memory .entry)) (now (bodies .entry)) (now (table .entry))))) ⌝ }
+    ensures listed { λ r. ⌜ listedInC r (now (count .exit)) ≡ listedBy (listMeans (buffers (now (memory .entry)) (now (bodies .entry)) (now (table .entry)))) ⌝ }
+    ensures handles { λ _. ⌜ (length (now (handles .entry)) ≡ 8 → eight (now (handles .exit)) ≡ eight (listMeans (buffers (now (memory .entry)) (now (bodies .entry)) (now (table .entry))) .handles)) ⌝ }
 {
     let listing = store::list(memory, bodies, table);
     let mut k = 0;

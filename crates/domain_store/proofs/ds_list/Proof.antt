@@ -1,16 +1,13 @@
-use Prim.Native.Nat.{ℕ, _+_, _-_, _≤_, _<_}
-use mathlib.Core.Path.{_≡_, refl, sym, ap, subst, _∙_}
+-- `ds_list` meets its contract: the loop copies the handles one after the other. Assumes nothing.
+use Prim.Native.Nat.{ℕ, _-_, _≤_, _<_}
+use mathlib.Core.Path.{_≡_, subst, _∙_}
 use native.Mathlib.Nat.{not-suc-le-zero}
 use native.Mathlib.Omega.{arith}
 use borrow.Author.Needs.{needs}
-use lib.ListN.{length, getD, set, length-set}
-use Rattle.domain_store.proofs.Telling.{copied, listed}
+use lib.ListN.{length, getD, length-set}
+use Rattle.domain_store.proofs.Telling.{copied, listed, handles-listed}
 use Rattle.domain_store.proofs.ds_list.Statement.{statement}
 use Rattle.domain_store.proofs.ds_list.Tie as tie
-use Rattle.domain_store.proofs.ds_list.Reads as reads
-use Rattle.domain_store.proofs.ds_list.Lts as lts
-use Rattle.domain_store.proofs.number_of.Reads as number-of-reads
-use Rattle.store.proofs.list.Reads as list-reads
 
 abbrev Inv-loop : tie.InvT-loop
 Inv-loop memory bodies table handles₀ count listing k₀ handles k =
@@ -19,39 +16,30 @@ Inv-loop memory bodies table handles₀ count listing k₀ handles k =
 abbrev μ-loop : tie.MeasureT-loop
 μ-loop memory bodies table handles₀ count listing k₀ handles k = 8 - k
 
--- src/lib.rt:231:19
 list-requires : tie.Need-list-requires Inv-loop μ-loop
 list-requires c κs = search needs
 
--- src/lib.rt:233:5
 loop-holds : tie.Need-loop-holds Inv-loop μ-loop
 loop-holds c = (omega arith, λ z. (z, λ j l. absurd (not-suc-le-zero l)))
 
--- src/lib.rt:234:22
 mul-handles : tie.Need-mul-handles Inv-loop μ-loop
 mul-handles c = search needs
 
--- src/lib.rt:234:22
 element-copy-out-handles : tie.Need-element-copy-out-handles Inv-loop μ-loop
 element-copy-out-handles c = search needs
 
--- src/lib.rt:234:9
 mul-handles-2 : tie.Need-mul-handles-2 Inv-loop μ-loop
 mul-handles-2 c = search needs
 
--- src/lib.rt:234:9
 element-write-handles : tie.Need-element-write-handles Inv-loop μ-loop
 element-write-handles c = search needs
 
--- src/lib.rt:235:9
 add-k : tie.Need-add-k Inv-loop μ-loop
 add-k c = search needs
 
--- src/lib.rt:233:5
 loop-less : tie.Need-loop-less Inv-loop μ-loop
 loop-less c = search needs
 
--- src/lib.rt:233:5
 loop-again : tie.Need-loop-again Inv-loop μ-loop
 loop-again c =
     let b = c .before .before .loop in
@@ -64,17 +52,18 @@ loop-again c =
           (length-set (b .handles) (b .k) _ ∙ n, copied t (b .handles) (b .k) (omega arith) (v .1)),
     )
 
--- src/lib.rt:238:5
 number-of-requires : tie.Need-number-of-requires Inv-loop μ-loop
 number-of-requires c κs = search needs
 
--- src/lib.rt:221:1
 returns : tie.Need-returns Inv-loop μ-loop
-returns c = λ z.
+returns c =
     let b = c .before .before .loop in
-    let full : b .k ≡ 8 = omega arith in
-    listed _ _ _ (c .before .before .before .list .result .handles) (b .handles) _ (c .number-of .ensures) (c .before .before .before .list .ensures)
-    (subst (λ (n : ℕ). (j : ℕ) → j < n → getD (b .handles) j 0 ≡ getD (c .before .before .before .list .result .handles) j 0) full (b .inv .1 z .1))
+    let l = c .before .before .before .list in
+    let full : b .k ≡ 8 = omega arith in (
+      listed _ _ (l .result .handles) _ (l .ensures) _ (c .number-of .ensures),
+      λ z. handles-listed _ _ (l .result .handles) _ (l .ensures) (b .handles)
+          (subst (λ (n : ℕ). (j : ℕ) → j < n → getD (b .handles) j 0 ≡ getD (l .result .handles) j 0) full (b .inv .1 z .1)),
+    )
 
 pub ds-list-spec : {M : Type 1} → statement M
 ds-list-spec =
