@@ -1,4 +1,4 @@
--- The three demands: one term of each, and the proved contract of each call by its name. Assumes nothing.
+-- The three demands: one term of each, and the proved contract of each call and of each function of C by its name. Assumes nothing.
 use Rattle.store.proofs.make.Met as make-proof
 use Rattle.store.proofs.open.Met as open-proof
 use Rattle.store.proofs.create.Met as create-proof
@@ -11,6 +11,16 @@ use Rattle.restore.proofs.restore.Met as restore-proof
 use Rattle.look.proofs.look.Met as look-proof
 use Rattle.look.proofs.look_place.Met as look-place-proof
 use Rattle.look.proofs.look_answer.Met as look-answer-proof
+use Rattle.domain_store.proofs.ds_make.Met as ds-make-proof
+use Rattle.domain_store.proofs.ds_open.Met as ds-open-proof
+use Rattle.domain_store.proofs.ds_create.Met as ds-create-proof
+use Rattle.domain_store.proofs.ds_add.Met as ds-add-proof
+use Rattle.domain_store.proofs.ds_delete.Met as ds-delete-proof
+use Rattle.domain_store.proofs.ds_commit.Met as ds-commit-proof
+use Rattle.domain_store.proofs.ds_advance.Met as ds-advance-proof
+use Rattle.domain_store.proofs.ds_restore.Met as ds-restore-proof
+use Rattle.domain_store.proofs.ds_list.Met as ds-list-proof
+use Rattle.domain_store.proofs.ds_look.Met as ds-look-proof
 use Rattle.demands.specs.Demands.{Proved, Demand1, Demand2, Demand3, Counted, Demands}
 use Rattle.demands.proofs.Refused as refused
 use Rattle.demands.proofs.Meant as meant
@@ -30,6 +40,16 @@ proved M = record {
   of-look = look-proof.met;
   of-look-place = look-place-proof.met;
   of-look-answer = look-answer-proof.met;
+  of-ds-make = ds-make-proof.met;
+  of-ds-open = ds-open-proof.met;
+  of-ds-create = ds-create-proof.met;
+  of-ds-add = ds-add-proof.met;
+  of-ds-delete = ds-delete-proof.met;
+  of-ds-commit = ds-commit-proof.met;
+  of-ds-advance = ds-advance-proof.met;
+  of-ds-restore = ds-restore-proof.met;
+  of-ds-list = ds-list-proof.met;
+  of-ds-look = ds-look-proof.met;
 }
 
 pub demand-1 : Demand1

@@ -31,7 +31,8 @@ use Rattle.store.proofs.Making.{make-none}
 use Rattle.store.proofs.Means.{seenOf, by-check, long, make-means, open-means}
 use Rattle.store.proofs.Pending.{afterPending}
 use Rattle.store.proofs.Standing.{stands-for, only-state}
-use Rattle.look.proofs.Placing.{look-means}
+use Rattle.look.proofs.Placing.{look-means, look-within}
+use Rattle.look.proofs.Shown.{look-tells}
 use Rattle.demands.specs.Session.{callOn}
 use Rattle.demands.specs.Demands.{asked, opens, shows, callView, OneMore, Found, not-made, wholly-made, lengthsRight, madeFrom, Demand2}
 use Rattle.demands.proofs.Seen.{call-means, call-refusal, call-passed}
@@ -143,6 +144,8 @@ demand-2 = record {
   open-shows = open-means;
   call-shows = call-shows;
   look-shows = look-means;
+  look-tells = look-tells;
+  look-within = look-within;
   list-shows = list-shows;
   one-store-make = λ k b. one-more (makeCall b) k b;
   one-store-open = λ k b. one-more (openCall b) k b;

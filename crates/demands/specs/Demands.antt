@@ -25,7 +25,7 @@ use Rattle.store.specs.Checks.{openCheck, storeCheck}
 use Rattle.store.specs.State.{StandsFor, slots, effectiveTable, stateOf, standing}
 use Rattle.store.specs.Calls.{makeCall, openCall}
 use Rattle.store.specs.Means.{seen, orRefused, makeMeans, openMeans, listMeans, roomOf}
-use Rattle.look.specs.Look.{lookPlace, shownAt, lookMeans}
+use Rattle.look.specs.Look.{lookPlace, placeByState, placeWithin, shownAt, lookMeans}
 use Rattle.store.proofs.make.Statement as make-contract
 use Rattle.store.proofs.open.Statement as open-contract
 use Rattle.store.proofs.create.Statement as create-contract
@@ -38,9 +38,19 @@ use Rattle.restore.proofs.restore.Statement as restore-contract
 use Rattle.look.proofs.look.Statement as look-contract
 use Rattle.look.proofs.look_place.Statement as look-place-contract
 use Rattle.look.proofs.look_answer.Statement as look-answer-contract
+use Rattle.domain_store.proofs.ds_make.Statement as ds-make-contract
+use Rattle.domain_store.proofs.ds_open.Statement as ds-open-contract
+use Rattle.domain_store.proofs.ds_create.Statement as ds-create-contract
+use Rattle.domain_store.proofs.ds_add.Statement as ds-add-contract
+use Rattle.domain_store.proofs.ds_delete.Statement as ds-delete-contract
+use Rattle.domain_store.proofs.ds_commit.Statement as ds-commit-contract
+use Rattle.domain_store.proofs.ds_advance.Statement as ds-advance-contract
+use Rattle.domain_store.proofs.ds_restore.Statement as ds-restore-contract
+use Rattle.domain_store.proofs.ds_list.Statement as ds-list-contract
+use Rattle.domain_store.proofs.ds_look.Statement as ds-look-contract
 use Rattle.demands.specs.Session.{callOn, inputOn, session, buffersAfter, wasStopped, openingRule}
 
--- ---- the proved contract of each exported call
+-- ---- the proved contract of each exported call, and of the ten functions of C
 
 pub record Proved (M : Type 1) : Type 2 where
   pub of-make : make-contract.statement M
@@ -55,6 +65,16 @@ pub record Proved (M : Type 1) : Type 2 where
   pub of-look : look-contract.statement M
   pub of-look-place : look-place-contract.statement M
   pub of-look-answer : look-answer-contract.statement M
+  pub of-ds-make : ds-make-contract.statement M
+  pub of-ds-open : ds-open-contract.statement M
+  pub of-ds-create : ds-create-contract.statement M
+  pub of-ds-add : ds-add-contract.statement M
+  pub of-ds-delete : ds-delete-contract.statement M
+  pub of-ds-commit : ds-commit-contract.statement M
+  pub of-ds-advance : ds-advance-contract.statement M
+  pub of-ds-restore : ds-restore-contract.statement M
+  pub of-ds-list : ds-list-contract.statement M
+  pub of-ds-look : ds-look-contract.statement M
 
 -- ---- demand 1: "it is refused by the number in document 01, and every lent word and byte keeps its value"
 
@@ -208,6 +228,10 @@ pub record Demand2 : Type 0 where
   pub open-shows : (k : ℕ) (b : Buffers) → shows (outcome (openCall b) k b) ≡ openMeans k b
   pub call-shows : (c : Request) (k : ℕ) (b : Buffers) → shows (callOn c k b) ≡ callView c k b
   pub look-shows : (h c : ℕ) (b : Buffers) → shownAt (lookPlace h c b) b ≡ lookMeans h c b
+  -- "a part of the lent bodies, or of the lent memory where nobody from that domain inwards holds the cell", inside that buffer
+  pub look-tells : (h c : ℕ) (b : Buffers) → asked b ≡ 0 → isLive h (stateOf b) ≡ true → rangeOk (cellsOf (length (b .memory))) c 1 ≡ true
+      → lookPlace h c b ≡ placeByState h c b
+  pub look-within : (h c : ℕ) (b : Buffers) → placeWithin (lookPlace h c b) b
   -- (`listMeans` is what list's contract is an equation with, `of-list`)
   pub list-shows : (b : Buffers) → asked b ≡ 0 → listMeans b ≡ listed (stateOf b)
   -- "The buffers after budget k + 1 differ from those after k in at most one word or byte"
