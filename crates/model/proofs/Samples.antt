@@ -1,6 +1,6 @@
 -- Small sessions computed: that the history counts at all, that it counts wrong memory, and that such lists are lists of sessions.
-use Prim.Native.Nat.{ℕ}
-use mathlib.Core.List.{List, [], _∷_}
+use Prim.Native.Nat.{ℕ, _+_}
+use mathlib.Core.List.{List, [], _∷_, _++_}
 use mathlib.Core.Path.{_≡_, refl}
 use lib.ListN.{replicate}
 use Rattle.words.specs.Scan.{all, count}
@@ -9,7 +9,7 @@ use Rattle.words.specs.Cells.{sameCell}
 use Rattle.model.specs.Answer.{isDone, isStopped, Report, done}
 use Rattle.model.specs.Holdings.{Room}
 use Rattle.model.specs.Restore.{restoredMemory}
-use Rattle.model.specs.History.{create, add, advance, commit, restore, Event, called, opened, written, Observation, observed, begun, counts}
+use Rattle.model.specs.History.{create, add, delete, advance, commit, restore, Event, called, opened, written, Observation, observed, begun, counts}
 use Rattle.model.specs.Session.{call, opening, write, World, memoryOf, call-done, call-late, open-finishes, open-stopped, written-to, Session, end, next, afterMake}
 
 -- memory of one cell, filled with one byte; all its places
@@ -65,6 +65,29 @@ stale : counts begun (does (called create 100 isDone) 7 ∷ does (called (add 1 
     ∷ does (called (advance 1) 100 isDone) 9 ∷ does (written places) 11 ∷ does (called (restore 1) 100 isDone) 7 ∷ []) ≡ 64 ∷ []
 unfolding count
 stale = refl
+
+-- ---- two cells: no line leaves more unprotected than document 01 says
+
+abbrev both : Event → (v w : ℕ) → Observation
+both e v w = observed e (filled v ++ filled w)
+
+-- nobody holds a cell, write 9 to cell 0: nothing is asked of it, and a wrong cell 1 is counted
+beside : counts begun (both (called create 100 isDone) 7 7 ∷ both (written places) 9 7 ∷ both (called (restore 1) 100 isDone) 9 8 ∷ []) ≡ 64 ∷ []
+unfolding count
+beside = refl
+
+-- 1 holds both read-write, write 9, delete cell 0: nothing is asked of it any more, and a cell 1 left at 9 is counted
+deleted : counts begun (both (called create 100 isDone) 7 7 ∷ both (called (add 1 0 2 0 1) 100 isDone) 7 7 ∷ both (written (places ++ tab 64 (λ x. x + 64))) 9 9
+    ∷ both (called (delete 1 0 1) 100 isDone) 9 9 ∷ both (called (restore 1) 100 isDone) 9 9 ∷ []) ≡ 64 ∷ []
+unfolding count
+deleted = refl
+
+-- 1 and 2 hold cell 0 read-write, write 9, delete it from 1: a restore of 2 that leaves 9 is counted, and one of 1 asks nothing of it
+deleted-outside : counts begun (does (called create 100 isDone) 7 ∷ does (called (add 1 0 1 0 1) 100 isDone) 7 ∷ does (called create 100 isDone) 7
+    ∷ does (called (add 2 0 1 0 1) 100 isDone) 7 ∷ does (written places) 9 ∷ does (called (delete 1 0 1) 100 isDone) 9
+    ∷ does (called (restore 2) 100 isDone) 9 ∷ does (called (restore 1) 100 isDone) 9 ∷ []) ≡ 64 ∷ 0 ∷ []
+unfolding count
+deleted-outside = refl
 
 -- ---- sessions: the states and the memory are those that the calls' meanings give
 
