@@ -89,6 +89,19 @@ deleted-outside : counts begun (does (called create 100 isDone) 7 ∷ does (call
 unfolding count
 deleted-outside = refl
 
+-- 2 inside 1 holds cell 0 read-write, and it is deleted from 2: nothing is asked of it by 1 either, which is around it
+deleted-inside : counts begun (does (called create 100 isDone) 7 ∷ does (called create 100 isDone) 7 ∷ does (called (add 2 0 1 0 1) 100 isDone) 7
+    ∷ does (called (delete 2 0 1) 100 isDone) 7 ∷ does (called (restore 1) 100 isDone) 9 ∷ []) ≡ 0 ∷ []
+unfolding count
+deleted-inside = refl
+
+-- the restore of 2 cut early: 3 inside it is excluded, 2 and 1 around it are counted
+cut-inside : counts begun (does (called create 100 isDone) 7 ∷ does (called create 100 isDone) 7 ∷ does (called create 100 isDone) 7
+    ∷ does (called (restore 2) 3 isStopped) 7 ∷ does (opened 100 isDone 0) 7 ∷ does (called (restore 3) 100 isDone) 9
+    ∷ does (called (restore 2) 100 isDone) 9 ∷ does (called (restore 1) 100 isDone) 9 ∷ []) ≡ 64 ∷ 64 ∷ []
+unfolding count
+cut-inside = refl
+
 -- ---- sessions: the states and the memory are those that the calls' meanings give
 
 abbrev room : Room
