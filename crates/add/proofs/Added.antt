@@ -263,6 +263,7 @@ module _ (h base n k l : ℕ) where
   unfolding rest
   same-rest b good =
       questions-same (b .memory) (slotsOf (length (b .table))) (b .table) (b .bodies) h base n k l (cellsOf (length (b .memory))) (cellsOf (length (b .bodies)))
+      (table-right (b .memory) (b .bodies) (b .table) good)
       ∙ ap (addChecks (roomOf b) (b .memory) h base n k l) (sym (state-whole (b .memory) (b .bodies) (b .table) good))
 
   passed : (budget : ℕ) (b : Buffers) → storeCheck (length (b .memory)) (length (b .bodies)) (b .table) ≡ 0

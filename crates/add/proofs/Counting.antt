@@ -7,6 +7,7 @@ use borrow.Author.Tests.{lt-ltb, le-ltb, le-leb, lt-leb}
 use Rattle.words.specs.Scan.{count}
 use Rattle.words.proofs.Scan.{by-bool, is-false}
 use Rattle.model.specs.Holdings.{inRange}
+use Rattle.store.proofs.InUse.{count-none}
 
 -- two tests that never both pass
 pub count-or : (n : ℕ) (f g : ℕ → Bool) → ((i : ℕ) → i < n → f i ≡ true → g i ≡ true → ⊥) → count n (λ i. f i || g i) ≡ count n f + count n g
@@ -19,11 +20,6 @@ count-or (suc n) f g h =
     let q : g n ≡ false = is-false (g n) (λ y. h n (omega arith) p y) in
     rw (p, q) (omega arith))
     (λ p. by-bool (g n) (λ q. rw (p, q) (omega arith)) (λ q. rw (p, q) (omega arith)))
-
-pub count-none : (n : ℕ) (f : ℕ → Bool) → ((i : ℕ) → i < n → f i ≡ false) → count n f ≡ 0
-unfolding count
-count-none zero f h = refl
-count-none (suc n) f h = rw (h n (omega arith), count-none n f (λ i l. h i (omega arith)))
 
 -- the numbers of a range
 module _ (base : ℕ) (f : ℕ → Bool) where

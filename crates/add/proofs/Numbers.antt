@@ -22,11 +22,12 @@ use Rattle.model.specs.State.{State}
 use Rattle.model.specs.Holdings.{holdingAt, isHeld, heldReadOnly, valueOr, inRange, labelNumbered, kindNumbered, newlyHeld, relabelled, newBodies}
 use Rattle.store.specs.State.{heldIn, stateIn}
 use Rattle.store.proofs.Domains.{state-holding, state-zero, domains-count, held-holds, held-writable}
+use Rattle.store.proofs.InUse.{count-none}
 use Rattle.add.specs.Add.{isNew, parentHas}
 use Rattle.add.specs.Walking.{rises, raiseChange, Ready}
 use Rattle.add.proofs.Asking.{table-right}
 use Rattle.add.proofs.Choices.{Choice, chosen, rises-free}
-use Rattle.add.proofs.Counting.{count-or, count-none, count-range}
+use Rattle.add.proofs.Counting.{count-or, count-range}
 use Rattle.add.proofs.Filling.{bytesWith, taken-many, bytes-length}
 
 -- ---- the state of a table's words

@@ -1,25 +1,26 @@
 -- Add's questions on the words are the model's on the state. Assumes nothing.
-use Prim.Native.Nat.{ℕ, zero, suc, _+_, _-_, _*_, _≤_, _<_}
-use mathlib.Core.Bool.{Bool, true, false, cond, not, _&&_, _||_}
+use Prim.Native.Nat.{ℕ, _+_, _-_, _≤_}
+use mathlib.Core.Bool.{Bool, true, false, not, _&&_, _||_}
 use mathlib.Core.List.{List}
-use mathlib.Core.Path.{_≡_, refl, sym, ap, subst, _∙_}
+use mathlib.Core.Path.{_≡_, refl, sym, ap, _∙_}
 use native.Mathlib.Omega.{arith}
-use borrow.Author.Tests.{eq-eqb, ne-eqb, eqb-true, eqb-false, ltb-true, leb-true, not-true}
+use borrow.Author.Tests.{eq-eqb, ne-eqb, eqb-true, eqb-false, ltb-true, leb-true}
 use lib.Dec.{leb, ltb, eqb}
-use lib.ListN.{length, getD}
-use Rattle.words.specs.Layout.{cellsOf, slotsOf}
+use lib.ListN.{length}
 use Rattle.words.specs.Scan.{all, count}
 use Rattle.words.specs.Cells.{cellBytes, sameCell}
 use Rattle.words.proofs.Scan.{by-bool, and-split, all-at, all-ext}
 use Rattle.table.specs.Entry.{live, parent, holdsIn}
+use Rattle.table.proofs.Rule.{Rule}
 use Rattle.search.specs.Search.{valueIn}
 use Rattle.search.specs.Domain.{depthNamed}
 use Rattle.search.specs.Free.{usedSlots, copies}
-use Rattle.model.specs.State.{State, Kind, copy, viaParent}
+use Rattle.model.specs.State.{State}
 use Rattle.model.specs.Answer.{ask}
-use Rattle.model.specs.Holdings.{Room, named, holdingAt, isHeld, isVia, valueOr, isLive, isInnermost, rangeOk, kindNumbered, newlyHeld, parentHolds, parentSame, addChecks}
+use Rattle.model.specs.Holdings.{Room, holdingAt, isHeld, isVia, hasBody, valueOr, isLive, isInnermost, rangeOk, liveEntries, copiesInUse, kindNumbered, newlyHeld, parentHolds, parentSame, addChecks}
 use Rattle.store.specs.State.{stateIn}
 use Rattle.store.proofs.Domains.{state-named, domains-count}
+use Rattle.store.proofs.InUse.{entries-in-use, copies-in-use}
 use Rattle.add.specs.Add.{isNew, parentHas}
 use Rattle.add.proofs.Asking.{or-right, twice}
 use Rattle.add.proofs.Numbers.{inner-held, outer-held, outer-value, newly-is}
@@ -34,7 +35,7 @@ module _ (memory : List ℕ) (e : ℕ) (t bodies : List ℕ) (h base n k l m b :
   s = stateIn e t bodies
 
   abbrev room : Room
-  room = record { cells = m; slots = e; bodies = b; used = usedSlots e t; copies = copies e t }
+  room = record { cells = m; slots = e; bodies = b }
 
   -- the questions on the words, as `addCheck` has them
   abbrev pub asked : ℕ
@@ -54,7 +55,7 @@ module _ (memory : List ℕ) (e : ℕ) (t bodies : List ℕ) (h base n k l m b :
       (λ p. let q = eqb-true k 1 p in rw (p, ne-eqb k 0 (λ z. omega arith)))
       (λ p. let q = eqb-false k 1 p in rw (p, eq-eqb k 0 (omega (arith, q))))
 
-  kind-one : eqb k 1 ≡ isVia (kindNumbered k)
+  kind-one : eqb k 1 ≡ not (hasBody (kindNumbered k))
   kind-one = by-bool (eqb k 1) (λ p. rw p) (λ p. rw p)
 
   module _ (inner : 1 ≤ live t) (small : k ≤ 1) where
@@ -90,8 +91,9 @@ module _ (memory : List ℕ) (e : ℕ) (t bodies : List ℕ) (h base n k l m b :
         let all11 = or-right (eqb k 0) (all n covered) yes11 p in
         rw (← kind-zero small, p) (all-ext n _ _ (λ j q. agrees-at j (all-at n covered all11 j q))))
 
-  pub questions-same : asked ≡ addChecks room memory h base n k l (stateIn e t bodies)
-  questions-same =
+  -- of a right table, in which as many entries and copies are in use as in the state
+  pub questions-same : Rule m e b t → asked ≡ addChecks room memory h base n k l (stateIn e t bodies)
+  questions-same ok =
       ask-both (ltb 0 (depthNamed t h)) (isLive h s) 5 _ _ (ap (ltb 0) (sym (state-named e t bodies h)))
       (λ q5.
       ask-both (eqb (depthNamed t h) (live t)) (isInnermost h s) 6 _ _ (λ i. eqb (sym (state-named e t bodies h) i) (sym (domains-count e t bodies) i))
@@ -108,8 +110,11 @@ module _ (memory : List ℕ) (e : ℕ) (t bodies : List ℕ) (h base n k l m b :
       (λ q11.
       ask-both _ (not (isVia (kindNumbered k)) || parentSame memory base n s) 12 _ _ (same-12 inner small q11)
       (λ q12.
-      ask-both (leb (usedSlots e t + count n (isNew e t base)) e) (leb (usedSlots e t + newlyHeld base n s) e) 16 _ _ (ap (λ (x : ℕ). leb (usedSlots e t + x) e) (sym (newly-is e t bodies inner base n)))
+      let newly : count n (isNew e t base) ≡ newlyHeld base n s = sym (newly-is e t bodies inner base n) in
+      let entries : usedSlots e t ≡ liveEntries m s = sym (entries-in-use m e b t ok bodies) in
+      let in-bodies : copies e t ≡ copiesInUse m s = sym (copies-in-use m e b t ok bodies) in
+      ask-both (leb (usedSlots e t + count n (isNew e t base)) e) (leb (liveEntries m s + newlyHeld base n s) e) 16 _ _ (λ i. leb (entries i + newly i) e)
       (λ q16.
-      ask-both (eqb k 1 || leb (copies e t + count n (isNew e t base)) b) (isVia (kindNumbered k) || leb (copies e t + newlyHeld base n s) b) 17 0 0
-      (λ i. kind-one i || leb (copies e t + sym (newly-is e t bodies inner base n) i) b)
+      ask-both (eqb k 1 || leb (copies e t + count n (isNew e t base)) b) (not (hasBody (kindNumbered k)) || leb (copiesInUse m s + newlyHeld base n s) b) 17 0 0
+      (λ i. kind-one i || leb (in-bodies i + newly i) b)
       (λ q17. refl))))))))

@@ -28,7 +28,7 @@ use Rattle.search.proofs.Value.{Copy}
 use Rattle.model.specs.State.{State}
 use Rattle.model.specs.Answer.{Report, done, refused, ended, ask, orElse, view, stepsOf}
 use Rattle.model.specs.Calls.{viewed, change, orRefuse}
-use Rattle.model.specs.Holdings.{named, holdingAt, isHeld, heldWritable, advance, writableCells, parentCovers, advanceChecks, advanceEffect}
+use Rattle.model.specs.Holdings.{named, holdingAt, isHeld, heldWritable, copiesInUse, advance, writableCells, parentCovers, advanceChecks, advanceEffect}
 use Rattle.store.specs.Outcome.{Buffers, buffers, changePlan, outcome, leaves, perform, unless}
 use Rattle.store.specs.Checks.{storeCheck}
 use Rattle.store.specs.State.{stateIn, stateOf}
@@ -37,6 +37,7 @@ use Rattle.store.specs.Means.{orRefused, callMeans, roomOf}
 use Rattle.store.proofs.Checks.{ask-yes, ask-stop, ask-rest, orElse-both, orElse-go, shape-facts, store-shape}
 use Rattle.store.proofs.Outcome.{refuses}
 use Rattle.store.proofs.Domains.{state-named, state-holding, domains-count, held-holds, held-writable}
+use Rattle.store.proofs.InUse.{copies-in-use}
 use Rattle.store.proofs.Means.{seenOf, by-check, t-long, store-standing}
 use Rattle.store.proofs.Changes.{Spares, change-performed, change-seen, change-unmade, change-reopened}
 use Rattle.store.proofs.Pending.{pendingAfter, afterPending, performed-pending, call-pending}
@@ -208,8 +209,9 @@ module _ (e : ℕ) (t bodies : List ℕ) (low : 1 ≤ live t) where
       (λ c. not (advances e t c) || holdsIn e t (parent (live t)) c)
       (λ c l. λ i. not (writable-same c i) || outer-same c two i)))
 
-checks-raw : (memory bodies t : List ℕ) (h : ℕ) → advanceChecks (roomOf (buffers memory bodies t)) h (stateIn (slotsOf (length t)) t bodies) ≡ asked (length memory) (length bodies) t h
-checks-raw memory bodies t h =
+checks-raw : (memory bodies t : List ℕ) (h : ℕ) → Rule (cellsOf (length memory)) (slotsOf (length t)) (cellsOf (length bodies)) t
+    → advanceChecks (roomOf (buffers memory bodies t)) h (stateIn (slotsOf (length t)) t bodies) ≡ asked (length memory) (length bodies) t h
+checks-raw memory bodies t h ok =
     let e : ℕ = slotsOf (length t) in
     let name : named h (stateIn e t bodies) ≡ depthNamed t h = state-named e t bodies h in
     by-bool (ltb 0 (depthNamed t h))
@@ -217,9 +219,10 @@ checks-raw memory bodies t h =
     let small = depth-small t h in
     let some-depth = ltb-true 0 (depthNamed t h) z in
     let low : 1 ≤ live t = omega arith in
+    let in-use : copiesInUse (cellsOf (length memory)) (stateIn e t bodies) ≡ copies e t = copies-in-use (cellsOf (length memory)) e (cellsOf (length bodies)) t ok bodies in
     (λ i. ask (ltb 0 (name i)) 5 (ask (eqb (name i) (domains-count e t bodies i)) 6
     (ask (covers-same e t bodies low (cellsOf (length memory)) i) 15
-    (ask (leb (copies e t + cells-same e t bodies low (cellsOf (length memory)) i) (cellsOf (length bodies))) 17 0)))))
+    (ask (leb (in-use i + cells-same e t bodies low (cellsOf (length memory)) i) (cellsOf (length bodies))) 17 0)))))
     (λ z.
     ask-stop _ 5 _ (ap (ltb 0) name ∙ z) ∙ sym (ask-stop _ 5 _ z))
 
@@ -312,7 +315,7 @@ module _ (memory bodies t : List ℕ) (h : ℕ) (pass : advanceCheck (length mem
 -- the questions and the number of cells, of words and of a state
 module _ (memory bodies t : List ℕ) (yes : storeCheck (length memory) (length bodies) t ≡ 0) (h : ℕ) where
   same-checks : asked (length memory) (length bodies) t h ≡ advanceChecks (roomOf (buffers memory bodies t)) h (stateOf (buffers memory bodies t))
-  same-checks = sym (ap (advanceChecks (roomOf (buffers memory bodies t)) h) (raw-state memory bodies t yes) ∙ checks-raw memory bodies t h)
+  same-checks = sym (ap (advanceChecks (roomOf (buffers memory bodies t)) h) (raw-state memory bodies t yes) ∙ checks-raw memory bodies t h (raw-rule memory bodies t yes))
 
   same-cells : 1 ≤ live t → count (cellsOf (length memory)) (advances (slotsOf (length t)) t) ≡ writableCells (cellsOf (length memory)) (stateOf (buffers memory bodies t))
   same-cells low =

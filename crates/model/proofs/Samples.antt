@@ -6,8 +6,10 @@ use lib.ListN.{replicate}
 use Rattle.words.specs.Scan.{all, count}
 use Rattle.words.specs.Stores.{Store, _≔_, tab}
 use Rattle.words.specs.Cells.{sameCell}
+use Rattle.model.specs.State.{readWrite, copy, viaParent, State}
 use Rattle.model.specs.Answer.{isDone, isStopped, Report, done}
-use Rattle.model.specs.Holdings.{Room}
+use Rattle.model.specs.Calls.{fresh, created}
+use Rattle.model.specs.Holdings.{Room, liveEntries, copiesInUse, addTo, addChecks, advanceChecks}
 use Rattle.model.specs.Restore.{restoredMemory}
 use Rattle.model.specs.History.{create, add, delete, advance, commit, restore, Event, called, opened, written, Observation, observed, begun, counts}
 use Rattle.model.specs.Session.{call, opening, write, World, memoryOf, call-done, call-late, open-finishes, open-stopped, written-to, Session, end, next, afterMake}
@@ -68,17 +70,17 @@ stale = refl
 
 -- ---- two cells: no line leaves more unprotected than document 01 says
 
-abbrev both : Event → (v w : ℕ) → Observation
-both e v w = observed e (filled v ++ filled w)
+abbrev twoCells : Event → (v w : ℕ) → Observation
+twoCells e v w = observed e (filled v ++ filled w)
 
 -- nobody holds a cell, write 9 to cell 0: nothing is asked of it, and a wrong cell 1 is counted
-beside : counts begun (both (called create 100 isDone) 7 7 ∷ both (written places) 9 7 ∷ both (called (restore 1) 100 isDone) 9 8 ∷ []) ≡ 64 ∷ []
+beside : counts begun (twoCells (called create 100 isDone) 7 7 ∷ twoCells (written places) 9 7 ∷ twoCells (called (restore 1) 100 isDone) 9 8 ∷ []) ≡ 64 ∷ []
 unfolding count
 beside = refl
 
 -- 1 holds both read-write, write 9, delete cell 0: nothing is asked of it any more, and a cell 1 left at 9 is counted
-deleted : counts begun (both (called create 100 isDone) 7 7 ∷ both (called (add 1 0 2 0 1) 100 isDone) 7 7 ∷ both (written (places ++ tab 64 (λ x. x + 64))) 9 9
-    ∷ both (called (delete 1 0 1) 100 isDone) 9 9 ∷ both (called (restore 1) 100 isDone) 9 9 ∷ []) ≡ 64 ∷ []
+deleted : counts begun (twoCells (called create 100 isDone) 7 7 ∷ twoCells (called (add 1 0 2 0 1) 100 isDone) 7 7 ∷ twoCells (written (places ++ tab 64 (λ x. x + 64))) 9 9
+    ∷ twoCells (called (delete 1 0 1) 100 isDone) 9 9 ∷ twoCells (called (restore 1) 100 isDone) 9 9 ∷ []) ≡ 64 ∷ []
 unfolding count
 deleted = refl
 
@@ -102,10 +104,34 @@ cut-inside : counts begun (does (called create 100 isDone) 7 ∷ does (called cr
 unfolding count
 cut-inside = refl
 
+-- ---- what is in use: domain 1 copies cell 0, domain 2 holds it via parent
+
+abbrev outer : State
+outer = addTo (filled 7) 0 1 copy readWrite (created fresh)
+
+abbrev both : State
+both = addTo (filled 7) 0 1 viaParent readWrite (created outer)
+
+-- two live entries, one copy in use
+in-use : (liveEntries 1 both ≡ 2) × (copiesInUse 1 both ≡ 1)
+unfolding count
+in-use = (refl, refl)
+
+-- "B = 1, one read-write copy, advance: 17. B = 2: done."
+one-body : (advanceChecks (record { cells = 1; slots = 8; bodies = 1 }) 1 outer ≡ 17) × (advanceChecks (record { cells = 1; slots = 8; bodies = 2 }) 1 outer ≡ 0)
+unfolding count
+one-body = (refl, refl)
+
+-- "E = 1, cell 0 held: add cells 0 and 1 gives 16; add cell 0 is done."
+one-slot : (addChecks (record { cells = 2; slots = 1; bodies = 8 }) (filled 7 ++ filled 7) 1 0 2 0 1 outer ≡ 16)
+    × (addChecks (record { cells = 2; slots = 1; bodies = 8 }) (filled 7 ++ filled 7) 1 0 1 0 1 outer ≡ 0)
+unfolding count
+one-slot = (refl, refl)
+
 -- ---- sessions: the states and the memory are those that the calls' meanings give
 
 abbrev room : Room
-room = record { cells = 1; slots = 8; bodies = 8; used = 0; copies = 0 }
+room = record { cells = 1; slots = 8; bodies = 8 }
 
 abbrev fill : ℕ → List Store
 fill v = tab 64 (λ x. x ≔ v)

@@ -57,6 +57,15 @@ abbrev pub heldVia : Option Holding → Bool
 heldVia none = false
 heldVia (some h) = isVia (h .kind)
 
+-- the kinds whose value lies in a body of its own: "no two copies share a body"
+abbrev pub hasBody : Kind → Bool
+hasBody copy = true
+hasBody viaParent = false
+
+abbrev pub heldInBody : Option Holding → Bool
+heldInBody none = false
+heldInBody (some h) = hasBody (h .kind)
+
 -- the value held, and what there is otherwise
 abbrev pub valueOr : List ℕ → Option Holding → List ℕ
 valueOr v none = v
@@ -88,13 +97,11 @@ holding f d = record { handle = d .handle; holds = f }
 
 -- ---- the questions that several calls are put
 
--- the lengths, and what is in use: live entries, and copies
+-- the numbers of cells, entry slots and bodies: m, E and B
 pub record Room : Type 0 where
   pub cells : ℕ
   pub slots : ℕ
   pub bodies : ℕ
-  pub used : ℕ
-  pub copies : ℕ
 
 -- 5: "Does the handle name a live domain?"   6: "Is it the innermost?"
 abbrev pub isLive : ℕ → State → Bool
@@ -110,6 +117,21 @@ rangeOk m first n = leb 1 n && leb (first + n) m
 -- is cell c one of first, .., first + n - 1?
 abbrev pub inRange : (first n c : ℕ) → Bool
 inRange first n c = leb first c && ltb c (first + n)
+
+-- ---- what is in use, counted in the state
+
+-- how many cells of m these domains hold so that f, each cell once for every domain that holds it
+abbrev pub countHeld : (m : ℕ) (f : Option Holding → Bool) → List Domain → ℕ
+countHeld m f [] = 0
+countHeld m f (d ∷ ds) = count m (λ c. f (d .holds c)) + countHeld m f ds
+
+-- "live entries" (question 16): one for each domain and each cell that it holds
+abbrev pub liveEntries : (m : ℕ) → State → ℕ
+liveEntries m s = countHeld m isHeld (s .domains)
+
+-- "copies in use" (question 17): the holdings that have a body
+abbrev pub copiesInUse : (m : ℕ) → State → ℕ
+copiesInUse m s = countHeld m heldInBody (s .domains)
 
 -- ---- add
 
@@ -159,10 +181,9 @@ parentSame memory first n s =
     all n (λ j. isHeld (holdingAt (s .domains) (length (s .domains)) (first + j))
     || sameCell (valueOr (cellBytes memory (first + j)) (holdingAt (s .domains) (length (s .domains) - 1) (first + j))) (cellBytes memory (first + j)))
 
--- new bodies: none for via parent
+-- new bodies, where n cells are newly held
 abbrev pub newBodies : Kind → ℕ → ℕ
-newBodies copy n = n
-newBodies viaParent n = 0
+newBodies k n = cond (hasBody k) n 0
 
 abbrev pub addChecks : Room → List ℕ → (h first n k l : ℕ) → State → ℕ
 addChecks room memory h first n k l s =
@@ -172,8 +193,8 @@ addChecks room memory h first n k l s =
     (ask (rangeOk (room .cells) first n) 8
     (ask (not (isVia (kindNumbered k)) || parentHolds first n s) 11
     (ask (not (isVia (kindNumbered k)) || parentSame memory first n s) 12
-    (ask (leb (room .used + newlyHeld first n s) (room .slots)) 16
-    (ask (isVia (kindNumbered k) || leb (room .copies + newlyHeld first n s) (room .bodies)) 17 0)))))))
+    (ask (leb (liveEntries (room .cells) s + newlyHeld first n s) (room .slots)) 16
+    (ask (not (hasBody (kindNumbered k)) || leb (copiesInUse (room .cells) s + newlyHeld first n s) (room .bodies)) 17 0)))))))
 
 abbrev pub addEffect : Room → List ℕ → (h first n k l : ℕ) → State → Effect
 addEffect room memory h first n k l s =
@@ -226,7 +247,7 @@ advanceChecks room h s =
     ask (isLive h s) 5
     (ask (isInnermost h s) 6
     (ask (parentCovers (room .cells) s) 15
-    (ask (leb (room .copies + writableCells (room .cells) s) (room .bodies)) 17 0)))
+    (ask (leb (copiesInUse (room .cells) s + writableCells (room .cells) s) (room .bodies)) 17 0)))
 
 abbrev pub advanceEffect : Room → List ℕ → (h : ℕ) → State → Effect
 advanceEffect room memory h s =

@@ -11,7 +11,7 @@ use Rattle.words.specs.Cells.{cellBytes}
 use Rattle.model.specs.State.{Holding, Domain, State}
 use Rattle.model.specs.Answer.{Report, done, ask, ended, refused, View, view, stepsOf}
 use Rattle.model.specs.Calls.{Effect, refuse, change, orRefuse}
-use Rattle.model.specs.Holdings.{named, isHeld, isLive, rangeOk, valueOr}
+use Rattle.model.specs.Holdings.{named, isHeld, valueOr, isLive, rangeOk, countHeld}
 
 -- ---- the bytes of memory: the cell that byte x is in, and its place in that cell
 
@@ -67,12 +67,8 @@ cellsPutBack m d s = count m (λ c. isHeld (outermost d c s))
 abbrev pub endedDomains : (d : ℕ) → State → ℕ
 endedDomains d s = length (s .domains) - d
 
-abbrev pub entriesIn : (m : ℕ) → List Domain → ℕ
-entriesIn m [] = 0
-entriesIn m (x ∷ xs) = count m (λ c. isHeld (x .holds c)) + entriesIn m xs
-
 abbrev pub freedEntries : (m d : ℕ) → State → ℕ
-freedEntries m d s = entriesIn m (drop d (s .domains))
+freedEntries m d s = countHeld m isHeld (drop d (s .domains))
 
 -- "p is 2 for each entry .. freed .., plus .. 1 + d in a restore that ends d domains, d above 0"
 abbrev pub restoreWords : (m d : ℕ) → State → ℕ

@@ -7,13 +7,13 @@ use mathlib.Core.Option.{Option, none, some}
 use mathlib.Core.Path.{_≡_, refl, sym, ap, _∙_}
 use native.Mathlib.Nat.{not-suc-le-zero}
 use native.Mathlib.Omega.{arith}
-use borrow.Author.Tests.{eq-eqb, ne-eqb, eqb-true, eqb-false, lt-ltb, le-ltb}
+use borrow.Author.Tests.{eq-eqb, ne-eqb, eqb-true, eqb-false}
 use lib.Dec.{ltb, eqb}
 use lib.ListN.{length, drop, length-append}
 use Rattle.words.specs.Layout.{slotsOf, pairsAt, liveAt, handleAt, maxLive}
 use Rattle.words.specs.Scan.{count}
 use Rattle.words.specs.Stores.{_≔_, tabFrom}
-use Rattle.words.proofs.Scan.{by-bool, by-le, count-ext, count-le}
+use Rattle.words.proofs.Scan.{by-bool, count-ext, count-le}
 use Rattle.words.specs.Journal.{nameOk, namesOk}
 use Rattle.words.proofs.Plans.{Rising, each-tab, each-tabFrom, length-tab}
 use Rattle.words.proofs.Names.{name-live, name-from, names-make}
@@ -22,24 +22,19 @@ use Rattle.table.specs.Changes.{isChanged, entryChanges}
 use Rattle.table.proofs.Rule.{Rule}
 use Rattle.table.proofs.Entries.{changes-count, changes-names}
 use Rattle.search.specs.Search.{heldFrom, bodyFrom}
-use Rattle.search.proofs.Counts.{count-entries}
 use Rattle.model.specs.State.{Holding, Domain}
-use Rattle.model.specs.Holdings.{isHeld}
-use Rattle.model.specs.Restore.{orInner, firstHeld, outermost, cellsPutBack, endedDomains, entriesIn, freedEntries}
+use Rattle.model.specs.Holdings.{isHeld, countHeld}
+use Rattle.model.specs.Restore.{orInner, firstHeld, outermost, cellsPutBack, endedDomains, freedEntries}
 use Rattle.model.specs.Restore as model
-use Rattle.store.specs.State.{heldIn, domainIn, stateIn}
+use Rattle.store.specs.State.{stateIn}
 use Rattle.store.proofs.Domains.{domains-count, held-holds}
+use Rattle.store.proofs.InUse.{count-none, and-true, held-past}
 use Rattle.store.proofs.Outermost.{outermost-held}
 use Rattle.restore.specs.Restore.{restoreChange, restoreWords, restoreBytes}
 use Rattle.restore.specs.Parts.{headWords, endingWords}
 use Rattle.restore.proofs.Putting.{cells-length}
 
 -- ---- counts
-
-count-none : (n : ℕ) (f : ℕ → Bool) → ((k : ℕ) → k < n → f k ≡ false) → count n f ≡ 0
-unfolding count
-count-none zero f h = refl
-count-none (suc n) f h = rw (h n (omega arith), count-none n f (λ k l. h k (omega arith)))
 
 -- those that pass one of two tests are at most as many as pass the first and as pass the second
 count-either : (n : ℕ) (f g : ℕ → Bool) → count n (λ k. f k || g k) ≤ count n f + count n g
@@ -51,47 +46,13 @@ count-either (suc n) f g =
     (λ p. by-bool (g n) (λ q. rw (p, q) (omega arith)) (λ q. rw (p, q) (omega arith)))
     (λ p. by-bool (g n) (λ q. rw (p, q) (omega arith)) (λ q. rw (p, q) rest))
 
--- numbers above x: the next one, and those above it
-above : (x y : ℕ) → ltb x y ≡ (eqb y (suc x) || ltb (suc x) y)
-above x y =
-    by-bool (eqb y (suc x))
-    (λ z. let q = eqb-true y (suc x) z in rw z (lt-ltb x y (omega arith)))
-    (λ z.
-    let ne = eqb-false y (suc x) z in
-    rw z
-    (by-le y x
-    (λ l. le-ltb x y l ∙ sym (le-ltb (suc x) y (omega arith)))
-    (λ l. lt-ltb x y l ∙ sym (lt-ltb (suc x) y (omega (arith, ne))))))
-
-count-above : (n x : ℕ) (f : ℕ → ℕ) → count n (λ i. ltb x (f i)) ≡ count n (λ i. eqb (f i) (suc x)) + count n (λ i. ltb (suc x) (f i))
-unfolding count
-count-above zero x f = refl
-count-above (suc n) x f =
-    let rest : count n (λ i. ltb x (f i)) ≡ count n (λ i. eqb (f i) (suc x)) + count n (λ i. ltb (suc x) (f i)) = count-above n x f in
-    by-bool (eqb (f n) (suc x))
-    (λ z.
-    let q = eqb-true (f n) (suc x) z in
-    rw (above x (f n), z, le-ltb (suc x) (f n) (omega arith), rest) (omega arith))
-    (λ z. rw (above x (f n), z, rest) (by-bool (ltb (suc x) (f n)) (λ y. rw y (omega arith)) (λ y. rw y)))
-
-drop-tab : {A : Type 0} (g : ℕ → A) (at x n : ℕ) → drop x (tabFrom g at n) ≡ tabFrom g (at + x) (n - x)
-drop-tab g at zero n =
-    let a : at ≡ at + 0 = omega arith in
-    let b : n ≡ n - 0 = omega arith in
-    λ i. tabFrom g (a i) (b i)
-drop-tab g at (suc x) zero = let b : 0 ≡ 0 - suc x = omega arith in λ i. tabFrom g (at + suc x) (b i)
-drop-tab g at (suc x) (suc n) =
-    let a : suc at + x ≡ at + suc x = omega arith in
-    let b : n - x ≡ suc n - suc x = omega arith in
-    drop-tab g (suc at) x n ∙ (λ i. tabFrom g (a i) (b i))
-
 -- ---- cells put back, and the entries that hold them
 
 held-either : (o r : Option Holding) → isHeld (orInner o r) ≡ (isHeld o || isHeld r)
 held-either none r = refl
 held-either (some h) r = refl
 
-pub cells-few : (m : ℕ) (ds : List Domain) → count m (λ c. isHeld (firstHeld ds c)) ≤ entriesIn m ds
+pub cells-few : (m : ℕ) (ds : List Domain) → count m (λ c. isHeld (firstHeld ds c)) ≤ countHeld m isHeld ds
 cells-few m [] = let z = count-none m (λ c. false) (λ k l. refl) in omega arith
 cells-few m (x ∷ xs) =
     let rest = cells-few m xs in
@@ -102,37 +63,12 @@ cells-few m (x ∷ xs) =
 
 -- ---- entries, as cells of domains
 
-and-true : (a : Bool) → (a && true) ≡ a
-and-true true = refl
-and-true false = refl
-
 module _ (m e b : ℕ) (t : List ℕ) (ok : Rule m e b t) (bodies : List ℕ) where
-  depth-high : (i : ℕ) → i < e → depthOf (word1 e t i) ≤ live t
-  depth-high i l =
-      by-bool (eqb (word1 e t i) 0)
-      (λ z. let w = eqb-true (word1 e t i) 0 z in omega arith)
-      (λ z. ok .used i l (eqb-false (word1 e t i) 0 z) .high)
-
-  one-depth : (x : ℕ) → count m (λ c. isHeld (heldIn e t bodies (suc x) c)) ≡ count e (λ i. eqb (depthOf (word1 e t i)) (suc x))
-  one-depth x =
-      count-ext m (λ c. isHeld (heldIn e t bodies (suc x) c)) (λ c. holdsIn e t (suc x) c && true)
-      (λ c l. held-holds e t bodies (suc x) c ∙ sym (and-true (holdsIn e t (suc x) c)))
-      ∙ sym (count-entries m e b t ok (suc x) (omega arith) (λ w. true))
-      ∙ count-ext e (λ i. eqb (depthOf (word1 e t i)) (suc x) && true) (λ i. eqb (depthOf (word1 e t i)) (suc x)) (λ i l. and-true (eqb (depthOf (word1 e t i)) (suc x)))
-
-  from-depth : (j x : ℕ) → x + j ≡ live t → entriesIn m (tabFrom (domainIn e t bodies) x j) ≡ count e (λ i. ltb x (depthOf (word1 e t i)))
-  from-depth zero x q = sym (count-none e (λ i. ltb x (depthOf (word1 e t i))) (λ i l. le-ltb x (depthOf (word1 e t i)) (omega (arith, depth-high i l))))
-  from-depth (suc j) x q =
-      let n : suc x + j ≡ live t = omega arith in
-      rw (one-depth x, from-depth j (suc x) n) (sym (count-above e x (λ i. depthOf (word1 e t i))))
-
   -- the entries of the domains past the first x
-  pub entries-past : (x : ℕ) → x ≤ live t → entriesIn m (drop x (stateIn e t bodies .domains)) ≡ count e (λ i. ltb x (depthOf (word1 e t i)))
-  unfolding stateIn
+  pub entries-past : (x : ℕ) → x ≤ live t → countHeld m isHeld (drop x (stateIn e t bodies .domains)) ≡ count e (λ i. ltb x (depthOf (word1 e t i)))
   entries-past x l =
-      let z : 0 + x ≡ x = omega arith in
-      ap (entriesIn m) (drop-tab (domainIn e t bodies) 0 x (live t) ∙ ap (λ (y : ℕ). tabFrom (domainIn e t bodies) y (live t - x)) z)
-      ∙ from-depth (live t - x) x (omega arith)
+      held-past m e b t ok bodies (λ w. true) isHeld (λ d c. held-holds e t bodies d c ∙ sym (and-true (holdsIn e t d c))) x l
+      ∙ count-ext e (λ i. ltb x (depthOf (word1 e t i)) && true) (λ i. ltb x (depthOf (word1 e t i))) (λ i h. and-true (ltb x (depthOf (word1 e t i))))
 
   -- at most one cell is put back for each entry
   pub put-few : (d : ℕ) → 1 ≤ d → d ≤ live t → cellsPutBack m d (stateIn e t bodies) ≤ e

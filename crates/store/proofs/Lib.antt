@@ -14,5 +14,6 @@ pub mod Standing
 pub mod Bounds
 pub mod Domains
 pub mod Raw
+pub mod InUse
 pub mod Outermost
 pub mod Checked

@@ -7,7 +7,6 @@ use lib.Dec.{eqb}
 use lib.ListN.{length}
 use Rattle.words.specs.Layout.{cellsOf}
 use Rattle.words.specs.Journal.{pending}
-use Rattle.search.specs.Free.{usedSlots, copies}
 use Rattle.model.specs.State.{State}
 use Rattle.model.specs.Answer.{Report, refused, View, view}
 use Rattle.model.specs.Holdings.{Room}
@@ -57,13 +56,7 @@ orListRefused (ℕ.suc n) l = listRefused (ℕ.suc n)
 unfoldable pub listMeans : Buffers → Listed
 listMeans b = orListRefused (storeCheck (length (b .memory)) (length (b .bodies)) (b .table)) (listed (stateOf b))
 
--- ---- the room that add and advance ask for
+-- ---- m, E and B, by the lengths
 
 abbrev pub roomOf : Buffers → Room
-roomOf b = record {
-  cells = cellsOf (length (b .memory));
-  slots = slots b;
-  bodies = cellsOf (length (b .bodies));
-  used = usedSlots (slots b) (b .table);
-  copies = copies (slots b) (b .table);
-}
+roomOf b = record { cells = cellsOf (length (b .memory)); slots = slots b; bodies = cellsOf (length (b .bodies)) }
