@@ -16,32 +16,33 @@ use Rattle.words.specs.Journal.{pending, namesOk, journal, openings}
 use Rattle.words.proofs.Scan.{by-le, by-bool}
 use Rattle.words.proofs.Plans.{Each, take-stores}
 use Rattle.table.specs.Entry.{live}
-use Rattle.table.specs.Changes.{entryChanges}
 use Rattle.table.proofs.Rule.{Rule, ok-facts, ok-make}
 use Rattle.table.proofs.Agree.{ok-agree}
 use Rattle.model.specs.State.{State}
 use Rattle.model.specs.Answer.{Report, refused, done, ended, stepsOf, view}
 use Rattle.model.specs.Calls.{viewed, change, orRefuse}
 use Rattle.model.specs.Holdings.{kindNumbered, labelNumbered, newBodies, newlyHeld, relabelled, addChecks, addTo, addEffect}
-use Rattle.store.specs.Outcome.{Buffers, buffers, changePlan, outcome, leaves, perform, unless}
+use Rattle.store.specs.Outcome.{Buffers, buffers, changePlan, outcome, leaves, Call, perform, unless}
 use Rattle.store.specs.Checks.{storeCheck}
 use Rattle.store.specs.State.{stateIn, stateOf}
 use Rattle.store.specs.Calls.{openCall}
-use Rattle.store.specs.Means.{orRefused, callMeans, roomOf}
+use Rattle.store.specs.Means.{seenOf, orRefused, callMeans, roomOf, leftPending, pendingAfter, afterPending, Reopens}
 use Rattle.store.proofs.Checks.{orElse-go, orElse-stop}
 use Rattle.store.proofs.Outcome.{refuses}
 use Rattle.store.proofs.State.{state-kept}
-use Rattle.store.proofs.Means.{seenOf, by-check, store-state, store-standing}
+use Rattle.store.proofs.Means.{by-check, store-state, store-standing}
 use Rattle.store.proofs.Changes.{Spares, spared, change-performed, change-seen, change-unmade, change-reopened}
-use Rattle.store.proofs.Pending.{pendingAfter, afterPending, performed-pending, call-pending}
+use Rattle.store.proofs.Pending.{performed-pending, call-pending}
+use Rattle.store.proofs.Reopened.{change-reopens, unless-reopens}
 use Rattle.add.specs.Add.{addCheck, addBytes, addWords, addCall, addMeans}
 use Rattle.add.specs.Walking.{Ready}
+use Rattle.add.specs.Choice.{Choice, slotFor, bodyFor, changeWith, wordsWith, bytesWith, addWith, MayTake}
 use Rattle.add.proofs.Asking.{lengths, table-right, add-ready}
-use Rattle.add.proofs.Choices.{Choice, chosen, rule-after}
+use Rattle.add.proofs.Choices.{rule-after}
 use Rattle.add.proofs.Meaning.{state-after}
 use Rattle.add.proofs.Passing.{changes-ok, changes-below}
-use Rattle.add.proofs.Filling.{bytesWith, rests-with, bytes-filled, bytes-spare}
-use Rattle.add.proofs.Chosen.{lowest, words-chosen, bytes-chosen}
+use Rattle.add.proofs.Chosen.{taking, words-told, lowest, words-chosen, bytes-chosen}
+use Rattle.add.proofs.Filling.{rests-with, bytes-filled, bytes-spare}
 use Rattle.add.proofs.Numbers.{words-many, bytes-many, changed-few}
 use Rattle.add.proofs.Questions.{asked, questions-same}
 
@@ -64,15 +65,16 @@ module _ (memory bodies t : List ℕ) (yes : storeCheck (length memory) (length 
 -- ---- the call, once no question refuses it, for any choice of places
 
 module _ (memory bodies t : List ℕ) (base n k l : ℕ) (r : Ready memory bodies t base n k l)
-    (choice : Choice (slotsOf (length t)) (cellsOf (length bodies)) t base n k) where
+    {slot body : ℕ → ℕ} (choice : Choice (slotsOf (length t)) (cellsOf (length bodies)) t base n k slot body) where
   abbrev e : ℕ
   e = slotsOf (length t)
 
-  abbrev pub wordsWith : List Store
-  wordsWith = entryChanges (slotsOf (length t)) (chosen choice l)
+  -- the stores of the call that takes these places
+  abbrev words : List Store
+  words = wordsWith t base n k l slot body
 
   abbrev bytes : List Store
-  bytes = bytesWith choice memory
+  bytes = bytesWith memory t base n k body
 
   abbrev before : State
   before = stateIn (slotsOf (length t)) t bodies
@@ -83,102 +85,107 @@ module _ (memory bodies t : List ℕ) (base n k l : ℕ) (r : Ready memory bodie
   small : cellsOf (length memory) ≤ 65536
   small = lengths memory bodies t (r .store) .cells-high
 
-  pub with-names : namesOk (pairsAt (slotsOf (length t))) 0 wordsWith ≡ true
-  with-names = changes-ok e (chosen choice l)
+  pub with-names : namesOk (pairsAt (slotsOf (length t))) 0 words ≡ true
+  with-names = changes-ok e (changeWith e t base n k l slot body)
 
-  below : Each (λ s. s .at < pairsAt (slotsOf (length t))) wordsWith
-  below = changes-below e (chosen choice l)
+  below : Each (λ s. s .at < pairsAt (slotsOf (length t))) words
+  below = changes-below e (changeWith e t base n k l slot body)
 
-  with-few : length wordsWith ≤ maxPairs (slotsOf (length t))
+  with-few : length words ≤ maxPairs (slotsOf (length t))
   with-few = rw (words-many memory bodies t base n k l r choice) (omega (arith, changed-few memory bodies t base n k l r choice))
 
-  rule-whole : Rule (cellsOf (length memory)) (slotsOf (length t)) (cellsOf (length bodies)) (stores wordsWith t)
+  rule-whole : Rule (cellsOf (length memory)) (slotsOf (length t)) (cellsOf (length bodies)) (stores words t)
   rule-whole =
-      rule-after (cellsOf (length memory)) e (cellsOf (length bodies)) t (table-right memory bodies t (r .store)) long base n k l (r .inner) (r .kind) (r .label) (r .range) small
-      choice (rests-with memory bodies t base n k l r choice)
+      subst (λ (ws : List Store). Rule (cellsOf (length memory)) (slotsOf (length t)) (cellsOf (length bodies)) (stores ws t)) (words-told choice l)
+      (rule-after (cellsOf (length memory)) e (cellsOf (length bodies)) t (table-right memory bodies t (r .store)) long base n k l (r .inner) (r .kind) (r .label) (r .range) small
+      (taking choice) (rests-with memory bodies t base n k l r choice))
 
   -- the table that opening finds: its words in front of the pairs
-  head-after : (x : ℕ) → x < pairsAt (slotsOf (length t)) → getD (stores wordsWith (take (pairsAt (slotsOf (length t))) t)) x 0 ≡ getD (stores wordsWith t) x 0
-  head-after x h = ap (λ (u : List ℕ). getD u x 0) (sym (take-stores wordsWith t (pairsAt e) below)) ∙ getD-take (pairsAt e) (stores wordsWith t) x 0 h
+  head-after : (x : ℕ) → x < pairsAt (slotsOf (length t)) → getD (stores words (take (pairsAt (slotsOf (length t))) t)) x 0 ≡ getD (stores words t) x 0
+  head-after x h = ap (λ (u : List ℕ). getD u x 0) (sym (take-stores words t (pairsAt e) below)) ∙ getD-take (pairsAt e) (stores words t) x 0 h
 
   -- the new table is right
-  pub with-rule : Rule (cellsOf (length memory)) (slotsOf (length t)) (cellsOf (length bodies)) (stores wordsWith (take (pairsAt (slotsOf (length t))) t))
+  pub with-rule : Rule (cellsOf (length memory)) (slotsOf (length t)) (cellsOf (length bodies)) (stores words (take (pairsAt (slotsOf (length t))) t))
   with-rule =
       ok-facts _ _ _ _
-      (ok-agree (cellsOf (length memory)) e (cellsOf (length bodies)) (stores wordsWith (take (pairsAt e) t)) (stores wordsWith t) head-after
+      (ok-agree (cellsOf (length memory)) e (cellsOf (length bodies)) (stores words (take (pairsAt e) t)) (stores words t) head-after
       ∙ ok-make _ _ _ _ rule-whole)
 
   -- the bytes spare the bodies in use
-  pub with-spares : Each (Spares (slotsOf (length t)) (take (pairsAt (slotsOf (length t))) t)) (bytesWith choice memory)
+  pub with-spares : Each (Spares (slotsOf (length t)) (take (pairsAt (slotsOf (length t))) t)) bytes
   with-spares =
       bytes-spare memory bodies t base n k l r choice (take (pairsAt e) t) (λ i h. getD-take (pairsAt e) t (firstAt e i) 0 (omega arith)) (λ i h. getD-take (pairsAt e) t (secondAt e i) 0 (omega arith))
 
-  state-new : stateIn (slotsOf (length t)) (stores wordsWith t) (stores (bytesWith choice memory) bodies)
+  state-new : stateIn (slotsOf (length t)) (stores words t) (stores bytes bodies)
       ≡ addTo memory base n (kindNumbered k) (labelNumbered l) (stateIn (slotsOf (length t)) t bodies)
   state-new =
-      state-after (cellsOf (length memory)) e (cellsOf (length bodies)) t (table-right memory bodies t (r .store)) long base n k l (r .inner) (r .kind) (r .label) (r .range) small
-      choice (rests-with memory bodies t base n k l r choice) memory bodies (stores bytes bodies)
+      ap (λ (ws : List Store). stateIn e (stores ws t) (stores bytes bodies)) (sym (words-told choice l))
+      ∙ state-after (cellsOf (length memory)) e (cellsOf (length bodies)) t (table-right memory bodies t (r .store)) long base n k l (r .inner) (r .kind) (r .label) (r .range) small
+      (taking choice) (rests-with memory bodies t base n k l r choice) memory bodies (stores bytes bodies)
       (spared e t bytes bodies (bytes-spare memory bodies t base n k l r choice t (λ i h. refl) (λ i h. refl)))
       (bytes-filled memory bodies t base n k l r choice)
 
   -- and stands for the model's state after add
-  pub with-state : stateIn (slotsOf (length t)) (stores wordsWith (take (pairsAt (slotsOf (length t))) t)) (stores (bytesWith choice memory) bodies)
+  pub with-state : stateIn (slotsOf (length t)) (stores words (take (pairsAt (slotsOf (length t))) t)) (stores bytes bodies)
       ≡ addTo memory base n (kindNumbered k) (labelNumbered l) (stateOf (buffers memory bodies t))
   with-state =
-      state-kept (cellsOf (length memory)) e (cellsOf (length bodies)) (stores wordsWith t) (stores wordsWith (take (pairsAt e) t)) (stores bytes bodies) (stores bytes bodies) rule-whole
+      state-kept (cellsOf (length memory)) e (cellsOf (length bodies)) (stores words t) (stores words (take (pairsAt e) t)) (stores bytes bodies) (stores bytes bodies) rule-whole
       (λ i h. head-after (firstAt e i) (omega arith)) (λ i c. let h = c .slot in head-after (secondAt e i) (omega arith)) (λ i c. refl)
       (head-after liveAt (omega arith)) (head-after nextAt (omega arith)) (λ x h. let top = rule-whole .live in head-after (handleAt x) (omega arith))
       ∙ state-new
       ∙ ap (addTo memory base n (kindNumbered k) (labelNumbered l)) (sym (state-whole memory bodies t (r .store)))
 
   -- as many bytes and words as the model says
-  pub with-bytes : length (bytesWith choice memory) ≡ 64 * newBodies (kindNumbered k) (newlyHeld base n (stateOf (buffers memory bodies t)))
+  pub with-bytes : length bytes ≡ 64 * newBodies (kindNumbered k) (newlyHeld base n (stateOf (buffers memory bodies t)))
   with-bytes = bytes-many memory bodies t base n k l r choice ∙ ap (λ (s : State). 64 * newBodies (kindNumbered k) (newlyHeld base n s)) (sym (state-whole memory bodies t (r .store)))
 
-  pub with-words : length wordsWith
+  pub with-words : length words
       ≡ 2 * (newlyHeld base n (stateOf (buffers memory bodies t)) + relabelled base n (labelNumbered l) (stateOf (buffers memory bodies t)))
   with-words = words-many memory bodies t base n k l r choice ∙ ap (λ (s : State). 2 * (newlyHeld base n s + relabelled base n (labelNumbered l) s)) (sym (state-whole memory bodies t (r .store)))
 
-  pub with-seen : (budget : ℕ) → seenOf (outcome (perform (changePlan (pairsAt (slotsOf (length t))) (bytesWith choice memory) wordsWith) 0) budget (buffers memory bodies t))
+  pub with-seen : (budget : ℕ) → seenOf (outcome (perform (changePlan (pairsAt (slotsOf (length t))) bytes words) 0) budget (buffers memory bodies t))
       ≡ viewed (change (64 * newBodies (kindNumbered k) (newlyHeld base n (stateOf (buffers memory bodies t)))) (2 * (newlyHeld base n (stateOf (buffers memory bodies t)) + relabelled base n (labelNumbered l) (stateOf (buffers memory bodies t)))) 0
       (addTo memory base n (kindNumbered k) (labelNumbered l) (stateOf (buffers memory bodies t)))) budget (stateOf (buffers memory bodies t)) memory
   with-seen budget =
-      change-seen memory bodies t (r .store) bytes wordsWith with-spares with-few with-names with-rule 0 (addTo memory base n (kindNumbered k) (labelNumbered l) (stateOf (buffers memory bodies t))) with-state budget
+      change-seen memory bodies t (r .store) bytes words with-spares with-few with-names with-rule 0 (addTo memory base n (kindNumbered k) (labelNumbered l) (stateOf (buffers memory bodies t))) with-state budget
       ∙ (λ i. viewed (change (with-bytes i) (with-words i) 0 (addTo memory base n (kindNumbered k) (labelNumbered l) (stateOf (buffers memory bodies t)))) budget (stateOf (buffers memory bodies t)) memory)
 
   -- as many pairs are left pending as its effect says
-  pub with-pending : (budget : ℕ) → pending ((outcome (perform (changePlan (pairsAt (slotsOf (length t))) (bytesWith choice memory) wordsWith) 0) budget (buffers memory bodies t)) .buffers .table)
+  pub with-pending : (budget : ℕ) → pending ((outcome (perform (changePlan (pairsAt (slotsOf (length t))) bytes words) 0) budget (buffers memory bodies t)) .buffers .table)
       ≡ pendingAfter (64 * newBodies (kindNumbered k) (newlyHeld base n (stateOf (buffers memory bodies t)))) (2 * (newlyHeld base n (stateOf (buffers memory bodies t)) + relabelled base n (labelNumbered l) (stateOf (buffers memory bodies t)))) budget
   with-pending budget =
-      performed-pending memory bodies t (r .store) bytes wordsWith with-few with-names 0 budget
+      performed-pending memory bodies t (r .store) bytes words with-few with-names 0 budget
       ∙ (λ i. pendingAfter (with-bytes i) (with-words i) budget)
 
   -- ---- cuts
 
   -- in the bytes or in the pairs: opening takes no step, and the call is not made
-  pub with-unmade : (x j : ℕ) → x ≤ length bytes + 2 * length wordsWith
-      → outcome (openCall (buffers memory (stores (take x bytes) bodies) (stores (take (x - length bytes) (journal (pairsAt (slotsOf (length t))) wordsWith)) t))) j
-      (buffers memory (stores (take x bytes) bodies) (stores (take (x - length bytes) (journal (pairsAt (slotsOf (length t))) wordsWith)) t))
-      ≡ leaves (done 0 0) (buffers memory (stores (take x bytes) bodies) (stores (take (x - length bytes) (journal (pairsAt (slotsOf (length t))) wordsWith)) t))
-  with-unmade = change-unmade memory bodies t (r .store) bytes wordsWith with-spares with-few with-names with-rule
+  pub with-unmade : (x j : ℕ) → x ≤ length bytes + 2 * length words
+      → outcome (openCall (buffers memory (stores (take x bytes) bodies) (stores (take (x - length bytes) (journal (pairsAt (slotsOf (length t))) words)) t))) j
+      (buffers memory (stores (take x bytes) bodies) (stores (take (x - length bytes) (journal (pairsAt (slotsOf (length t))) words)) t))
+      ≡ leaves (done 0 0) (buffers memory (stores (take x bytes) bodies) (stores (take (x - length bytes) (journal (pairsAt (slotsOf (length t))) words)) t))
+  with-unmade = change-unmade memory bodies t (r .store) bytes words with-spares with-few with-names with-rule
 
   -- from word 6 on: opening leaves the buffers of the uncut call
-  pub with-reopened : (x j : ℕ) (ks : List ℕ) → 0 < length wordsWith → length bytes + 2 * length wordsWith < x → x ≤ length bytes + (3 * length wordsWith + 1) → Each (λ y. y ≤ length wordsWith) ks → length wordsWith < j
-      → outcome (openCall (buffers memory (stores (take x bytes) bodies) (openings (pairsAt (slotsOf (length t))) ks (stores (take (x - length bytes) (journal (pairsAt (slotsOf (length t))) wordsWith)) t)))) j
-      (buffers memory (stores (take x bytes) bodies) (openings (pairsAt (slotsOf (length t))) ks (stores (take (x - length bytes) (journal (pairsAt (slotsOf (length t))) wordsWith)) t)))
-      ≡ leaves (done (length wordsWith + 1) 0) (buffers memory (stores bytes bodies) (stores (journal (pairsAt (slotsOf (length t))) wordsWith) t))
-  with-reopened = change-reopened memory bodies t (r .store) bytes wordsWith with-spares with-few with-names with-rule
+  pub with-reopened : (x j : ℕ) (ks : List ℕ) → 0 < length words → length bytes + 2 * length words < x → x ≤ length bytes + (3 * length words + 1) → Each (λ y. y ≤ length words) ks → length words < j
+      → outcome (openCall (buffers memory (stores (take x bytes) bodies) (openings (pairsAt (slotsOf (length t))) ks (stores (take (x - length bytes) (journal (pairsAt (slotsOf (length t))) words)) t)))) j
+      (buffers memory (stores (take x bytes) bodies) (openings (pairsAt (slotsOf (length t))) ks (stores (take (x - length bytes) (journal (pairsAt (slotsOf (length t))) words)) t)))
+      ≡ leaves (done (length words + 1) 0) (buffers memory (stores bytes bodies) (stores (journal (pairsAt (slotsOf (length t))) words) t))
+  with-reopened = change-reopened memory bodies t (r .store) bytes words with-spares with-few with-names with-rule
+
+  pub with-reopens : Reopens (perform (changePlan (pairsAt (slotsOf (length t))) (bytesWith memory t base n k body) (wordsWith t base n k l slot body)) 0) (buffers memory bodies t)
+  with-reopens = change-reopens memory bodies t (r .store) bytes words with-spares with-few with-names with-rule 0
 
   -- "every other call at most 70E + 32"
-  pub with-bound : stepsOf (length bytes) (length wordsWith) ≤ 70 * slotsOf (length t) + 32
+  pub with-bound : stepsOf (length bytes) (length words) ≤ 70 * slotsOf (length t) + 32
   with-bound =
       let few = changed-few memory bodies t base n k l r choice in
       let w = words-many memory bodies t base n k l r choice in
       let b = bytes-many memory bodies t base n k l r choice in
       let new = new-bodies (newlyHeld base n before) in
-      by-le (length wordsWith) 0
-      (λ z. let q : length wordsWith ≡ 0 = omega arith in rw (eq-eqb (length wordsWith) 0 q) (omega arith))
-      (λ z. rw (ne-eqb (length wordsWith) 0 (λ q. omega arith)) (omega arith))
+      by-le (length words) 0
+      (λ z. let q : length words ≡ 0 = omega arith in rw (eq-eqb (length words) 0 q) (omega arith))
+      (λ z. rw (ne-eqb (length words) 0 (λ q. omega arith)) (omega arith))
     where
       new-bodies : (x : ℕ) → newBodies (kindNumbered k) x ≤ x
       new-bodies x = by-bool (eqb k 1) (λ p. rw p (omega arith)) (λ p. rw p (omega arith))
@@ -192,29 +199,17 @@ module _ (memory bodies t : List ℕ) (base n k l : ℕ) (r : Ready memory bodie
   abbrev bs : List Store
   bs = addBytes (cellsOf (length bodies)) memory t base n k
 
+  abbrev lowestSlot : ℕ → ℕ
+  lowestSlot = slotFor (slotsOf (length t)) t base
+
+  abbrev lowestBody : ℕ → ℕ
+  lowestBody = bodyFor (slotsOf (length t)) (cellsOf (length bodies)) t base
+
   -- a law of the stores of every choice is one of the call's
-  of-call : (P : List Store → List Store → Type 0) → P (bytesWith (lowest memory bodies t base n k l r) memory) (wordsWith memory bodies t base n k l r (lowest memory bodies t base n k l r)) → P bs ws
+  of-call : (P : List Store → List Store → Type 0) → P (bytesWith memory t base n k lowestBody) (wordsWith t base n k l lowestSlot lowestBody) → P bs ws
   of-call P h =
       subst (λ (x : List Store). P x ws) (sym (bytes-chosen memory bodies t base n k l r))
-      (subst (λ (x : List Store). P (bytesWith (lowest memory bodies t base n k l r) memory) x) (sym (words-chosen memory bodies t base n k l r)) h)
-
-  pub add-seen : (budget : ℕ) → seenOf (outcome (perform (changePlan (pairsAt (slotsOf (length t))) (addBytes (cellsOf (length bodies)) memory t base n k) (addWords (cellsOf (length bodies)) t base n k l)) 0) budget (buffers memory bodies t))
-      ≡ viewed (change (64 * newBodies (kindNumbered k) (newlyHeld base n (stateOf (buffers memory bodies t)))) (2 * (newlyHeld base n (stateOf (buffers memory bodies t)) + relabelled base n (labelNumbered l) (stateOf (buffers memory bodies t)))) 0
-      (addTo memory base n (kindNumbered k) (labelNumbered l) (stateOf (buffers memory bodies t)))) budget (stateOf (buffers memory bodies t)) memory
-  add-seen budget =
-      of-call (λ x y. seenOf (outcome (perform (changePlan (pairsAt (slotsOf (length t))) x y) 0) budget (buffers memory bodies t))
-      ≡ viewed (change (64 * newBodies (kindNumbered k) (newlyHeld base n (stateOf (buffers memory bodies t)))) (2 * (newlyHeld base n (stateOf (buffers memory bodies t)) + relabelled base n (labelNumbered l) (stateOf (buffers memory bodies t)))) 0
-      (addTo memory base n (kindNumbered k) (labelNumbered l) (stateOf (buffers memory bodies t)))) budget (stateOf (buffers memory bodies t)) memory)
-      (with-seen memory bodies t base n k l r (lowest memory bodies t base n k l r) budget)
-
-  left : (budget : ℕ) → pending ((outcome (perform (changePlan (pairsAt (slotsOf (length t))) (addBytes (cellsOf (length bodies)) memory t base n k) (addWords (cellsOf (length bodies)) t base n k l)) 0) budget (buffers memory bodies t)) .buffers .table)
-      ≡ pendingAfter (64 * newBodies (kindNumbered k) (newlyHeld base n (stateOf (buffers memory bodies t)))) (2 * (newlyHeld base n (stateOf (buffers memory bodies t)) + relabelled base n (labelNumbered l) (stateOf (buffers memory bodies t)))) budget
-  left budget =
-      of-call (λ x y. pending ((outcome (perform (changePlan (pairsAt (slotsOf (length t))) x y) 0) budget (buffers memory bodies t)) .buffers .table)
-      ≡ pendingAfter (64 * newBodies (kindNumbered k) (newlyHeld base n (stateOf (buffers memory bodies t)))) (2 * (newlyHeld base n (stateOf (buffers memory bodies t)) + relabelled base n (labelNumbered l) (stateOf (buffers memory bodies t)))) budget)
-      (with-pending memory bodies t base n k l r (lowest memory bodies t base n k l r) budget)
-
-  -- ---- cuts
+      (subst (λ (x : List Store). P (bytesWith memory t base n k lowestBody) x) (sym (words-chosen memory bodies t base n k l r)) h)
 
   abbrev pub Unmade : List Store → List Store → Type 0
   Unmade bytes words = (x j : ℕ) → x ≤ length bytes + 2 * length words
@@ -242,62 +237,112 @@ module _ (memory bodies t : List ℕ) (base n k l : ℕ) (r : Ready memory bodie
       of-call (λ x y. stepsOf (length x) (length y) ≤ 70 * slotsOf (length t) + 32)
       (with-bound memory bodies t base n k l r (lowest memory bodies t base n k l r))
 
--- ---- what the call means
+-- ---- the call made with any choice of places
 
-module _ (h base n k l : ℕ) where
-  abbrev goal : (words-say state-says budget : ℕ) → Buffers → Type 0
-  goal q s budget b =
-      seenOf (outcome (unless q (perform (changePlan (pairsAt (slotsOf (length (b .table)))) (addBytes (cellsOf (length (b .bodies))) (b .memory) (b .table) base n k) (addWords (cellsOf (length (b .bodies))) (b .table) base n k l)) 0)) budget b)
+-- the questions on the words, those on the shape passed, and on the state
+module _ (h base n k l : ℕ) (b : Buffers) where
+  rest : ℕ
+  rest = asked (b .memory) (slotsOf (length (b .table))) (b .table) (b .bodies) h base n k l (cellsOf (length (b .memory))) (cellsOf (length (b .bodies)))
+
+  stops : (x : ℕ) → storeCheck (length (b .memory)) (length (b .bodies)) (b .table) ≡ suc x → addCheck (b .memory) (b .bodies) (b .table) h base n k l ≡ suc x
+  unfolding addCheck
+  stops x q = orElse-stop _ _ (λ z. omega (arith, z, q)) ∙ q
+
+  module _ (good : storeCheck (length (b .memory)) (length (b .bodies)) (b .table) ≡ 0) where
+    checks-rest : addCheck (b .memory) (b .bodies) (b .table) h base n k l ≡ rest
+    unfolding addCheck rest
+    checks-rest = orElse-go _ _ good
+
+    same-rest : rest ≡ addChecks (roomOf b) (b .memory) h base n k l (stateOf b)
+    unfolding rest
+    same-rest =
+        questions-same (b .memory) (slotsOf (length (b .table))) (b .table) (b .bodies) h base n k l (cellsOf (length (b .memory))) (cellsOf (length (b .bodies)))
+        (table-right (b .memory) (b .bodies) (b .table) good)
+        ∙ ap (addChecks (roomOf b) (b .memory) h base n k l) (sym (state-whole (b .memory) (b .bodies) (b .table) good))
+
+module _ (h base n k l : ℕ) (b : Buffers) (slot body : ℕ → ℕ) (may : MayTake h base n k l b slot body) where
+  abbrev plan-with : Call
+  plan-with =
+      perform (changePlan (pairsAt (slotsOf (length (b .table)))) (bytesWith (b .memory) (b .table) base n k body) (wordsWith (b .table) base n k l slot body)) 0
+
+  abbrev goal : (words-say state-says budget : ℕ) → Type 0
+  goal q s budget =
+      seenOf (outcome (unless q plan-with) budget b)
       ≡ viewed (orRefuse s (change (64 * newBodies (kindNumbered k) (newlyHeld base n (stateOf b))) (2 * (newlyHeld base n (stateOf b) + relabelled base n (labelNumbered l) (stateOf b))) 0
       (addTo (b .memory) base n (kindNumbered k) (labelNumbered l) (stateOf b)))) budget (stateOf b) (b .memory)
 
-  -- the questions on the words, those on the shape passed
-  rest : Buffers → ℕ
-  rest b = asked (b .memory) (slotsOf (length (b .table))) (b .table) (b .bodies) h base n k l (cellsOf (length (b .memory))) (cellsOf (length (b .bodies)))
+  abbrev check : ℕ
+  check = addCheck (b .memory) (b .bodies) (b .table) h base n k l
 
-  checks-rest : (b : Buffers) → storeCheck (length (b .memory)) (length (b .bodies)) (b .table) ≡ 0 → addCheck (b .memory) (b .bodies) (b .table) h base n k l ≡ rest b
-  unfolding addCheck rest
-  checks-rest b good = orElse-go _ _ good
+  ready : check ≡ 0 → Ready (b .memory) (b .bodies) (b .table) base n k l
+  ready = add-ready (b .memory) (b .bodies) (b .table) h base n k l
 
-  same-rest : (b : Buffers) → storeCheck (length (b .memory)) (length (b .bodies)) (b .table) ≡ 0 → rest b ≡ addChecks (roomOf b) (b .memory) h base n k l (stateOf b)
-  unfolding rest
-  same-rest b good =
-      questions-same (b .memory) (slotsOf (length (b .table))) (b .table) (b .bodies) h base n k l (cellsOf (length (b .memory))) (cellsOf (length (b .bodies)))
-      (table-right (b .memory) (b .bodies) (b .table) good)
-      ∙ ap (addChecks (roomOf b) (b .memory) h base n k l) (sym (state-whole (b .memory) (b .bodies) (b .table) good))
-
-  passed : (budget : ℕ) (b : Buffers) → storeCheck (length (b .memory)) (length (b .bodies)) (b .table) ≡ 0
-      → goal (addCheck (b .memory) (b .bodies) (b .table) h base n k l) (addChecks (roomOf b) (b .memory) h base n k l (stateOf b)) budget b
+  passed : (budget : ℕ) → storeCheck (length (b .memory)) (length (b .bodies)) (b .table) ≡ 0
+      → goal (addCheck (b .memory) (b .bodies) (b .table) h base n k l) (addChecks (roomOf b) (b .memory) h base n k l (stateOf b)) budget
   unfolding outcome
-  passed budget b good =
-      subst (λ (s : ℕ). goal (addCheck (b .memory) (b .bodies) (b .table) h base n k l) s budget b) (checks-rest b good ∙ same-rest b good)
-      (by-check (λ q. q ≡ addCheck (b .memory) (b .bodies) (b .table) h base n k l → goal q q budget b) (addCheck (b .memory) (b .bodies) (b .table) h base n k l)
+  passed budget good =
+      subst (λ (s : ℕ). goal check s budget) (checks-rest h base n k l b good ∙ same-rest h base n k l b good)
+      (by-check (λ q. q ≡ check → goal q q budget) check
       (λ x q w. ap (λ (s : Option State). view (refused (suc x)) s (b .memory)) (store-standing (b .memory) (b .bodies) (b .table) good))
-      (λ q w. add-seen (b .memory) (b .bodies) (b .table) base n k l (add-ready (b .memory) (b .bodies) (b .table) h base n k l q) budget)
+      (λ q w. with-seen (b .memory) (b .bodies) (b .table) base n k l (ready q) (may q) budget)
       refl)
 
-  stops : (b : Buffers) (x : ℕ) → storeCheck (length (b .memory)) (length (b .bodies)) (b .table) ≡ suc x → addCheck (b .memory) (b .bodies) (b .table) h base n k l ≡ suc x
-  unfolding addCheck
-  stops b x q = orElse-stop _ _ (λ z. omega (arith, z, q)) ∙ q
-
-  pub add-means : (budget : ℕ) (b : Buffers) → seenOf (outcome (addCall h base n k l b) budget b) ≡ addMeans h base n k l budget b
-  unfolding addCall callMeans
-  add-means budget b =
+  -- what is seen of it, at every budget, is what add means
+  pub add-with-means : (budget : ℕ) → seenOf (outcome (addWith slot body h base n k l b) budget b) ≡ addMeans h base n k l budget b
+  unfolding addWith callMeans
+  add-with-means budget =
       by-check (λ q. storeCheck (length (b .memory)) (length (b .bodies)) (b .table) ≡ q
-      → seenOf (outcome (addCall h base n k l b) budget b) ≡ orRefused q b (viewed (addEffect (roomOf b) (b .memory) h base n k l (stateOf b)) budget (stateOf b) (b .memory)))
+      → seenOf (outcome (addWith slot body h base n k l b) budget b) ≡ orRefused q b (viewed (addEffect (roomOf b) (b .memory) h base n k l (stateOf b)) budget (stateOf b) (b .memory)))
       (storeCheck (length (b .memory)) (length (b .bodies)) (b .table))
-      (λ x q w. ap seenOf (sym (refuses (suc x) (addCheck (b .memory) (b .bodies) (b .table) h base n k l) _ budget b (sym (stops b x w)) (λ z. omega arith))))
-      (λ q w. passed budget b w)
+      (λ x q w. ap seenOf (sym (refuses (suc x) check _ budget b (sym (stops h base n k l b x w)) (λ z. omega arith))))
+      (λ q w. passed budget w)
       refl
 
--- ---- the pairs that it leaves pending, at every budget
+  module _ (good : storeCheck (length (b .memory)) (length (b .bodies)) (b .table) ≡ 0) where
+    -- the pairs that it leaves pending
+    pub add-with-pending : (budget : ℕ) → leftPending (outcome (addWith slot body h base n k l b) budget b) ≡ afterPending (addEffect (roomOf b) (b .memory) h base n k l (stateOf b)) budget
+    unfolding addWith
+    add-with-pending budget =
+        call-pending budget b good _ _ _ _ (checks-rest h base n k l b good ∙ same-rest h base n k l b good)
+        (λ q. with-pending (b .memory) (b .bodies) (b .table) base n k l (ready q) (may q) budget)
 
+    -- and what opening finds after every cut of it
+    pub add-with-reopens : Reopens (addWith slot body h base n k l b) b
+    unfolding addWith
+    add-with-reopens = unless-reopens b good check plan-with (λ q. with-reopens (b .memory) (b .bodies) (b .table) base n k l (ready q) (may q))
+
+-- ---- the contract's call, which takes the lowest free slots and bodies
+
+module _ (h base n k l : ℕ) (b : Buffers) where
+  -- they were free before the call, and differ
+  pub add-takes : MayTake h base n k l b (slotFor (slotsOf (length (b .table))) (b .table) base) (bodyFor (slotsOf (length (b .table))) (cellsOf (length (b .bodies))) (b .table) base)
+  add-takes pass = lowest (b .memory) (b .bodies) (b .table) base n k l (add-ready (b .memory) (b .bodies) (b .table) h base n k l pass)
+
+  pub add-is : addCall h base n k l b
+      ≡ addWith (slotFor (slotsOf (length (b .table))) (b .table) base) (bodyFor (slotsOf (length (b .table))) (cellsOf (length (b .bodies))) (b .table) base) h base n k l b
+  unfolding addCall addWith
+  add-is =
+      by-check (λ q. (q ≡ 0 → addCheck (b .memory) (b .bodies) (b .table) h base n k l ≡ 0)
+      → unless q (perform (changePlan (pairsAt (slotsOf (length (b .table)))) (addBytes (cellsOf (length (b .bodies))) (b .memory) (b .table) base n k) (addWords (cellsOf (length (b .bodies))) (b .table) base n k l)) 0)
+      ≡ unless q (perform (changePlan (pairsAt (slotsOf (length (b .table))))
+      (bytesWith (b .memory) (b .table) base n k (bodyFor (slotsOf (length (b .table))) (cellsOf (length (b .bodies))) (b .table) base))
+      (wordsWith (b .table) base n k l (slotFor (slotsOf (length (b .table))) (b .table) base) (bodyFor (slotsOf (length (b .table))) (cellsOf (length (b .bodies))) (b .table) base))) 0))
+      (addCheck (b .memory) (b .bodies) (b .table) h base n k l)
+      (λ x q go. refl)
+      (λ q go.
+      let r = add-ready (b .memory) (b .bodies) (b .table) h base n k l (go refl) in
+      λ i. perform (changePlan (pairsAt (slotsOf (length (b .table)))) (bytes-chosen (b .memory) (b .bodies) (b .table) base n k l r i) (words-chosen (b .memory) (b .bodies) (b .table) base n k l r i)) 0)
+      (λ q. q)
+
+pub add-means : (h base n k l budget : ℕ) (b : Buffers) → seenOf (outcome (addCall h base n k l b) budget b) ≡ addMeans h base n k l budget b
+add-means h base n k l budget b =
+    ap (λ (c : Call). seenOf (outcome c budget b)) (add-is h base n k l b) ∙ add-with-means h base n k l b _ _ (add-takes h base n k l b) budget
+
+-- the pairs that it leaves pending, at every budget
 pub add-pending : (h base n k l budget : ℕ) (b : Buffers) → storeCheck (length (b .memory)) (length (b .bodies)) (b .table) ≡ 0
     → pending ((outcome (addCall h base n k l b) budget b) .buffers .table) ≡ afterPending (addEffect (roomOf b) (b .memory) h base n k l (stateOf b)) budget
-unfolding addCall
 add-pending h base n k l budget b good =
-    call-pending budget b good _ _ _ _ (checks-rest h base n k l b good ∙ same-rest h base n k l b good)
-    (λ q. left (b .memory) (b .bodies) (b .table) base n k l (add-ready (b .memory) (b .bodies) (b .table) h base n k l q) budget)
+    ap (λ (c : Call). leftPending (outcome c budget b)) (add-is h base n k l b) ∙ add-with-pending h base n k l b _ _ (add-takes h base n k l b) good budget
 
 -- ---- what the code cites
 

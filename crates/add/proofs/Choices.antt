@@ -1,20 +1,19 @@
 -- Add over any choice of free slots and bodies for the new cells: the table that it leaves is right. Assumes nothing.
-use Prim.Native.Nat.{ℕ, zero, suc, _+_, _-_, _*_, _/_, _%_, _≤_, _<_}
-use mathlib.Core.Bool.{Bool, true, false, cond, not, _&&_}
+use Prim.Native.Nat.{ℕ, _+_, _-_, _≤_, _<_}
+use mathlib.Core.Bool.{Bool, true, false, cond, _&&_}
 use mathlib.Core.List.{List}
 use mathlib.Core.Path.{_≡_, refl, sym, ap, subst, _∙_}
 use native.Mathlib.Omega.{arith}
-use borrow.Author.Tests.{eq-eqb, ne-eqb, eqb-true, eqb-false, leb-true, ltb-true, le-leb, lt-ltb}
+use borrow.Author.Tests.{eq-eqb, eqb-true, leb-true, ltb-true, le-leb, lt-ltb}
 use lib.Dec.{leb, ltb, eqb}
 use lib.ListN.{length, getD}
 use Rattle.words.specs.Layout.{liveAt, nextAt, handleAt, pairsAt, maxLive, maxCells}
-use Rattle.words.specs.Stores.{Store, stores}
-use Rattle.words.proofs.Scan.{by-bool, and-split, and-join, is-false, true≢}
-use Rattle.table.specs.Entry.{live, nextHandle, handle, word1, word2, depthOf, writableOf, viaOf, unusedOf, cellOf, parent, names, findIn, holdsIn}
+use Rattle.words.specs.Stores.{stores}
+use Rattle.words.proofs.Scan.{by-bool, and-split, and-join, is-false}
+use Rattle.table.specs.Entry.{live, word1, word2, depthOf, writableOf, viaOf, unusedOf, cellOf, parent, names, findIn, holdsIn}
 use Rattle.table.specs.Rule.{handleOk}
-use Rattle.table.specs.Marks.{IsCopy}
 use Rattle.table.specs.Changes.{Change, keep, put, newFirst, newSecond, entryChanges}
-use Rattle.table.proofs.Entry.{find-some, find-hit, find-ext, names-both, names-make, holds-true, holds-false, holds-found, holds-none}
+use Rattle.table.proofs.Entry.{find-some, find-ext, names-both, holds-none}
 use Rattle.table.proofs.Rule.{Rule, Used, Apart}
 use Rattle.table.proofs.Entries.{first-changed, second-changed, head-unchanged}
 use Rattle.search.specs.Free.{bodyFree}
@@ -124,9 +123,9 @@ rises-free d base n l low = is-false (rises d base n l 0) (λ h. let r = rises-f
     never : (d : ℕ) → 1 ≤ d → depthOf 0 ≡ d → ⊥
     never d p q = omega arith
 
--- ---- a choice of slots and bodies: the new cells go into different free slots, as copies with different free bodies
+-- ---- a choice of slots and bodies, told slot by slot: the new cells go into different free slots, as copies with different free bodies
 
-pub record Choice (e b : ℕ) (t : List ℕ) (base n k : ℕ) : Type 0 where
+pub record Taking (e b : ℕ) (t : List ℕ) (base n k : ℕ) : Type 0 where
   -- does slot i take a cell, and which, with which body?
   pub taken : ℕ → Bool
   pub cell : ℕ → ℕ
@@ -142,12 +141,12 @@ pub record Choice (e b : ℕ) (t : List ℕ) (base n k : ℕ) : Type 0 where
   pub bodiless : k ≡ 1 → (i : ℕ) → i < e → taken i ≡ true → body i ≡ 0
 
 -- the change of entry i
-unfoldable pub chosen : {e b : ℕ} {t : List ℕ} {base n k : ℕ} → Choice e b t base n k → (l i : ℕ) → Change
+unfoldable pub chosen : {e b : ℕ} {t : List ℕ} {base n k : ℕ} → Taking e b t base n k → (l i : ℕ) → Change
 chosen {e} {b} {t} {base} {n} {k} choice l i =
     cond (choice .taken i) (put (wordOf (live t) k l (choice .cell i)) (choice .body i)) (raiseChange (live t) base n l (word1 e t i) (word2 e t i))
 
 module _ (m e b : ℕ) (t : List ℕ) (ok : Rule m e b t) (long : pairsAt e ≤ length t) (base n k l : ℕ)
-    (inner : 1 ≤ live t) (kind : k ≤ 1) (label : l ≤ 1) (range : base + n ≤ m) (small : m ≤ maxCells) (choice : Choice e b t base n k) where
+    (inner : 1 ≤ live t) (kind : k ≤ 1) (label : l ≤ 1) (range : base + n ≤ m) (small : m ≤ maxCells) (choice : Taking e b t base n k) where
   -- the table that add leaves
   abbrev pub after : List ℕ
   after = stores (entryChanges e (chosen choice l)) t

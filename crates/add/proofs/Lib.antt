@@ -7,8 +7,8 @@ pub mod Asking
 pub mod Walks
 pub mod Passing
 pub mod Skipping
-pub mod Filling
 pub mod Chosen
+pub mod Filling
 pub mod Numbers
 pub mod Questions
 pub mod Added

@@ -25,7 +25,7 @@ use Rattle.store.proofs.State.{found, value-is, holding-only}
 use Rattle.store.proofs.Domains.{innermost-state, state-holding, domains-count}
 use Rattle.add.specs.Walking.{wordOf, rises, raiseChange}
 use Rattle.add.proofs.Choices as at
-use Rattle.add.proofs.Choices.{Choice, chosen, Alike, Rises, rises-facts, rises-make, raise-yes, raise-no}
+use Rattle.add.proofs.Choices.{Taking, chosen, Alike, Rises, rises-facts, rises-make, raise-yes, raise-no}
 
 -- ---- labels
 
@@ -51,7 +51,7 @@ label-raised d base n l w v small here within =
     (λ q. rw q)))
 
 module _ (m e b : ℕ) (t : List ℕ) (ok : Rule m e b t) (long : pairsAt e ≤ length t) (base n k l : ℕ)
-    (inner : 1 ≤ live t) (kind : k ≤ 1) (label : l ≤ 1) (range : base + n ≤ m) (small : m ≤ maxCells) (choice : Choice e b t base n k)
+    (inner : 1 ≤ live t) (kind : k ≤ 1) (label : l ≤ 1) (range : base + n ≤ m) (small : m ≤ maxCells) (choice : Taking e b t base n k)
     (rests : k ≡ 1 → (i : ℕ) → i < e → choice .taken i ≡ true → (2 ≤ live t) × (findIn e t (parent (live t)) (choice .cell i) < e)) where
   abbrev u : List ℕ
   u = stores (entryChanges e (chosen choice l)) t

@@ -12,7 +12,7 @@ use Rattle.words.specs.Layout.{cellsOf, slotsOf}
 use Rattle.words.specs.Scan.{count}
 use Rattle.words.proofs.Scan.{by-bool, by-le, and-split, true≢, count-ext, count-le}
 use Rattle.table.specs.Entry.{live, word1, writableOf, cellOf, parent, findIn, holdsIn}
-use Rattle.table.specs.Changes.{isChanged, entryChanges}
+use Rattle.table.specs.Changes.{isChanged}
 use Rattle.table.proofs.Entry.{find-hit, holds-found}
 use Rattle.table.proofs.Rule.{Rule}
 use Rattle.table.proofs.Entries.{changes-count}
@@ -25,10 +25,12 @@ use Rattle.store.proofs.Domains.{state-holding, state-zero, domains-count, held
 use Rattle.store.proofs.InUse.{count-none}
 use Rattle.add.specs.Add.{isNew, parentHas}
 use Rattle.add.specs.Walking.{rises, raiseChange, Ready}
+use Rattle.add.specs.Choice.{Choice, wordsWith, bytesWith}
 use Rattle.add.proofs.Asking.{table-right}
-use Rattle.add.proofs.Choices.{Choice, chosen, rises-free}
+use Rattle.add.proofs.Choices.{Taking, chosen, rises-free}
+use Rattle.add.proofs.Chosen.{taking, words-told}
 use Rattle.add.proofs.Counting.{count-or, count-range}
-use Rattle.add.proofs.Filling.{bytesWith, taken-many, bytes-length}
+use Rattle.add.proofs.Filling.{taken-many, bytes-length}
 
 -- ---- the state of a table's words
 
@@ -89,7 +91,11 @@ module _ (e : ℕ) (t bodies : List ℕ) (inner : 1 ≤ live t) where
 -- ---- how many bytes and words
 
 module _ (memory bodies t : List ℕ) (base n k l : ℕ) (r : Ready memory bodies t base n k l)
-    (choice : Choice (slotsOf (length t)) (cellsOf (length bodies)) t base n k) where
+    {slot body : ℕ → ℕ} (choice : Choice (slotsOf (length t)) (cellsOf (length bodies)) t base n k slot body) where
+  -- slot by slot
+  abbrev told : Taking (slotsOf (length t)) (cellsOf (length bodies)) t base n k
+  told = taking choice
+
   abbrev e : ℕ
   e = slotsOf (length t)
 
@@ -99,10 +105,10 @@ module _ (memory bodies t : List ℕ) (base n k l : ℕ) (r : Ready memory bodie
   right : Rule (cellsOf (length memory)) (slotsOf (length t)) (cellsOf (length bodies)) t
   right = table-right memory bodies t (r .store)
 
-  changed-is : (i : ℕ) → isChanged (chosen choice l i) ≡ (choice .taken i || rises (live t) base n l (word1 (slotsOf (length t)) t i))
+  changed-is : (i : ℕ) → isChanged (chosen told l i) ≡ (told .taken i || rises (live t) base n l (word1 (slotsOf (length t)) t i))
   unfolding chosen raiseChange
   changed-is i =
-      by-bool (choice .taken i) (λ p. rw p)
+      by-bool (told .taken i) (λ p. rw p)
       (λ p. by-bool (up i) (λ q. rw (p, q)) (λ q. rw (p, q)))
 
   raised-many : count (slotsOf (length t)) (λ i. rises (live t) base n l (word1 (slotsOf (length t)) t i)) ≡ relabelled base n (labelNumbered l) (stateIn (slotsOf (length t)) t bodies)
@@ -118,17 +124,18 @@ module _ (memory bodies t : List ℕ) (base n k l : ℕ) (r : Ready memory bodie
       ∙ count-range base Q (cellsOf (length memory)) n (r .range)
       ∙ sym (relabelled-is e t bodies (r .inner) base n l (r .label))
 
-  pub words-many : length (entryChanges (slotsOf (length t)) (chosen choice l))
+  pub words-many : length (wordsWith t base n k l slot body)
       ≡ 2 * (newlyHeld base n (stateIn (slotsOf (length t)) t bodies) + relabelled base n (labelNumbered l) (stateIn (slotsOf (length t)) t bodies))
   words-many =
-      changes-count e (chosen choice l)
+      ap length (sym (words-told choice l))
+      ∙ changes-count e (chosen told l)
       ∙ ap (λ (x : ℕ). 2 * x)
-      (count-ext e (λ i. isChanged (chosen choice l i)) (λ i. choice .taken i || up i) (λ i h. changed-is i)
-      ∙ count-or e (choice .taken) up
-      (λ i h p q. true≢ q (rw (choice .free i h p) (rises-free (live t) base n l (r .inner))))
+      (count-ext e (λ i. isChanged (chosen told l i)) (λ i. told .taken i || up i) (λ i h. changed-is i)
+      ∙ count-or e (told .taken) up
+      (λ i h p q. true≢ q (rw (told .free i h p) (rises-free (live t) base n l (r .inner))))
       ∙ rw (taken-many memory bodies t base n k l r choice, raised-many, newly-is e t bodies (r .inner) base n))
 
-  pub bytes-many : length (bytesWith choice memory) ≡ 64 * newBodies (kindNumbered k) (newlyHeld base n (stateIn (slotsOf (length t)) t bodies))
+  pub bytes-many : length (bytesWith memory t base n k body) ≡ 64 * newBodies (kindNumbered k) (newlyHeld base n (stateIn (slotsOf (length t)) t bodies))
   bytes-many =
       bytes-length memory bodies t base n k l r choice
       ∙ rw (newly-is e t bodies (r .inner) base n)
@@ -140,5 +147,5 @@ module _ (memory bodies t : List ℕ) (base n k l : ℕ) (r : Ready memory bodie
   pub changed-few : newlyHeld base n (stateIn (slotsOf (length t)) t bodies) + relabelled base n (labelNumbered l) (stateIn (slotsOf (length t)) t bodies) ≤ slotsOf (length t)
   changed-few =
       let many = words-many in
-      let c = changes-count e (chosen choice l) in
-      omega (arith, count-le e (λ i. isChanged (chosen choice l i)))
+      let c = sym (ap length (words-told choice l)) ∙ changes-count e (chosen told l) in
+      omega (arith, count-le e (λ i. isChanged (chosen told l i)))

@@ -1,3 +1,4 @@
 -- The definitions that the contracts of `add` cite.
 pub mod Add
 pub mod Walking
+pub mod Choice

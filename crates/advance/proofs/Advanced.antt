@@ -11,14 +11,14 @@ use lib.Dec.{leb, ltb, eqb}
 use lib.ListN.{length, take}
 use Rattle.words.specs.Layout.{cellsOf, slotsOf, pairsAt}
 use Rattle.words.specs.Scan.{all, count}
-use Rattle.words.specs.Stores.{Store, stores, gather}
+use Rattle.words.specs.Stores.{Store, stores}
 use Rattle.words.specs.Journal.{pending, namesOk, journal, journalSteps, openings}
 use Rattle.words.proofs.Scan.{by-bool, by-le, all-ext, count-ext, count-le}
 use Rattle.words.proofs.Plans.{Each}
 use Rattle.words.proofs.Names.{names-make, names-below}
 use Rattle.words.proofs.Places.{pendingAt-below}
 use Rattle.table.specs.Entry.{live, word2, parent, holdsIn}
-use Rattle.table.specs.Changes.{isChanged, entryChanges}
+use Rattle.table.specs.Changes.{isChanged}
 use Rattle.table.proofs.Rule.{Rule}
 use Rattle.table.proofs.Entries.{changes-count, changes-names}
 use Rattle.search.specs.Domain.{depthNamed}
@@ -29,22 +29,24 @@ use Rattle.model.specs.State.{State}
 use Rattle.model.specs.Answer.{Report, done, refused, ended, ask, orElse, view, stepsOf}
 use Rattle.model.specs.Calls.{viewed, change, orRefuse}
 use Rattle.model.specs.Holdings.{named, holdingAt, isHeld, heldWritable, copiesInUse, advance, writableCells, parentCovers, advanceChecks, advanceEffect}
-use Rattle.store.specs.Outcome.{Buffers, buffers, changePlan, outcome, leaves, perform, unless}
+use Rattle.store.specs.Outcome.{Buffers, buffers, changePlan, outcome, leaves, Call, perform, unless}
 use Rattle.store.specs.Checks.{storeCheck}
 use Rattle.store.specs.State.{stateIn, stateOf}
 use Rattle.store.specs.Calls.{openCall}
-use Rattle.store.specs.Means.{orRefused, callMeans, roomOf}
+use Rattle.store.specs.Means.{seenOf, orRefused, callMeans, roomOf, leftPending, pendingAfter, afterPending, Reopens}
 use Rattle.store.proofs.Checks.{ask-yes, ask-stop, ask-rest, orElse-both, orElse-go, shape-facts, store-shape}
 use Rattle.store.proofs.Outcome.{refuses}
 use Rattle.store.proofs.Domains.{state-named, state-holding, domains-count, held-holds, held-writable}
 use Rattle.store.proofs.InUse.{copies-in-use}
-use Rattle.store.proofs.Means.{seenOf, by-check, t-long, store-standing}
+use Rattle.store.proofs.Means.{by-check, t-long, store-standing}
 use Rattle.store.proofs.Changes.{Spares, change-performed, change-seen, change-unmade, change-reopened}
-use Rattle.store.proofs.Pending.{pendingAfter, afterPending, performed-pending, call-pending}
+use Rattle.store.proofs.Pending.{performed-pending, call-pending}
+use Rattle.store.proofs.Reopened.{change-reopens, unless-reopens}
+use Rattle.advance.specs.Choice.{Choice, changeWith, bytesWith, wordsWith, advanceWith, MayTake}
 use Rattle.advance.specs.Advance.{advances, advanceCheck, bodyFor, advanceChange, advanceWords, advanceBytes, advanceCall, advanceMeans}
 use Rattle.store.proofs.Raw.{raw-rule, raw-state, raw-next, raw-after, front-copy, front-second}
-use Rattle.advance.proofs.Copying.{Outside, plan, cell-kept, copies-length, copies-outside, copies-stored}
-use Rattle.advance.proofs.Turning.{changeWith, Choice, advances-cell, words-count, turned-rule, turned-state}
+use Rattle.advance.proofs.Copying.{Outside, cell-kept, copies-length, copies-outside, copies-stored}
+use Rattle.advance.proofs.Turning.{advances-cell, words-count, takes-below, takes-free, takes-own, turned-rule, turned-state}
 use Rattle.advance.proofs.Choosing.{chosen}
 use Rattle.advance.proofs.Noting.{cellsCheck}
 
@@ -56,7 +58,7 @@ each-spares e t (p ∷ ps) h = ((λ i c. h i c .0), each-spares e t ps (λ i c. 
 -- ---- for any choice of bodies
 
 module _ (memory bodies t : List ℕ) (yes : storeCheck (length memory) (length bodies) t ≡ 0) (low : 1 ≤ live t) (body : ℕ → ℕ)
-    (choice : Choice (slotsOf (length t)) (cellsOf (length bodies)) t body) where
+    (choice : Choice (cellsOf (length memory)) (slotsOf (length t)) (cellsOf (length bodies)) t body) where
   abbrev m : ℕ
   m = cellsOf (length memory)
 
@@ -69,11 +71,12 @@ module _ (memory bodies t : List ℕ) (yes : storeCheck (length memory) (length 
   abbrev head : List ℕ
   head = take (pairsAt (slotsOf (length t))) t
 
-  abbrev pub bytesWith : List Store
-  bytesWith = gather (cellsOf (length memory)) (plan memory (advances (slotsOf (length t)) t) body)
+  -- the stores of the call that takes these bodies
+  abbrev bytes : List Store
+  bytes = bytesWith (cellsOf (length memory)) memory t body
 
-  abbrev pub wordsWith : List Store
-  wordsWith = entryChanges (slotsOf (length t)) (changeWith (slotsOf (length t)) t body)
+  abbrev words : List Store
+  words = wordsWith t body
 
   ok : Rule m e b t
   ok = raw-rule memory bodies t yes
@@ -82,89 +85,92 @@ module _ (memory bodies t : List ℕ) (yes : storeCheck (length memory) (length 
   long = omega (arith, t-long memory bodies t yes)
 
   -- the bytes keep out of the bodies in use
-  outside : (i : ℕ) → Copy e t i → Each (Outside (word2 e t i)) bytesWith
+  outside : (i : ℕ) → Copy e t i → Each (Outside (word2 e t i)) bytes
   outside i c =
       copies-outside memory (advances e t) body m (word2 e t i)
-      (λ k l goes q. choice .free k goes i (c .slot) (c .used, c .copy) q)
+      (λ k l goes q. takes-free m e b t ok body choice k goes i (c .slot) (c .used, c .copy) q)
 
-  pub with-spares : Each (Spares (slotsOf (length t)) (take (pairsAt (slotsOf (length t))) t)) bytesWith
+  pub with-spares : Each (Spares (slotsOf (length t)) (take (pairsAt (slotsOf (length t))) t)) bytes
   with-spares =
-      each-spares e head bytesWith (λ i c.
+      each-spares e head bytes (λ i c.
       let old = front-copy e t i c in
-      subst (λ (k : ℕ). Each (Outside k) bytesWith) (sym (front-second e t i (c .slot))) (outside i old))
+      subst (λ (k : ℕ). Each (Outside k) bytes) (sym (front-second e t i (c .slot))) (outside i old))
 
-  pub with-bytes : length bytesWith ≡ 64 * count (cellsOf (length memory)) (advances (slotsOf (length t)) t)
+  pub with-bytes : length bytes ≡ 64 * count (cellsOf (length memory)) (advances (slotsOf (length t)) t)
   with-bytes = copies-length memory (advances e t) body m
 
-  pub with-words : length wordsWith ≡ 2 * count (cellsOf (length memory)) (advances (slotsOf (length t)) t)
+  pub with-words : length words ≡ 2 * count (cellsOf (length memory)) (advances (slotsOf (length t)) t)
   with-words = words-count m e b t ok body low
 
-  with-few : length wordsWith ≤ 2 * e
+  with-few : length words ≤ 2 * e
   with-few = omega (arith, changes-count e (changeWith e t body), count-le e (λ i. isChanged (changeWith e t body i)))
 
-  pub with-names : namesOk (pairsAt (slotsOf (length t))) 0 wordsWith ≡ true
+  pub with-names : namesOk (pairsAt (slotsOf (length t))) 0 words ≡ true
   with-names = changes-names e (changeWith e t body) [] (names-make (pairsAt e) 0 [] tt tt tt) tt
 
-  below : Each (λ s. s .at < pairsAt (slotsOf (length t))) wordsWith
-  below = names-below (pairsAt e) 0 wordsWith (pendingAt-below e) with-names
+  below : Each (λ s. s .at < pairsAt (slotsOf (length t))) words
+  below = names-below (pairsAt e) 0 words (pendingAt-below e) with-names
 
   -- the new table is right
-  pub with-rule : Rule (cellsOf (length memory)) (slotsOf (length t)) (cellsOf (length bodies)) (stores wordsWith (take (pairsAt (slotsOf (length t))) t))
-  with-rule = raw-next memory bodies t yes wordsWith below (turned-rule m e b t ok long body choice)
+  pub with-rule : Rule (cellsOf (length memory)) (slotsOf (length t)) (cellsOf (length bodies)) (stores words (take (pairsAt (slotsOf (length t))) t))
+  with-rule = raw-next memory bodies t yes words below (turned-rule m e b t ok long body choice)
 
   -- and stands for the model's state
-  pub with-state : stateIn (slotsOf (length t)) (stores wordsWith (take (pairsAt (slotsOf (length t))) t)) (stores bytesWith bodies) ≡ advance memory (stateOf (buffers memory bodies t))
+  pub with-state : stateIn (slotsOf (length t)) (stores words (take (pairsAt (slotsOf (length t))) t)) (stores bytes bodies) ≡ advance memory (stateOf (buffers memory bodies t))
   with-state =
       let f = shape-facts (length memory) (length bodies) t (store-shape (length memory) (length bodies) t yes) in
-      raw-after memory bodies t yes wordsWith below (turned-rule m e b t ok long body choice) (stores bytesWith bodies)
-      ∙ turned-state m e b t ok long body choice memory bodies (stores bytesWith bodies)
-      (λ i c. cell-kept bytesWith bodies (word2 e t i) (outside i c))
+      raw-after memory bodies t yes words below (turned-rule m e b t ok long body choice) (stores bytes bodies)
+      ∙ turned-state m e b t ok long body choice memory bodies (stores bytes bodies)
+      (λ i c. cell-kept bytes bodies (word2 e t i) (outside i c))
       (λ c goes.
       let small : c < m = advances-cell m e b t ok c goes in
-      let fits : body c < b = choice .below c goes in
-      copies-stored memory (advances e t) body m c bodies small goes (omega arith) (omega arith) (λ k l other q. choice .own c k goes other q))
+      let fits : body c < b = takes-below m e b t ok body choice c goes in
+      copies-stored memory (advances e t) body m c bodies small goes (omega arith) (omega arith) (λ k l other q. takes-own m e b t ok body choice c k goes other q))
       ∙ ap (advance memory) (sym (raw-state memory bodies t yes))
 
-  pub with-seen : (k : ℕ) → seenOf (outcome (perform (changePlan (pairsAt (slotsOf (length t))) bytesWith wordsWith) 0) k (buffers memory bodies t))
+  pub with-seen : (k : ℕ) → seenOf (outcome (perform (changePlan (pairsAt (slotsOf (length t))) bytes words) 0) k (buffers memory bodies t))
       ≡ viewed (change (64 * count (cellsOf (length memory)) (advances (slotsOf (length t)) t)) (2 * count (cellsOf (length memory)) (advances (slotsOf (length t)) t)) 0
       (advance memory (stateOf (buffers memory bodies t)))) k (stateOf (buffers memory bodies t)) memory
   with-seen k =
-      change-seen memory bodies t yes bytesWith wordsWith with-spares (omega (arith, with-few)) with-names with-rule 0 (advance memory (stateOf (buffers memory bodies t))) with-state k
+      change-seen memory bodies t yes bytes words with-spares (omega (arith, with-few)) with-names with-rule 0 (advance memory (stateOf (buffers memory bodies t))) with-state k
       ∙ (λ i. viewed (change (with-bytes i) (with-words i) 0 (advance memory (stateOf (buffers memory bodies t)))) k (stateOf (buffers memory bodies t)) memory)
 
   -- as many pairs are left pending as its effect says
-  pub with-pending : (k : ℕ) → pending ((outcome (perform (changePlan (pairsAt (slotsOf (length t))) bytesWith wordsWith) 0) k (buffers memory bodies t)) .buffers .table)
+  pub with-pending : (k : ℕ) → pending ((outcome (perform (changePlan (pairsAt (slotsOf (length t))) bytes words) 0) k (buffers memory bodies t)) .buffers .table)
       ≡ pendingAfter (64 * count (cellsOf (length memory)) (advances (slotsOf (length t)) t)) (2 * count (cellsOf (length memory)) (advances (slotsOf (length t)) t)) k
   with-pending k =
-      performed-pending memory bodies t yes bytesWith wordsWith (omega (arith, with-few)) with-names 0 k
+      performed-pending memory bodies t yes bytes words (omega (arith, with-few)) with-names 0 k
       ∙ (λ i. pendingAfter (with-bytes i) (with-words i) k)
 
   -- ---- cuts
 
   -- cut in the bytes or in the pairs: opening takes no step, and everything is as before the call but for bytes of free bodies and spare pairs
-  pub with-unmade : (k j : ℕ) → k ≤ length bytesWith + 2 * length wordsWith
-      → outcome (openCall (buffers memory (stores (take k bytesWith) bodies) (stores (take (k - length bytesWith) (journal (pairsAt (slotsOf (length t))) wordsWith)) t))) j
-      (buffers memory (stores (take k bytesWith) bodies) (stores (take (k - length bytesWith) (journal (pairsAt (slotsOf (length t))) wordsWith)) t))
-      ≡ leaves (done 0 0) (buffers memory (stores (take k bytesWith) bodies) (stores (take (k - length bytesWith) (journal (pairsAt (slotsOf (length t))) wordsWith)) t))
-  with-unmade = change-unmade memory bodies t yes bytesWith wordsWith with-spares (omega (arith, with-few)) with-names with-rule
+  pub with-unmade : (k j : ℕ) → k ≤ length bytes + 2 * length words
+      → outcome (openCall (buffers memory (stores (take k bytes) bodies) (stores (take (k - length bytes) (journal (pairsAt (slotsOf (length t))) words)) t))) j
+      (buffers memory (stores (take k bytes) bodies) (stores (take (k - length bytes) (journal (pairsAt (slotsOf (length t))) words)) t))
+      ≡ leaves (done 0 0) (buffers memory (stores (take k bytes) bodies) (stores (take (k - length bytes) (journal (pairsAt (slotsOf (length t))) words)) t))
+  with-unmade = change-unmade memory bodies t yes bytes words with-spares (omega (arith, with-few)) with-names with-rule
 
   -- cut from word 6 on, with any number of stopped openings after it: opening gives the buffers of the uncut call
-  pub with-reopened : (k j : ℕ) (ks : List ℕ) → 0 < length wordsWith → length bytesWith + 2 * length wordsWith < k → k ≤ length bytesWith + (3 * length wordsWith + 1)
-      → Each (λ x. x ≤ length wordsWith) ks → length wordsWith < j
-      → outcome (openCall (buffers memory (stores (take k bytesWith) bodies) (openings (pairsAt (slotsOf (length t))) ks (stores (take (k - length bytesWith) (journal (pairsAt (slotsOf (length t))) wordsWith)) t)))) j
-      (buffers memory (stores (take k bytesWith) bodies) (openings (pairsAt (slotsOf (length t))) ks (stores (take (k - length bytesWith) (journal (pairsAt (slotsOf (length t))) wordsWith)) t)))
-      ≡ leaves (done (length wordsWith + 1) 0) (buffers memory (stores bytesWith bodies) (stores (journal (pairsAt (slotsOf (length t))) wordsWith) t))
-  with-reopened = change-reopened memory bodies t yes bytesWith wordsWith with-spares (omega (arith, with-few)) with-names with-rule
+  pub with-reopened : (k j : ℕ) (ks : List ℕ) → 0 < length words → length bytes + 2 * length words < k → k ≤ length bytes + (3 * length words + 1)
+      → Each (λ x. x ≤ length words) ks → length words < j
+      → outcome (openCall (buffers memory (stores (take k bytes) bodies) (openings (pairsAt (slotsOf (length t))) ks (stores (take (k - length bytes) (journal (pairsAt (slotsOf (length t))) words)) t)))) j
+      (buffers memory (stores (take k bytes) bodies) (openings (pairsAt (slotsOf (length t))) ks (stores (take (k - length bytes) (journal (pairsAt (slotsOf (length t))) words)) t)))
+      ≡ leaves (done (length words + 1) 0) (buffers memory (stores bytes bodies) (stores (journal (pairsAt (slotsOf (length t))) words) t))
+  with-reopened = change-reopened memory bodies t yes bytes words with-spares (omega (arith, with-few)) with-names with-rule
+
+  pub with-reopens : Reopens (perform (changePlan (pairsAt (slotsOf (length t))) (bytesWith (cellsOf (length memory)) memory t body) (wordsWith t body)) 0) (buffers memory bodies t)
+  with-reopens = change-reopens memory bodies t yes bytes words with-spares (omega (arith, with-few)) with-names with-rule 0
 
   -- "every other call at most 70E + 32"
-  pub with-bound : stepsOf (length bytesWith) (length wordsWith) ≤ 70 * slotsOf (length t) + 32
+  pub with-bound : stepsOf (length bytes) (length words) ≤ 70 * slotsOf (length t) + 32
   with-bound =
       let x = with-bytes in
       let y = with-words in
       let z = with-few in
-      by-le (length wordsWith) 0
-      (λ l. let q : length wordsWith ≡ 0 = omega arith in rw (eq-eqb (length wordsWith) 0 q) (omega arith))
-      (λ l. rw (ne-eqb (length wordsWith) 0 (λ q. omega arith)) (omega arith))
+      by-le (length words) 0
+      (λ l. let q : length words ≡ 0 = omega arith in rw (eq-eqb (length words) 0 q) (omega arith))
+      (λ l. rw (ne-eqb (length words) 0 (λ q. omega arith)) (omega arith))
 
 -- ---- the questions, of words and of a state
 
@@ -260,25 +266,10 @@ module _ (memory bodies t : List ℕ) (h : ℕ) (pass : advanceCheck (length mem
   abbrev yes : storeCheck (length memory) (length bodies) t ≡ 0
   yes = advance-store (length memory) (length bodies) t h pass
 
-  pub lowest : Choice (slotsOf (length t)) (cellsOf (length bodies)) t (bodyFor (slotsOf (length t)) (cellsOf (length bodies)) t)
+  pub lowest : Choice (cellsOf (length memory)) (slotsOf (length t)) (cellsOf (length bodies)) t (bodyFor (slotsOf (length t)) (cellsOf (length bodies)) t)
   lowest =
       chosen (cellsOf (length memory)) (slotsOf (length t)) (cellsOf (length bodies)) t (raw-rule memory bodies t yes)
       (advance-room (length memory) (length bodies) t h pass)
-
-  pub advance-seen : (k : ℕ) → seenOf (outcome (perform (changePlan (pairsAt (slotsOf (length t)))
-      (advanceBytes (cellsOf (length memory)) (cellsOf (length bodies)) memory t) (advanceWords (cellsOf (length bodies)) t)) 0) k (buffers memory bodies t))
-      ≡ viewed (change (64 * count (cellsOf (length memory)) (advances (slotsOf (length t)) t)) (2 * count (cellsOf (length memory)) (advances (slotsOf (length t)) t)) 0
-      (advance memory (stateOf (buffers memory bodies t)))) k (stateOf (buffers memory bodies t)) memory
-  unfolding advanceBytes advanceWords advanceChange
-  advance-seen k =
-      with-seen memory bodies t yes (advance-low (length memory) (length bodies) t h pass) (bodyFor (slotsOf (length t)) (cellsOf (length bodies)) t) lowest k
-
-  left : (k : ℕ) → pending ((outcome (perform (changePlan (pairsAt (slotsOf (length t)))
-      (advanceBytes (cellsOf (length memory)) (cellsOf (length bodies)) memory t) (advanceWords (cellsOf (length bodies)) t)) 0) k (buffers memory bodies t)) .buffers .table)
-      ≡ pendingAfter (64 * count (cellsOf (length memory)) (advances (slotsOf (length t)) t)) (2 * count (cellsOf (length memory)) (advances (slotsOf (length t)) t)) k
-  unfolding advanceBytes advanceWords advanceChange
-  left k =
-      with-pending memory bodies t yes (advance-low (length memory) (length bodies) t h pass) (bodyFor (slotsOf (length t)) (cellsOf (length bodies)) t) lowest k
 
   pub advance-unmade : (k j : ℕ) → k ≤ length (advanceBytes (cellsOf (length memory)) (cellsOf (length bodies)) memory t) + 2 * length (advanceWords (cellsOf (length bodies)) t)
       → outcome (openCall (buffers memory (stores (take k (advanceBytes (cellsOf (length memory)) (cellsOf (length bodies)) memory t)) bodies)
@@ -321,45 +312,73 @@ module _ (memory bodies t : List ℕ) (yes : storeCheck (length memory) (length 
   same-cells low =
       sym (ap (writableCells (cellsOf (length memory))) (raw-state memory bodies t yes) ∙ cells-same (slotsOf (length t)) t bodies low (cellsOf (length memory)))
 
-abbrev goal : (h words-say state-says k : ℕ) → Buffers → Type 0
-goal h q r k b =
-    seenOf (outcome (unless q (perform (changePlan (pairsAt (slotsOf (length (b .table))))
-    (advanceBytes (cellsOf (length (b .memory))) (cellsOf (length (b .bodies))) (b .memory) (b .table)) (advanceWords (cellsOf (length (b .bodies))) (b .table))) 0)) k b)
-    ≡ viewed (orRefuse r (change (64 * writableCells (cellsOf (length (b .memory))) (stateOf b)) (2 * writableCells (cellsOf (length (b .memory))) (stateOf b)) 0 (advance (b .memory) (stateOf b)))) k (stateOf b) (b .memory)
+-- ---- the call made with any choice of bodies
+
+module _ (h : ℕ) (b : Buffers) (body : ℕ → ℕ) (may : MayTake h b body) where
+  abbrev plan-with : Call
+  plan-with =
+      perform (changePlan (pairsAt (slotsOf (length (b .table)))) (bytesWith (cellsOf (length (b .memory))) (b .memory) (b .table) body) (wordsWith (b .table) body)) 0
+
+  abbrev goal : (words-say state-says k : ℕ) → Type 0
+  goal q r k =
+      seenOf (outcome (unless q plan-with) k b)
+      ≡ viewed (orRefuse r (change (64 * writableCells (cellsOf (length (b .memory))) (stateOf b)) (2 * writableCells (cellsOf (length (b .memory))) (stateOf b)) 0 (advance (b .memory) (stateOf b)))) k (stateOf b) (b .memory)
+
+  -- what is seen of it, at every budget, is what advance means
+  pub advance-with-means : (k : ℕ) → seenOf (outcome (advanceWith body h b) k b) ≡ advanceMeans h k b
+  unfolding advanceWith callMeans advanceCheck outcome
+  advance-with-means k =
+      by-check (λ q. seenOf (outcome (unless (orElse q (asked (length (b .memory)) (length (b .bodies)) (b .table) h)) plan-with) k b)
+      ≡ orRefused q b (viewed (advanceEffect (roomOf b) (b .memory) h (stateOf b)) k (stateOf b) (b .memory)))
+      (storeCheck (length (b .memory)) (length (b .bodies)) (b .table))
+      (λ n e. refl)
+      (λ yes.
+      let stands = store-standing (b .memory) (b .bodies) (b .table) yes in
+      subst (λ (r : ℕ). goal (asked (length (b .memory)) (length (b .bodies)) (b .table) h) r k) (same-checks (b .memory) (b .bodies) (b .table) yes h)
+      (by-check (λ q. goal q q k) (asked (length (b .memory)) (length (b .bodies)) (b .table) h)
+      (λ n e. ap (λ (s : Option State). view (refused (suc n)) s (b .memory)) stands)
+      (λ e.
+      let pass : advanceCheck (length (b .memory)) (length (b .bodies)) (b .table) h ≡ 0 = rw yes e in
+      let low = advance-low (length (b .memory)) (length (b .bodies)) (b .table) h pass in
+      with-seen (b .memory) (b .bodies) (b .table) yes low body (may pass) k
+      ∙ ap (λ (x : ℕ). viewed (change (64 * x) (2 * x) 0 (advance (b .memory) (stateOf b))) k (stateOf b) (b .memory))
+      (same-cells (b .memory) (b .bodies) (b .table) yes h low))))
+
+  module _ (good : storeCheck (length (b .memory)) (length (b .bodies)) (b .table) ≡ 0) where
+    -- the pairs that it leaves pending
+    pub advance-with-pending : (k : ℕ) → leftPending (outcome (advanceWith body h b) k b) ≡ afterPending (advanceEffect (roomOf b) (b .memory) h (stateOf b)) k
+    unfolding advanceWith
+    advance-with-pending k =
+        call-pending k b good _ _ _ _
+        (check-is (length (b .memory)) (length (b .bodies)) (b .table) h ∙ orElse-go _ _ good ∙ same-checks (b .memory) (b .bodies) (b .table) good h)
+        (λ q.
+        let low = advance-low (length (b .memory)) (length (b .bodies)) (b .table) h q in
+        with-pending (b .memory) (b .bodies) (b .table) good low body (may q) k
+        ∙ ap (λ (x : ℕ). pendingAfter (64 * x) (2 * x) k) (same-cells (b .memory) (b .bodies) (b .table) good h low))
+
+    -- and what opening finds after every cut of it
+    pub advance-with-reopens : Reopens (advanceWith body h b) b
+    unfolding advanceWith
+    advance-with-reopens =
+        unless-reopens b good (advanceCheck (length (b .memory)) (length (b .bodies)) (b .table) h) plan-with
+        (λ q. with-reopens (b .memory) (b .bodies) (b .table) good (advance-low (length (b .memory)) (length (b .bodies)) (b .table) h q) body (may q))
+
+-- ---- the contract's call, which takes the lowest free bodies
+
+pub advance-is : (h : ℕ) (b : Buffers) → advanceCall h b ≡ advanceWith (bodyFor (slotsOf (length (b .table))) (cellsOf (length (b .bodies))) (b .table)) h b
+unfolding advanceCall advanceWith advanceBytes advanceWords advanceChange
+advance-is h b = refl
+
+-- they were free before the call, and differ
+pub advance-takes : (h : ℕ) (b : Buffers) → MayTake h b (bodyFor (slotsOf (length (b .table))) (cellsOf (length (b .bodies))) (b .table))
+advance-takes h b pass = lowest (b .memory) (b .bodies) (b .table) h pass
 
 pub advance-means : (h k : ℕ) (b : Buffers) → seenOf (outcome (advanceCall h b) k b) ≡ advanceMeans h k b
-unfolding advanceCall callMeans advanceCheck outcome
-advance-means h k b =
-    by-check (λ q. seenOf (outcome (unless (orElse q (asked (length (b .memory)) (length (b .bodies)) (b .table) h))
-    (perform (changePlan (pairsAt (slotsOf (length (b .table))))
-    (advanceBytes (cellsOf (length (b .memory))) (cellsOf (length (b .bodies))) (b .memory) (b .table)) (advanceWords (cellsOf (length (b .bodies))) (b .table))) 0)) k b)
-    ≡ orRefused q b (viewed (advanceEffect (roomOf b) (b .memory) h (stateOf b)) k (stateOf b) (b .memory)))
-    (storeCheck (length (b .memory)) (length (b .bodies)) (b .table))
-    (λ n e. refl)
-    (λ yes.
-    let stands = store-standing (b .memory) (b .bodies) (b .table) yes in
-    subst (λ (r : ℕ). goal h (asked (length (b .memory)) (length (b .bodies)) (b .table) h) r k b) (same-checks (b .memory) (b .bodies) (b .table) yes h)
-    (by-check (λ q. goal h q q k b) (asked (length (b .memory)) (length (b .bodies)) (b .table) h)
-    (λ n e. ap (λ (s : Option State). view (refused (suc n)) s (b .memory)) stands)
-    (λ e.
-    let pass : advanceCheck (length (b .memory)) (length (b .bodies)) (b .table) h ≡ 0 = rw yes e in
-    let low = advance-low (length (b .memory)) (length (b .bodies)) (b .table) h pass in
-    advance-seen (b .memory) (b .bodies) (b .table) h pass k
-    ∙ ap (λ (x : ℕ). viewed (change (64 * x) (2 * x) 0 (advance (b .memory) (stateOf b))) k (stateOf b) (b .memory))
-    (same-cells (b .memory) (b .bodies) (b .table) yes h low))))
-
--- ---- the pairs that it leaves pending, at every budget
+advance-means h k b = ap (λ (c : Call). seenOf (outcome c k b)) (advance-is h b) ∙ advance-with-means h b _ (advance-takes h b) k
 
 pub advance-pending : (h k : ℕ) (b : Buffers) → storeCheck (length (b .memory)) (length (b .bodies)) (b .table) ≡ 0
     → pending ((outcome (advanceCall h b) k b) .buffers .table) ≡ afterPending (advanceEffect (roomOf b) (b .memory) h (stateOf b)) k
-unfolding advanceCall
-advance-pending h k b good =
-    call-pending k b good _ _ _ _
-    (check-is (length (b .memory)) (length (b .bodies)) (b .table) h ∙ orElse-go _ _ good ∙ same-checks (b .memory) (b .bodies) (b .table) good h)
-    (λ q.
-    left (b .memory) (b .bodies) (b .table) h q k
-    ∙ ap (λ (x : ℕ). pendingAfter (64 * x) (2 * x) k)
-    (same-cells (b .memory) (b .bodies) (b .table) good h (advance-low (length (b .memory)) (length (b .bodies)) (b .table) h q)))
+advance-pending h k b good = ap (λ (c : Call). leftPending (outcome c k b)) (advance-is h b) ∙ advance-with-pending h b _ (advance-takes h b) good k
 
 -- ---- what the code cites
 

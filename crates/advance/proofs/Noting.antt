@@ -31,7 +31,8 @@ use Rattle.search.proofs.Free.{body-used, body-user}
 use Rattle.model.specs.Answer.{ask}
 use Rattle.advance.specs.Advance.{advances, bodyFor, advanceChange, advanceWords, advanceBytes}
 use Rattle.advance.specs.Notes.{FreeFrom, turns, entriesCheck, marked, Turned, Listed, Placed, unmarked, Filled, noted, noteChange}
-use Rattle.advance.proofs.Turning.{turnsAt, advances-of, advances-cell}
+use Rattle.advance.specs.Choice.{turnsAt}
+use Rattle.advance.proofs.Turning.{advances-of, advances-cell}
 use Rattle.advance.proofs.Choosing.{enough}
 use Rattle.advance.proofs.Listing.{gather-listed, listed-ext}
 

@@ -1,7 +1,7 @@
 -- The innermost read-write entries become copies with other bodies: for any choice of different free bodies the table stays right, and its
 -- state is the model's. Assumes nothing.
 use Prim.Native.Nat.{ℕ, suc, _-_, _*_, _/_, _%_, _≤_, _<_}
-use mathlib.Core.Bool.{Bool, true, false, cond, _&&_}
+use mathlib.Core.Bool.{true, false, cond, _&&_}
 use mathlib.Core.List.{List}
 use mathlib.Core.Option.{Option, some}
 use mathlib.Core.Path.{_≡_, sym, ap, subst, _∙_}
@@ -15,13 +15,14 @@ use Rattle.words.specs.Stores.{stores}
 use Rattle.words.specs.Cells.{cellBytes}
 use Rattle.words.proofs.Scan.{by-bool, and-split, and-join, is-false, true≢, count-ext}
 use Rattle.table.specs.Entry.{live, word1, word2, depthOf, writableOf, viaOf, unusedOf, cellOf, parent, names, findIn, holdsIn}
-use Rattle.table.specs.Changes.{Change, keep, put, isChanged, entryChanges}
+use Rattle.table.specs.Changes.{isChanged, entryChanges}
 use Rattle.table.specs.Rule.{handleOk}
 use Rattle.table.specs.Marks.{IsCopy}
 use Rattle.table.proofs.Entry.{names-both, find-ext, find-hit, holds-true, holds-found}
 use Rattle.table.proofs.Rule.{Rule, Used, Apart}
 use Rattle.table.proofs.Change.{only-one, find-self}
 use Rattle.table.proofs.Entries.{first-changed, second-changed, head-unchanged, changes-count}
+use Rattle.search.proofs.Free.{body-unused}
 use Rattle.search.proofs.Value.{Copy}
 use Rattle.search.proofs.Counts.{count-entries}
 use Rattle.model.specs.State.{readOnly, readWrite, copy, viaParent, Holding}
@@ -30,24 +31,7 @@ use Rattle.store.specs.State.{labelOf, kindOf, ValueIs, ofCopy, ofParent, Holdi
 use Rattle.store.proofs.State.{holding-is, holding-only}
 use Rattle.store.proofs.Domains.{innermost-state}
 use Rattle.advance.specs.Advance.{advances}
-
--- entry i is innermost and read-write
-abbrev pub turnsAt : ℕ → List ℕ → ℕ → Bool
-turnsAt e t i = eqb (depthOf (word1 e t i)) (live t) && eqb (writableOf (word1 e t i)) 1
-
--- a first word as that of a copy
-abbrev pub asCopy : ℕ → ℕ
-asCopy w = w - 67_108_864 * viaOf w
-
--- the changes of the entries, where cell c gets the body that `body` gives it
-abbrev pub changeWith : (e : ℕ) (t : List ℕ) (body : ℕ → ℕ) → ℕ → Change
-changeWith e t body i = cond (turnsAt e t i) (put (asCopy (word1 e t i)) (body (cellOf (word1 e t i)))) keep
-
--- a body of its own for each cell that advances, and none that is in use
-pub record Choice (e b : ℕ) (t : List ℕ) (body : ℕ → ℕ) : Type 0 where
-  pub below : (c : ℕ) → advances e t c ≡ true → body c < b
-  pub free : (c : ℕ) → advances e t c ≡ true → (j : ℕ) → j < e → IsCopy e t j → word2 e t j ≡ body c → ⊥
-  pub own : (c d : ℕ) → advances e t c ≡ true → advances e t d ≡ true → body c ≡ body d → c ≡ d
+use Rattle.advance.specs.Choice.{Choice, turnsAt, asCopy, changeWith}
 
 -- ---- the word of a copy: only the kind is another
 
@@ -120,7 +104,18 @@ module _ (m e b : ℕ) (t : List ℕ) (ok : Rule m e b t) where
 
 -- ---- the new table
 
-module _ (m e b : ℕ) (t : List ℕ) (ok : Rule m e b t) (long : pairsAt e ≤ length t) (body : ℕ → ℕ) (choice : Choice e b t body) where
+-- ---- a choice, of the cells that advance, which are memory's
+module _ (m e b : ℕ) (t : List ℕ) (ok : Rule m e b t) (body : ℕ → ℕ) (choice : Choice m e b t body) where
+  pub takes-below : (c : ℕ) → advances e t c ≡ true → body c < b
+  takes-below c h = choice .below c (advances-cell m e b t ok c h) h
+
+  pub takes-free : (c : ℕ) → advances e t c ≡ true → (j : ℕ) → j < e → IsCopy e t j → word2 e t j ≡ body c → ⊥
+  takes-free c h = body-unused e t (body c) (choice .was-free c (advances-cell m e b t ok c h) h)
+
+  pub takes-own : (c d : ℕ) → advances e t c ≡ true → advances e t d ≡ true → body c ≡ body d → c ≡ d
+  takes-own c d x y = choice .own c d (advances-cell m e b t ok c x) (advances-cell m e b t ok d y) x y
+
+module _ (m e b : ℕ) (t : List ℕ) (ok : Rule m e b t) (long : pairsAt e ≤ length t) (body : ℕ → ℕ) (choice : Choice m e b t body) where
   abbrev u : List ℕ
   u = stores (entryChanges e (changeWith e t body)) t
 
@@ -185,7 +180,7 @@ module _ (m e b : ℕ) (t : List ℕ) (ok : Rule m e b t) (long : pairsAt e ≤ 
         high = high;
         spare = same-unused i l ∙ o .spare;
         cell = rw (same-cell i l) (o .cell);
-        copy = λ v. rw (second-turned i l z) (choice .below (cellOf (word1 e t i)) (advances-of m e b t ok i l z));
+        copy = λ v. rw (second-turned i l z) (takes-below m e b t ok body choice (cellOf (word1 e t i)) (advances-of m e b t ok i l z));
         second = λ v. absurd (v (turned-via i l z));
         inner = λ v. absurd (v (turned-via i l z));
       })
@@ -215,7 +210,7 @@ module _ (m e b : ℕ) (t : List ℕ) (ok : Rule m e b t) (long : pairsAt e ≤ 
   -- a new body is nobody else's
   turned-apart : (i j : ℕ) → i < e → j < e → (word1 e t j ≡ 0 → ⊥) → turnsAt e t i ≡ true → turnsAt e t j ≡ false → viaOf (word1 e u j) ≡ 0 → word2 e u j ≡ word2 e u i → ⊥
   turned-apart i j li lj used yi nj vj q =
-      choice .free (cellOf (word1 e t i)) (advances-of m e b t ok i li yi) j lj (used, sym (ap viaOf (first-kept j lj nj)) ∙ vj)
+      takes-free m e b t ok body choice (cellOf (word1 e t i)) (advances-of m e b t ok i li yi) j lj (used, sym (ap viaOf (first-kept j lj nj)) ∙ vj)
       (sym (second-kept j lj nj) ∙ q ∙ second-turned i li yi)
 
   apart-after : (i : ℕ) → i < e → (j : ℕ) → j < i → (word1 e u i ≡ 0 → ⊥) → (word1 e u j ≡ 0 → ⊥) → Apart e u j i
@@ -232,7 +227,7 @@ module _ (m e b : ℕ) (t : List ℕ) (ok : Rule m e b t) (long : pairsAt e ≤ 
             by-bool (turnsAt e t j)
             (λ yj.
             old .cells (turn-depth m e b t ok j yj ∙ sym (turn-depth m e b t ok i yi))
-            (choice .own (cellOf (word1 e t j)) (cellOf (word1 e t i)) (advances-of m e b t ok j lj yj) (advances-of m e b t ok i l yi)
+            (takes-own m e b t ok body choice (cellOf (word1 e t j)) (cellOf (word1 e t i)) (advances-of m e b t ok j lj yj) (advances-of m e b t ok i l yi)
             (sym (second-turned j lj yj) ∙ r ∙ second-turned i l yi)))
             (λ nj. turned-apart i j l lj uj yi nj p r))
             (λ ni.

@@ -1,18 +1,19 @@
--- Free entry slots and free bodies: who has a body, and how many are free. Assumes nothing.
-use Prim.Native.Nat.{ℕ, _+_, _<_}
-use mathlib.Core.Bool.{true, not}
+-- Free entry slots and free bodies: who has a body, how many are free, and the lowest of them. Assumes nothing.
+use Prim.Native.Nat.{ℕ, _+_, _≤_, _<_}
+use mathlib.Core.Bool.{Bool, true, not}
 use mathlib.Core.List.{List}
-use mathlib.Core.Path.{_≡_, ap}
+use mathlib.Core.Path.{_≡_, sym, ap}
 use native.Mathlib.Omega.{arith}
 use borrow.Author.Tests.{eq-eqb, ne-eqb, eqb-true, eqb-false, not-true}
 use lib.Dec.{eqb}
-use Rattle.words.specs.Scan.{count}
-use Rattle.words.proofs.Scan.{and-split, and-join, true≢, count-not}
+use Rattle.words.specs.Scan.{count, nth}
+use Rattle.words.proofs.Scan.{by-le, and-split, and-join, true≢, count-not}
+use Rattle.words.proofs.Nth.{count-below, nth-below, nth-holds, nth-apart}
 use Rattle.words.proofs.Image.{meets, meets-make, meets-some, count-image}
 use Rattle.table.specs.Entry.{word1, word2, viaOf}
 use Rattle.table.specs.Marks.{IsCopy}
 use Rattle.table.proofs.Rule.{Rule}
-use Rattle.search.specs.Free.{slotFree, isCopy, bodyUsed, bodyFree, usedSlots, copies}
+use Rattle.search.specs.Free.{slotFree, isCopy, bodyUsed, bodyFree, usedSlots, copies, TakesFree}
 
 -- ---- free slots: an entry is in use or its slot is free
 pub slots-all : (e : ℕ) (t : List ℕ) → usedSlots e t + count e (slotFree e t) ≡ e
@@ -54,3 +55,28 @@ bodies-all m e b t ok =
           ok .apart-from i l j k (f .0) (g .0) .bodies (g .1) (f .1) w;
     }) in
     omega (arith, own, count-not b (bodyUsed e t))
+
+-- ---- the lowest free places
+
+-- two numbers that pass and have as many below them are one
+pub same-rank : (f : ℕ → Bool) (i j : ℕ) → f i ≡ true → f j ≡ true → count i f ≡ count j f → i ≡ j
+same-rank f i j p q h =
+    by-le i j
+    (λ l. by-le j i (λ r. omega arith) (λ r. absurd (never (count-below f i j r p) h)))
+    (λ l. absurd (never (count-below f j i l q) (sym h)))
+  where
+    never : {a b : ℕ} → a < b → a ≡ b → ⊥
+    never l e = omega arith
+
+-- where there are enough, the r-th that wants one takes the r-th that is free
+pub lowest-free : (n : ℕ) (wants : ℕ → Bool) (high : ℕ) (free : ℕ → Bool) → count n wants ≤ count high free
+    → TakesFree n wants high free (λ j. nth high free (count j wants))
+lowest-free n wants high free enough =
+    record {
+      below = λ j l h. nth-below high free (count j wants) (rank j l h);
+      was-free = λ j l h. nth-holds high free (count j wants) (rank j l h);
+      own = λ i j li lj x y q. same-rank wants i j x y (nth-apart high free (count i wants) (count j wants) (rank i li x) (rank j lj y) q);
+    }
+  where
+    rank : (j : ℕ) → j < n → wants j ≡ true → count j wants < count high free
+    rank j l h = omega (arith, count-below wants j n l h)

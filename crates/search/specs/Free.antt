@@ -1,7 +1,8 @@
 -- Free entry slots and free bodies.
-use Prim.Native.Nat.{ℕ, _+_, _-_}
-use mathlib.Core.Bool.{Bool, not, _&&_}
+use Prim.Native.Nat.{ℕ, _+_, _-_, _<_}
+use mathlib.Core.Bool.{Bool, true, not, _&&_}
 use mathlib.Core.List.{List}
+use mathlib.Core.Path.{_≡_}
 use lib.Dec.{ltb, eqb}
 use lib.ListN.{getD}
 use Rattle.words.specs.Scan.{first, count}
@@ -27,6 +28,13 @@ usedSlots e t = count e (λ i. not (slotFree e t i))
 
 unfoldable pub copies : ℕ → List ℕ → ℕ
 copies e t = count e (isCopy e t)
+
+-- "which entries and bodies a call takes, though each was free before the call": the numbers below n of which `wants` holds take different
+-- places below `high`, each of them free
+pub record TakesFree (n : ℕ) (wants : ℕ → Bool) (high : ℕ) (free : ℕ → Bool) (place : ℕ → ℕ) : Type 0 where
+  pub below : (j : ℕ) → j < n → wants j ≡ true → place j < high
+  pub was-free : (j : ℕ) → j < n → wants j ≡ true → free (place j) ≡ true
+  pub own : (i j : ℕ) → i < n → j < n → wants i ≡ true → wants j ≡ true → place i ≡ place j → i ≡ j
 
 -- of b bodies, the lowest from `from` on that has not the mark 1 of a body in use, or b
 unfoldable pub unmarkedFrom : ℕ → List ℕ → ℕ → ℕ

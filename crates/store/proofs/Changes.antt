@@ -1,21 +1,20 @@
 -- Every changing call: from its stores to what it means at every budget, and to what opening finds after every cut. A call owes only that its
 -- bytes spare the bodies in use, that its words may be named by pairs and leave a right table, and the state of that table.
 -- Assumes nothing.
-use Prim.Native.Nat.{ℕ, zero, suc, _+_, _-_, _*_, _≤_, _<_}
-use mathlib.Core.Bool.{Bool, true, false, cond}
-use mathlib.Core.List.{List, [], _∷_, _++_, map}
-use mathlib.Core.Logic.{_⊎_, inl, inr, ⊎-elim}
-use mathlib.Core.Option.{Option, none, some}
+use Prim.Native.Nat.{ℕ, _+_, _-_, _*_, _≤_, _<_}
+use mathlib.Core.Bool.{true, cond}
+use mathlib.Core.List.{List, [], _∷_, map}
+use mathlib.Core.Logic.{_⊎_, ⊎-elim}
+use mathlib.Core.Option.{some}
 use mathlib.Core.Path.{_≡_, refl, sym, ap, subst, _∙_}
-use native.Mathlib.Nat.{not-suc-le-zero}
 use native.Mathlib.Omega.{arith}
 use borrow.Author.Tests.{eq-eqb, ne-eqb, lt-ltb, le-ltb}
-use lib.Dec.{ltb, eqb}
-use lib.ListN.{length, getD, set, take, drop, length-append, length-map, length-take, length-drop, length-set}
-use lib.Seq.{take-all, take-nil, ext-getD, getD-take, getD-drop, getD-set-other}
-use Rattle.words.specs.Layout.{cellAt, cellsOf, slotsOf, pairsAt, maxPairs, tableWords, pendingAt}
-use Rattle.words.specs.Stores.{Store, _≔_, store, stores, run}
-use Rattle.words.specs.Journal.{pending, namesOk, effective, openPlan, applyPlan, journal, journaled, openings}
+use lib.Dec.{ltb}
+use lib.ListN.{length, take, drop, length-append, length-map, length-take, length-drop}
+use lib.Seq.{take-all, ext-getD, getD-take, getD-drop}
+use Rattle.words.specs.Layout.{cellAt, cellsOf, slotsOf, pairsAt, maxPairs, tableWords}
+use Rattle.words.specs.Stores.{Store, store, stores}
+use Rattle.words.specs.Journal.{pending, namesOk, effective, openPlan, applyPlan, journal, openings}
 use Rattle.words.specs.Cells.{cellBytes}
 use Rattle.words.proofs.Scan.{by-le}
 use Rattle.words.proofs.Places.{pendingAt-below}
@@ -26,9 +25,9 @@ use Rattle.table.specs.Entry.{word2}
 use Rattle.table.proofs.Rule.{Rule}
 use Rattle.search.proofs.Value.{Copy}
 use Rattle.model.specs.State.{State}
-use Rattle.model.specs.Answer.{Report, done, ended, view, stepsOf}
+use Rattle.model.specs.Answer.{Report, done, ended, stepsOf}
 use Rattle.model.specs.Calls.{viewed, change}
-use Rattle.store.specs.Outcome.{Buffers, buffers, Step, inMemory, inBodies, inTable, step, steps, Outcome, outcome, leaves, perform, changePlan}
+use Rattle.store.specs.Outcome.{buffers, inBodies, inTable, step, steps, outcome, leaves, perform, changePlan}
 use Rattle.store.specs.Checks.{shapeCheck, openCheck, storeCheck}
 use Rattle.store.specs.State.{stateIn, stateOf, standing}
 use Rattle.store.specs.Calls.{openCall}
@@ -195,22 +194,32 @@ module _ (memory bodies t : List ℕ) (yes : storeCheck (length memory) (length 
 
   -- ---- what opening finds after a cut
 
-  -- cut in the bytes or in the pairs: opening takes no step and leaves everything as it is, so the call is not made
+  -- every cut can be opened
+  pub change-opens : (k i : ℕ) → openCheck (length memory) (length (filled k)) (worded i) ≡ 0
+  change-opens k i =
+      by-le (length ws) 0
+      (λ z.
+      let same : worded i ≡ t = rw (journal-none first ws (omega arith)) (sym (stores-none i t)) in
+      rw (same, same-bytes k) (store-opens (length memory) (length bodies) t yes))
+      (λ pos. rw (same-bytes k) (worded-opens pos i))
+
+  -- where no pair is pending, opening takes no step and leaves everything as it is
+  pub change-idle : (k j i : ℕ) → pending (worded i) ≡ 0
+      → outcome (openCall (buffers memory (filled k) (worded i))) j (buffers memory (filled k) (worded i)) ≡ leaves (done 0 0) (buffers memory (filled k) (worded i))
+  change-idle k j i none-left = sym (open-none memory (filled k) (worded i) j (change-opens k i) none-left)
+
+  -- so after a cut in the bytes or in the pairs: the call is not made
   pub change-unmade : (k j : ℕ) → k ≤ length bytes + 2 * length ws
       → outcome (openCall (buffers memory (filled k) (worded (k - length bytes)))) j (buffers memory (filled k) (worded (k - length bytes)))
       ≡ leaves (done 0 0) (buffers memory (filled k) (worded (k - length bytes)))
   change-unmade k j l =
       let i : ℕ = k - length bytes in
-      by-le (length ws) 0
+      change-idle k j i
+      (by-le (length ws) 0
       (λ z.
-      let none-left : length ws ≡ 0 = omega arith in
-      let same : worded i ≡ t = rw (journal-none first ws none-left) (sym (stores-none i t)) in
-      sym (open-none memory (filled k) (worded i) j
-      (rw (same, same-bytes k) (store-opens (length memory) (length bodies) t yes)) (ap (λ (x : List ℕ). pending x) same ∙ idle)))
-      (λ pos.
-      let early : i ≤ 2 * length ws = omega arith in
-      sym (open-none memory (filled k) (worded i) j (rw (same-bytes k) (worded-opens pos i))
-      (ap (λ (x : List ℕ). pending x) (cut-is pos i) ∙ law.cut-idle first ws t (pendingAt-below e) (room pos) idle pos names i early)))
+      let same : worded i ≡ t = rw (journal-none first ws (omega arith)) (sym (stores-none i t)) in
+      ap (λ (x : List ℕ). pending x) same ∙ idle)
+      (λ pos. ap (λ (x : List ℕ). pending x) (cut-is pos i) ∙ law.cut-idle first ws t (pendingAt-below e) (room pos) idle pos names i (omega arith)))
 
   -- cut from word 6 on, with any number of stopped openings after it: opening takes p + 1 steps and leaves, word for word and byte for byte,
   -- the buffers of the uncut call

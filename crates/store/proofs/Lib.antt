@@ -15,5 +15,6 @@ pub mod Bounds
 pub mod Domains
 pub mod Raw
 pub mod InUse
+pub mod Reopened
 pub mod Outermost
 pub mod Checked

@@ -1,41 +1,37 @@
 -- The outcome of each call, as the plan of its stores gives it, is what the call means. Assumes nothing.
-use Prim.Native.Nat.{ℕ, zero, suc, _+_, _-_, _*_, _≤_, _<_}
-use mathlib.Core.Bool.{Bool, true, false, cond}
-use mathlib.Core.List.{List, [], _∷_, map}
-use mathlib.Core.Option.{Option, none, some}
+use Prim.Native.Nat.{ℕ, zero, suc, _+_, _*_, _<_}
+use mathlib.Core.Bool.{true, false}
+use mathlib.Core.List.{List, [], map}
+use mathlib.Core.Option.{some}
 use mathlib.Core.Path.{_≡_, refl, sym, ap, subst, _∙_}
 use native.Mathlib.Omega.{arith}
-use borrow.Author.Tests.{eq-eqb, ne-eqb, le-leb, lt-leb, lt-ltb, le-ltb, eqb-true, ltb-true}
-use lib.Dec.{leb, ltb, eqb}
-use lib.ListN.{length, getD, take, length-take}
+use borrow.Author.Tests.{eq-eqb, ne-eqb, le-leb, lt-leb}
+use lib.ListN.{length, take}
 use lib.Seq.{getD-take, take-nil}
-use Rattle.words.specs.Layout.{liveAt, nextAt, pairsAt, slotsOf, cellsOf, tableWords, maxLive, handleAt, maxPairs}
-use Rattle.words.specs.Stores.{Store, _≔_, stores, tab}
-use Rattle.words.specs.Journal.{pending, namesOk, effective, openPlan, applyPlan, journal, journaled}
+use Rattle.words.specs.Layout.{liveAt, nextAt, pairsAt, slotsOf, cellsOf, tableWords}
+use Rattle.words.specs.Stores.{Store, stores}
+use Rattle.words.specs.Journal.{pending, effective, openPlan, applyPlan}
 use Rattle.words.proofs.Scan.{by-bool, by-le}
-use Rattle.words.proofs.Plans.{length-tab, length-stores}
+use Rattle.words.proofs.Plans.{length-tab}
 use Rattle.words.proofs.Pairs.{open-idle, open-pending, length-applyPlan}
 use Rattle.words.proofs.Journal.{effective-idle}
 use Rattle.table.specs.Entry.{live, nextHandle}
 use Rattle.table.specs.Checks.{lengthsOk}
 use Rattle.table.proofs.Rule.{Rule}
-use Rattle.table.proofs.Checks.{Lengths, lengths-facts}
+use Rattle.table.proofs.Checks.{lengths-facts}
 use Rattle.model.specs.State.{State}
-use Rattle.model.specs.Answer.{Report, refused, done, ended, ask, orElse, View, view}
-use Rattle.model.specs.Calls.{fresh, makeSteps, makeState, openSteps}
-use Rattle.store.specs.Outcome.{Buffers, buffers, inTable, Outcome, outcome, leaves, Call, perform, unless}
+use Rattle.model.specs.Answer.{Report, refused, done, ended, view}
+use Rattle.model.specs.Calls.{makeSteps, makeState, openSteps}
+use Rattle.store.specs.Outcome.{Buffers, buffers, inTable, outcome, leaves, perform, unless}
 use Rattle.store.specs.Checks.{makeCheck, openCheck, storeCheck}
 use Rattle.store.specs.State.{domainIn, stateIn, stateOf, standing}
 use Rattle.store.specs.Calls.{makePlan, makeCall, openCall}
-use Rattle.store.specs.Means.{seen, orRefused, makeMeans, openMeans}
+pub use Rattle.store.specs.Means.{seenOf}
+use Rattle.store.specs.Means.{orRefused, makeMeans, openMeans}
 use Rattle.store.proofs.Checks.{shape-lengths, open-shape, store-shape, store-idle, store-table, store-opens, table-rule}
 use Rattle.store.proofs.Outcome.{table-after, performed, refuses, ended-done}
 use Rattle.store.proofs.Cuts.{stands-open, opening, opening-length, opening-effective, opening-opens}
 use Rattle.store.proofs.Making.{make-length, make-none, make-fresh}
-
--- what is to be seen of an outcome
-abbrev pub seenOf : Outcome → View
-seenOf o = seen (o .report) (o .buffers)
 
 -- by whether the questions say no
 pub by-check : (C : ℕ → Type 0) (q : ℕ) → ((n : ℕ) → q ≡ suc n → C (suc n)) → (q ≡ 0 → C 0) → C q

@@ -19,30 +19,17 @@ use Rattle.words.proofs.Pairs.{length-journaled, journal-some, journal-none}
 use Rattle.words.proofs.Journal as law
 use Rattle.table.specs.Checks.{lengthsOk}
 use Rattle.model.specs.Answer.{stepsOf}
-use Rattle.model.specs.Calls.{Effect, refuse, change, orRefuse, makeSteps, openSteps}
-use Rattle.store.specs.Outcome.{Buffers, buffers, Call, perform, unless, changePlan, Outcome, outcome}
+use Rattle.model.specs.Calls.{Effect, orRefuse, makeSteps, openSteps}
+use Rattle.store.specs.Outcome.{Buffers, buffers, Call, perform, unless, changePlan, outcome}
 use Rattle.store.specs.Checks.{makeCheck, openCheck, storeCheck}
 use Rattle.store.specs.Calls.{makePlan, makeCall, openCall}
+pub use Rattle.store.specs.Means.{leftPending, pendingAfter, afterPending}
 use Rattle.store.proofs.Checks.{open-shape, shape-lengths, store-idle, store-shape}
 use Rattle.store.proofs.Outcome.{table-after}
 use Rattle.store.proofs.Cuts.{opening-stopped, opening-done}
 use Rattle.store.proofs.Making.{make-idle}
 use Rattle.store.proofs.Means.{by-check, long, open-length}
 use Rattle.store.proofs.Changes.{change-steps}
-
--- ---- a call that stores so many bytes and replaces w words: w pairs from the store of word 6 that makes them pending to the one that clears it
-
-abbrev pub pendingAfter : (bytes words k : ℕ) → ℕ
-pendingAfter b w k = cond (ltb (b + 2 * w) k && ltb k (stepsOf b w)) w 0
-
--- by the effect; a refused call leaves the table as it was, with nothing pending
-abbrev pub afterPending : Effect → (k : ℕ) → ℕ
-afterPending (refuse n) k = 0
-afterPending (change b w h new) k = pendingAfter b w k
-
--- the pairs that a call leaves pending
-abbrev pub leftPending : Outcome → ℕ
-leftPending o = pending (o .buffers .table)
 
 none-pending : (c : Bool) (w : ℕ) → w ≡ 0 → cond c w 0 ≡ 0
 none-pending true w z = z

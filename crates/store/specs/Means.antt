@@ -1,24 +1,28 @@
 -- What each call means for lent buffers: its report, the state that opening then finds, and memory, by the meanings of the crate `model`.
-use Prim.Native.Nat.{ℕ}
-use mathlib.Core.Bool.{Bool, cond}
+use Prim.Native.Nat.{ℕ, _+_, _*_, _<_}
+use mathlib.Core.Bool.{cond, _&&_}
 use mathlib.Core.List.{List}
-use mathlib.Core.Option.{Option}
-use lib.Dec.{eqb}
+use mathlib.Core.Path.{_≡_}
+use lib.Dec.{ltb}
 use lib.ListN.{length}
 use Rattle.words.specs.Layout.{cellsOf}
 use Rattle.words.specs.Journal.{pending}
 use Rattle.model.specs.State.{State}
-use Rattle.model.specs.Answer.{Report, refused, View, view}
+use Rattle.model.specs.Answer.{isDone, Report, done, refused, View, view, stepsOf}
 use Rattle.model.specs.Holdings.{Room}
-use Rattle.model.specs.Calls.{Effect, viewed, makeView, openView, createEffect, Listed, listed, listRefused}
-use Rattle.store.specs.Outcome.{Buffers, report}
+use Rattle.model.specs.Calls.{Effect, refuse, change, viewed, makeView, openView, createEffect, Listed, listed, listRefused}
+use Rattle.store.specs.Outcome.{Buffers, report, Call, Outcome, leaves, outcome}
 use Rattle.store.specs.Checks.{makeCheck, openCheck, storeCheck}
 use Rattle.store.specs.State.{stateOf, standing, slots}
+use Rattle.store.specs.Calls.{openCall, reopened, AllStopped}
 use Rattle.store.specs.declared.Listing.{Listing}
 
 -- what is to be seen of a report and the buffers left with it
 abbrev pub seen : Report → Buffers → View
 seen r b = view r (standing b) (b .memory)
+
+abbrev pub seenOf : Outcome → View
+seenOf o = seen (o .report) (o .buffers)
 
 -- a call refused by a question on the buffers leaves what there was
 abbrev pub orRefused : ℕ → Buffers → View → View
@@ -43,6 +47,32 @@ callMeans effect k b =
 
 abbrev pub createMeans : ℕ → Buffers → View
 createMeans = callMeans createEffect
+
+-- ---- the pairs that a changing call leaves pending at budget k: what the next opening has to put in place
+
+abbrev pub leftPending : Outcome → ℕ
+leftPending o = pending (o .buffers .table)
+
+-- of a call that stores so many bytes and replaces so many words: all of them, from the store of word 6 that makes them pending to the one that
+-- clears it
+abbrev pub pendingAfter : (bytes words k : ℕ) → ℕ
+pendingAfter b w k = cond (ltb (b + 2 * w) k && ltb k (stepsOf b w)) w 0
+
+-- by the effect; a refused call leaves the table as it was, with nothing pending
+abbrev pub afterPending : Effect → (k : ℕ) → ℕ
+afterPending (refuse n) k = 0
+afterPending (change b w h new) k = pendingAfter b w k
+
+-- "After a cut, opening finds the call wholly made or not made", word for word: it takes no step where no pair is pending; and where pairs are,
+-- one that is done, after any number of stopped ones, leaves the buffers of the call with budget enough
+pub record Reopens (c : Call) (b : Buffers) : Type 0 where
+  pub not-made : (k j : ℕ) → leftPending (outcome c k b) ≡ 0
+      → outcome (openCall ((outcome c k b) .buffers)) j ((outcome c k b) .buffers) ≡ leaves (done 0 0) ((outcome c k b) .buffers)
+  pub made : (k full j : ℕ) (ks : List ℕ) → 0 < leftPending (outcome c k b) → (outcome c full b) .report .status ≡ isDone
+      → AllStopped ks ((outcome c k b) .buffers)
+      → (outcome (openCall (reopened ks ((outcome c k b) .buffers))) j (reopened ks ((outcome c k b) .buffers))) .report .status ≡ isDone
+      → outcome (openCall (reopened ks ((outcome c k b) .buffers))) j (reopened ks ((outcome c k b) .buffers))
+      ≡ leaves (done (leftPending (outcome c k b) + 1) 0) ((outcome c full b) .buffers)
 
 -- ---- list
 
