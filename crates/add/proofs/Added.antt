@@ -12,28 +12,28 @@ use lib.ListN.{length, getD, take}
 use lib.Seq.{getD-take}
 use Rattle.words.specs.Layout.{liveAt, nextAt, handleAt, firstAt, secondAt, pairsAt, slotsOf, cellsOf, maxPairs}
 use Rattle.words.specs.Stores.{Store, stores}
-use Rattle.words.specs.Journal.{pending, namesOk, journal, openings}
+use Rattle.words.specs.Journal.{pending, namesOk, journal}
 use Rattle.words.proofs.Scan.{by-le, by-bool}
 use Rattle.words.proofs.Plans.{Each, take-stores}
 use Rattle.table.specs.Entry.{live}
 use Rattle.table.proofs.Rule.{Rule, ok-facts, ok-make}
 use Rattle.table.proofs.Agree.{ok-agree}
 use Rattle.model.specs.State.{State}
-use Rattle.model.specs.Answer.{Report, refused, done, ended, stepsOf, view}
+use Rattle.model.specs.Answer.{Report, refused, ended, stepsOf, view, View}
 use Rattle.model.specs.Calls.{viewed, change, orRefuse}
 use Rattle.model.specs.Holdings.{kindNumbered, labelNumbered, newBodies, newlyHeld, relabelled, addChecks, addTo, addEffect}
 use Rattle.store.specs.Outcome.{Buffers, buffers, changePlan, outcome, leaves, Call, perform, unless}
 use Rattle.store.specs.Checks.{storeCheck}
 use Rattle.store.specs.State.{stateIn, stateOf}
-use Rattle.store.specs.Calls.{openCall}
 use Rattle.store.specs.Means.{seenOf, orRefused, callMeans, roomOf, leftPending, pendingAfter, afterPending, Reopens}
 use Rattle.store.proofs.Checks.{orElse-go, orElse-stop}
 use Rattle.store.proofs.Outcome.{refuses}
 use Rattle.store.proofs.State.{state-kept}
 use Rattle.store.proofs.Means.{by-check, store-state, store-standing}
-use Rattle.store.proofs.Changes.{Spares, spared, change-performed, change-seen, change-unmade, change-reopened}
+use Rattle.store.proofs.Changes.{Spares, spared, change-performed, change-seen}
 use Rattle.store.proofs.Pending.{performed-pending, call-pending}
-use Rattle.store.proofs.Reopened.{change-reopens, unless-reopens}
+use Rattle.store.proofs.Reopened.{changes-shaped, shape-reopens, unless-reopens}
+use Rattle.store.proofs.Standing.{standing-opens}
 use Rattle.add.specs.Add.{addCheck, addBytes, addWords, addCall, addMeans}
 use Rattle.add.specs.Walking.{Ready}
 use Rattle.add.specs.Choice.{Choice, slotFor, bodyFor, changeWith, wordsWith, bytesWith, addWith, MayTake}
@@ -159,22 +159,12 @@ module _ (memory bodies t : List ℕ) (base n k l : ℕ) (r : Ready memory bodie
 
   -- ---- cuts
 
-  -- in the bytes or in the pairs: opening takes no step, and the call is not made
-  pub with-unmade : (x j : ℕ) → x ≤ length bytes + 2 * length words
-      → outcome (openCall (buffers memory (stores (take x bytes) bodies) (stores (take (x - length bytes) (journal (pairsAt (slotsOf (length t))) words)) t))) j
-      (buffers memory (stores (take x bytes) bodies) (stores (take (x - length bytes) (journal (pairsAt (slotsOf (length t))) words)) t))
-      ≡ leaves (done 0 0) (buffers memory (stores (take x bytes) bodies) (stores (take (x - length bytes) (journal (pairsAt (slotsOf (length t))) words)) t))
-  with-unmade = change-unmade memory bodies t (r .store) bytes words with-spares with-few with-names with-rule
-
-  -- from word 6 on: opening leaves the buffers of the uncut call
-  pub with-reopened : (x j : ℕ) (ks : List ℕ) → 0 < length words → length bytes + 2 * length words < x → x ≤ length bytes + (3 * length words + 1) → Each (λ y. y ≤ length words) ks → length words < j
-      → outcome (openCall (buffers memory (stores (take x bytes) bodies) (openings (pairsAt (slotsOf (length t))) ks (stores (take (x - length bytes) (journal (pairsAt (slotsOf (length t))) words)) t)))) j
-      (buffers memory (stores (take x bytes) bodies) (openings (pairsAt (slotsOf (length t))) ks (stores (take (x - length bytes) (journal (pairsAt (slotsOf (length t))) words)) t)))
-      ≡ leaves (done (length words + 1) 0) (buffers memory (stores bytes bodies) (stores (journal (pairsAt (slotsOf (length t))) words) t))
-  with-reopened = change-reopened memory bodies t (r .store) bytes words with-spares with-few with-names with-rule
-
   pub with-reopens : Reopens (perform (changePlan (pairsAt (slotsOf (length t))) (bytesWith memory t base n k body) (wordsWith t base n k l slot body)) 0) (buffers memory bodies t)
-  with-reopens = change-reopens memory bodies t (r .store) bytes words with-spares with-few with-names with-rule 0
+  with-reopens =
+      shape-reopens _ (buffers memory bodies t) (changes-shaped (buffers memory bodies t) bytes words 0) (r .store)
+      (λ budget.
+      standing-opens ((outcome (perform (changePlan (pairsAt (slotsOf (length t))) bytes words) 0) budget (buffers memory bodies t)) .buffers) _
+      (ap (λ (v : View). v .state) (with-seen budget)))
 
   -- "every other call at most 70E + 32"
   pub with-bound : stepsOf (length bytes) (length words) ≤ 70 * slotsOf (length t) + 32
@@ -210,26 +200,6 @@ module _ (memory bodies t : List ℕ) (base n k l : ℕ) (r : Ready memory bodie
   of-call P h =
       subst (λ (x : List Store). P x ws) (sym (bytes-chosen memory bodies t base n k l r))
       (subst (λ (x : List Store). P (bytesWith memory t base n k lowestBody) x) (sym (words-chosen memory bodies t base n k l r)) h)
-
-  abbrev pub Unmade : List Store → List Store → Type 0
-  Unmade bytes words = (x j : ℕ) → x ≤ length bytes + 2 * length words
-      → outcome (openCall (buffers memory (stores (take x bytes) bodies) (stores (take (x - length bytes) (journal (pairsAt (slotsOf (length t))) words)) t))) j
-      (buffers memory (stores (take x bytes) bodies) (stores (take (x - length bytes) (journal (pairsAt (slotsOf (length t))) words)) t))
-      ≡ leaves (done 0 0) (buffers memory (stores (take x bytes) bodies) (stores (take (x - length bytes) (journal (pairsAt (slotsOf (length t))) words)) t))
-
-  -- in the bytes or in the pairs: opening takes no step, and the call is not made
-  pub add-unmade : Unmade (addBytes (cellsOf (length bodies)) memory t base n k) (addWords (cellsOf (length bodies)) t base n k l)
-  add-unmade = of-call Unmade (with-unmade memory bodies t base n k l r (lowest memory bodies t base n k l r))
-
-  abbrev pub Reopened : List Store → List Store → Type 0
-  Reopened bytes words = (x j : ℕ) (ks : List ℕ) → 0 < length words → length bytes + 2 * length words < x → x ≤ length bytes + (3 * length words + 1) → Each (λ y. y ≤ length words) ks → length words < j
-      → outcome (openCall (buffers memory (stores (take x bytes) bodies) (openings (pairsAt (slotsOf (length t))) ks (stores (take (x - length bytes) (journal (pairsAt (slotsOf (length t))) words)) t)))) j
-      (buffers memory (stores (take x bytes) bodies) (openings (pairsAt (slotsOf (length t))) ks (stores (take (x - length bytes) (journal (pairsAt (slotsOf (length t))) words)) t)))
-      ≡ leaves (done (length words + 1) 0) (buffers memory (stores bytes bodies) (stores (journal (pairsAt (slotsOf (length t))) words) t))
-
-  -- from word 6 on: opening leaves the buffers of the uncut call
-  pub add-reopened : Reopened (addBytes (cellsOf (length bodies)) memory t base n k) (addWords (cellsOf (length bodies)) t base n k l)
-  add-reopened = of-call Reopened (with-reopened memory bodies t base n k l r (lowest memory bodies t base n k l r))
 
   -- "every other call at most 70E + 32"
   pub add-bound : stepsOf (length (addBytes (cellsOf (length bodies)) memory t base n k)) (length (addWords (cellsOf (length bodies)) t base n k l)) ≤ 70 * slotsOf (length t) + 32

@@ -12,7 +12,7 @@ use lib.ListN.{length, take}
 use Rattle.words.specs.Layout.{cellsOf, slotsOf, pairsAt}
 use Rattle.words.specs.Scan.{all, count}
 use Rattle.words.specs.Stores.{Store, stores}
-use Rattle.words.specs.Journal.{pending, namesOk, journal, journalSteps, openings}
+use Rattle.words.specs.Journal.{pending, namesOk, journal, journalSteps}
 use Rattle.words.proofs.Scan.{by-bool, by-le, all-ext, count-ext, count-le}
 use Rattle.words.proofs.Plans.{Each}
 use Rattle.words.proofs.Names.{names-make, names-below}
@@ -26,22 +26,22 @@ use Rattle.search.specs.Free.{copies}
 use Rattle.search.proofs.Domain.{depth-small}
 use Rattle.search.proofs.Value.{Copy}
 use Rattle.model.specs.State.{State}
-use Rattle.model.specs.Answer.{Report, done, refused, ended, ask, orElse, view, stepsOf}
+use Rattle.model.specs.Answer.{Report, refused, ended, ask, orElse, view, stepsOf, View}
 use Rattle.model.specs.Calls.{viewed, change, orRefuse}
 use Rattle.model.specs.Holdings.{named, holdingAt, isHeld, heldWritable, copiesInUse, advance, writableCells, parentCovers, advanceChecks, advanceEffect}
 use Rattle.store.specs.Outcome.{Buffers, buffers, changePlan, outcome, leaves, Call, perform, unless}
 use Rattle.store.specs.Checks.{storeCheck}
 use Rattle.store.specs.State.{stateIn, stateOf}
-use Rattle.store.specs.Calls.{openCall}
 use Rattle.store.specs.Means.{seenOf, orRefused, callMeans, roomOf, leftPending, pendingAfter, afterPending, Reopens}
 use Rattle.store.proofs.Checks.{ask-yes, ask-stop, ask-rest, orElse-both, orElse-go, shape-facts, store-shape}
 use Rattle.store.proofs.Outcome.{refuses}
 use Rattle.store.proofs.Domains.{state-named, state-holding, domains-count, held-holds, held-writable}
 use Rattle.store.proofs.InUse.{copies-in-use}
 use Rattle.store.proofs.Means.{by-check, t-long, store-standing}
-use Rattle.store.proofs.Changes.{Spares, change-performed, change-seen, change-unmade, change-reopened}
+use Rattle.store.proofs.Changes.{Spares, change-performed, change-seen}
 use Rattle.store.proofs.Pending.{performed-pending, call-pending}
-use Rattle.store.proofs.Reopened.{change-reopens, unless-reopens}
+use Rattle.store.proofs.Reopened.{changes-shaped, shape-reopens, unless-reopens}
+use Rattle.store.proofs.Standing.{standing-opens}
 use Rattle.advance.specs.Choice.{Choice, changeWith, bytesWith, wordsWith, advanceWith, MayTake}
 use Rattle.advance.specs.Advance.{advances, advanceCheck, bodyFor, advanceChange, advanceWords, advanceBytes, advanceCall, advanceMeans}
 use Rattle.store.proofs.Raw.{raw-rule, raw-state, raw-next, raw-after, front-copy, front-second}
@@ -144,23 +144,12 @@ module _ (memory bodies t : List ℕ) (yes : storeCheck (length memory) (length 
 
   -- ---- cuts
 
-  -- cut in the bytes or in the pairs: opening takes no step, and everything is as before the call but for bytes of free bodies and spare pairs
-  pub with-unmade : (k j : ℕ) → k ≤ length bytes + 2 * length words
-      → outcome (openCall (buffers memory (stores (take k bytes) bodies) (stores (take (k - length bytes) (journal (pairsAt (slotsOf (length t))) words)) t))) j
-      (buffers memory (stores (take k bytes) bodies) (stores (take (k - length bytes) (journal (pairsAt (slotsOf (length t))) words)) t))
-      ≡ leaves (done 0 0) (buffers memory (stores (take k bytes) bodies) (stores (take (k - length bytes) (journal (pairsAt (slotsOf (length t))) words)) t))
-  with-unmade = change-unmade memory bodies t yes bytes words with-spares (omega (arith, with-few)) with-names with-rule
-
-  -- cut from word 6 on, with any number of stopped openings after it: opening gives the buffers of the uncut call
-  pub with-reopened : (k j : ℕ) (ks : List ℕ) → 0 < length words → length bytes + 2 * length words < k → k ≤ length bytes + (3 * length words + 1)
-      → Each (λ x. x ≤ length words) ks → length words < j
-      → outcome (openCall (buffers memory (stores (take k bytes) bodies) (openings (pairsAt (slotsOf (length t))) ks (stores (take (k - length bytes) (journal (pairsAt (slotsOf (length t))) words)) t)))) j
-      (buffers memory (stores (take k bytes) bodies) (openings (pairsAt (slotsOf (length t))) ks (stores (take (k - length bytes) (journal (pairsAt (slotsOf (length t))) words)) t)))
-      ≡ leaves (done (length words + 1) 0) (buffers memory (stores bytes bodies) (stores (journal (pairsAt (slotsOf (length t))) words) t))
-  with-reopened = change-reopened memory bodies t yes bytes words with-spares (omega (arith, with-few)) with-names with-rule
-
   pub with-reopens : Reopens (perform (changePlan (pairsAt (slotsOf (length t))) (bytesWith (cellsOf (length memory)) memory t body) (wordsWith t body)) 0) (buffers memory bodies t)
-  with-reopens = change-reopens memory bodies t yes bytes words with-spares (omega (arith, with-few)) with-names with-rule 0
+  with-reopens =
+      shape-reopens _ (buffers memory bodies t) (changes-shaped (buffers memory bodies t) bytes words 0) yes
+      (λ k.
+      standing-opens ((outcome (perform (changePlan (pairsAt (slotsOf (length t))) bytes words) 0) k (buffers memory bodies t)) .buffers) _
+      (ap (λ (v : View). v .state) (with-seen k)))
 
   -- "every other call at most 70E + 32"
   pub with-bound : stepsOf (length bytes) (length words) ≤ 70 * slotsOf (length t) + 32
@@ -270,31 +259,6 @@ module _ (memory bodies t : List ℕ) (h : ℕ) (pass : advanceCheck (length mem
   lowest =
       chosen (cellsOf (length memory)) (slotsOf (length t)) (cellsOf (length bodies)) t (raw-rule memory bodies t yes)
       (advance-room (length memory) (length bodies) t h pass)
-
-  pub advance-unmade : (k j : ℕ) → k ≤ length (advanceBytes (cellsOf (length memory)) (cellsOf (length bodies)) memory t) + 2 * length (advanceWords (cellsOf (length bodies)) t)
-      → outcome (openCall (buffers memory (stores (take k (advanceBytes (cellsOf (length memory)) (cellsOf (length bodies)) memory t)) bodies)
-      (stores (take (k - length (advanceBytes (cellsOf (length memory)) (cellsOf (length bodies)) memory t)) (journal (pairsAt (slotsOf (length t))) (advanceWords (cellsOf (length bodies)) t))) t))) j
-      (buffers memory (stores (take k (advanceBytes (cellsOf (length memory)) (cellsOf (length bodies)) memory t)) bodies)
-      (stores (take (k - length (advanceBytes (cellsOf (length memory)) (cellsOf (length bodies)) memory t)) (journal (pairsAt (slotsOf (length t))) (advanceWords (cellsOf (length bodies)) t))) t))
-      ≡ leaves (done 0 0) (buffers memory (stores (take k (advanceBytes (cellsOf (length memory)) (cellsOf (length bodies)) memory t)) bodies)
-      (stores (take (k - length (advanceBytes (cellsOf (length memory)) (cellsOf (length bodies)) memory t)) (journal (pairsAt (slotsOf (length t))) (advanceWords (cellsOf (length bodies)) t))) t))
-  unfolding advanceBytes advanceWords advanceChange
-  advance-unmade =
-      with-unmade memory bodies t yes (advance-low (length memory) (length bodies) t h pass) (bodyFor (slotsOf (length t)) (cellsOf (length bodies)) t) lowest
-
-  pub advance-reopened : (k j : ℕ) (ks : List ℕ) → 0 < length (advanceWords (cellsOf (length bodies)) t)
-      → length (advanceBytes (cellsOf (length memory)) (cellsOf (length bodies)) memory t) + 2 * length (advanceWords (cellsOf (length bodies)) t) < k
-      → k ≤ length (advanceBytes (cellsOf (length memory)) (cellsOf (length bodies)) memory t) + (3 * length (advanceWords (cellsOf (length bodies)) t) + 1)
-      → Each (λ x. x ≤ length (advanceWords (cellsOf (length bodies)) t)) ks → length (advanceWords (cellsOf (length bodies)) t) < j
-      → outcome (openCall (buffers memory (stores (take k (advanceBytes (cellsOf (length memory)) (cellsOf (length bodies)) memory t)) bodies)
-      (openings (pairsAt (slotsOf (length t))) ks (stores (take (k - length (advanceBytes (cellsOf (length memory)) (cellsOf (length bodies)) memory t)) (journal (pairsAt (slotsOf (length t))) (advanceWords (cellsOf (length bodies)) t))) t)))) j
-      (buffers memory (stores (take k (advanceBytes (cellsOf (length memory)) (cellsOf (length bodies)) memory t)) bodies)
-      (openings (pairsAt (slotsOf (length t))) ks (stores (take (k - length (advanceBytes (cellsOf (length memory)) (cellsOf (length bodies)) memory t)) (journal (pairsAt (slotsOf (length t))) (advanceWords (cellsOf (length bodies)) t))) t)))
-      ≡ leaves (done (length (advanceWords (cellsOf (length bodies)) t) + 1) 0)
-      (buffers memory (stores (advanceBytes (cellsOf (length memory)) (cellsOf (length bodies)) memory t) bodies) (stores (journal (pairsAt (slotsOf (length t))) (advanceWords (cellsOf (length bodies)) t)) t))
-  unfolding advanceBytes advanceWords advanceChange
-  advance-reopened =
-      with-reopened memory bodies t yes (advance-low (length memory) (length bodies) t h pass) (bodyFor (slotsOf (length t)) (cellsOf (length bodies)) t) lowest
 
   pub advance-bound : stepsOf (length (advanceBytes (cellsOf (length memory)) (cellsOf (length bodies)) memory t)) (length (advanceWords (cellsOf (length bodies)) t)) ≤ 70 * slotsOf (length t) + 32
   unfolding advanceBytes advanceWords advanceChange

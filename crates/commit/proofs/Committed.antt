@@ -1,5 +1,5 @@
 -- Commit, from its stores to what it means and to what opening finds after every cut of it. Assumes nothing.
-use Prim.Native.Nat.{ℕ, suc, _+_, _-_, _*_, _≤_, _<_}
+use Prim.Native.Nat.{ℕ, suc, _+_, _-_, _*_, _≤_}
 use mathlib.Core.Bool.{true, false}
 use mathlib.Core.List.{List, [], _++_}
 use mathlib.Core.Option.{Option}
@@ -9,13 +9,12 @@ use native.Mathlib.Omega.{arith}
 use borrow.Author.Tests.{ltb-true, lt-ltb, le-ltb}
 use lib.Dec.{ltb, eqb}
 use lib.ListN.{length, take, length-take, length-append}
-use lib.Seq.{take-nil}
 use Rattle.words.specs.Layout.{liveAt, handleAt, pairsAt, maxPairs, slotsOf, cellsOf, maxLive}
 use Rattle.words.specs.Scan.{count}
 use Rattle.words.specs.Stores.{Store, stores}
-use Rattle.words.specs.Journal.{pending, namesOk, nameOk, journal, journalSteps, openings}
+use Rattle.words.specs.Journal.{pending, namesOk, nameOk, journal, journalSteps}
 use Rattle.words.proofs.Scan.{by-bool, count-le}
-use Rattle.words.proofs.Plans.{Each, stores-none}
+use Rattle.words.proofs.Plans.{stores-none}
 use Rattle.words.proofs.Journal.{effective-idle}
 use Rattle.words.proofs.Names.{name-live, name-from}
 use Rattle.table.specs.Entry.{live}
@@ -25,19 +24,18 @@ use Rattle.table.proofs.Entries.{changes-count, changes-names}
 use Rattle.search.specs.Domain.{depthNamed}
 use Rattle.search.proofs.Domain.{depth-small}
 use Rattle.model.specs.State.{State}
-use Rattle.model.specs.Answer.{Report, done, refused, ended, ask, orElse, view, stepsOf}
+use Rattle.model.specs.Answer.{Report, refused, ended, ask, orElse, view, stepsOf}
 use Rattle.model.specs.Calls.{viewed, change, orRefuse}
 use Rattle.model.specs.Holdings.{named, innerCells, raisedCells, commit, commitChecks, commitEffect}
 use Rattle.store.specs.Outcome.{Buffers, buffers, changePlan, outcome, leaves, perform, unless}
 use Rattle.store.specs.Checks.{storeCheck}
 use Rattle.store.specs.State.{stateIn, stateOf}
-use Rattle.store.specs.Calls.{openCall}
 use Rattle.store.specs.Means.{orRefused, callMeans}
 use Rattle.store.proofs.Checks.{ask-yes, orElse-both, orElse-go, store-idle, store-table, table-rule}
 use Rattle.store.proofs.Outcome.{refuses}
 use Rattle.store.proofs.Domains.{state-named}
 use Rattle.store.proofs.Means.{seenOf, by-check, t-long, store-rule, store-state, store-standing, live-count}
-use Rattle.store.proofs.Changes.{change-performed, change-seen, change-unmade, change-reopened}
+use Rattle.store.proofs.Changes.{change-performed, change-seen}
 use Rattle.store.proofs.Pending.{pendingAfter, afterPending, performed-pending, call-pending}
 use Rattle.commit.specs.Commit.{commitCheck, commitChange, commitWords, commitCall, commitMeans}
 use Rattle.commit.proofs.Taken.{live-taken, named-taken, changes-taken}
@@ -147,27 +145,6 @@ module _ (memory bodies t : List ℕ) (yes : storeCheck (length memory) (length 
     left : (k : ℕ) → pending ((outcome (perform (changePlan (pairsAt (slotsOf (length t))) [] (commitWords t)) 0) k (buffers memory bodies t)) .buffers .table)
         ≡ pendingAfter 0 (2 + 2 * (innerCells (cellsOf (length memory)) (stateOf (buffers memory bodies t)) + raisedCells (cellsOf (length memory)) (stateOf (buffers memory bodies t)))) k
     left k = performed-pending memory bodies t yes [] (commitWords t) room names 0 k ∙ ap (λ (p : ℕ). pendingAfter 0 p k) new-count
-
-    -- ---- cuts: with p words, 0 to 2p not made, 2p + 1 to 3p + 1 made by opening in p + 1 steps
-
-    pub commit-unmade : (k j : ℕ) → k ≤ 2 * length (commitWords t)
-        → outcome (openCall (buffers memory bodies (stores (take k (journal (pairsAt (slotsOf (length t))) (commitWords t))) t))) j
-        (buffers memory bodies (stores (take k (journal (pairsAt (slotsOf (length t))) (commitWords t))) t))
-        ≡ leaves (done 0 0) (buffers memory bodies (stores (take k (journal (pairsAt (slotsOf (length t))) (commitWords t))) t))
-    commit-unmade k j l =
-        let z : k - 0 ≡ k = omega arith in
-        let nil : take {A = Store} k [] ≡ [] = take-nil k in
-        rw (z, nil) at (change-unmade memory bodies t yes [] (commitWords t) tt room names new-rule k j (omega arith))
-
-    pub commit-reopened : (k j : ℕ) (ks : List ℕ) → 2 * length (commitWords t) < k → k ≤ 3 * length (commitWords t) + 1
-        → Each (λ x. x ≤ length (commitWords t)) ks → length (commitWords t) < j
-        → outcome (openCall (buffers memory bodies (openings (pairsAt (slotsOf (length t))) ks (stores (take k (journal (pairsAt (slotsOf (length t))) (commitWords t))) t)))) j
-        (buffers memory bodies (openings (pairsAt (slotsOf (length t))) ks (stores (take k (journal (pairsAt (slotsOf (length t))) (commitWords t))) t)))
-        ≡ leaves (done (length (commitWords t) + 1) 0) (buffers memory bodies (stores (journal (pairsAt (slotsOf (length t))) (commitWords t)) t))
-    commit-reopened k j ks late early stops enough =
-        let z : k - 0 ≡ k = omega arith in
-        let nil : take {A = Store} k [] ≡ [] = take-nil k in
-        rw (z, nil) at (change-reopened memory bodies t yes [] (commitWords t) tt room names new-rule k j ks (omega (arith, words-count t)) (omega arith) (omega arith) stops enough)
 
 -- ---- the call
 

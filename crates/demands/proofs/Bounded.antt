@@ -12,7 +12,7 @@ use Rattle.table.proofs.Checks.{lengths-facts}
 use Rattle.table.specs.Checks.{lengthsOk}
 use Rattle.search.specs.Domain.{depthNamed}
 use Rattle.search.proofs.Domain.{depth-small}
-use Rattle.model.specs.Answer.{Status, isDone, isStopped, isRefused, Report, done, stopped, refused, ended, orElse, stepsOf}
+use Rattle.model.specs.Answer.{Status, isDone, isStopped, isRefused, Report, done, refused, ended, orElse, stepsOf}
 use Rattle.model.specs.Calls.{listed}
 use Rattle.model.specs.History.{Request, create, list, add, delete, advance, commit, restore, look}
 use Rattle.model.specs.Session.{Input, make, call, opening, write}

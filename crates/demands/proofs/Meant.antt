@@ -18,7 +18,7 @@ use Rattle.model.specs.Answer.{isDone, isStopped, isRefused, Report, ended, Vie
 use Rattle.model.specs.Calls.{Effect, refuse, change, makeSteps, listed}
 use Rattle.model.specs.Restore.{viewedWith}
 use Rattle.model.specs.History.{Request, create, list, add, delete, advance, commit, restore, look}
-use Rattle.model.specs.Session.{make, call, opening, effectOf, memoryAfter, memoryAt, viewOf, Mixed}
+use Rattle.model.specs.Session.{effectOf, memoryAfter, memoryAt, viewOf, Mixed}
 use Rattle.model.proofs.Views.{memory-whole, memory-mixed}
 use Rattle.store.specs.Outcome.{Buffers, buffers, inTable, perform, Outcome, outcome}
 use Rattle.store.specs.Checks.{makeCheck}
@@ -31,6 +31,8 @@ use Rattle.store.proofs.Making.{make-none}
 use Rattle.store.proofs.Means.{seenOf, by-check, long, make-means, open-means}
 use Rattle.store.proofs.Pending.{afterPending}
 use Rattle.store.proofs.Standing.{stands-for, only-state}
+use Rattle.add.proofs.Added.{add-takes, add-is, add-with-means, add-with-reopens}
+use Rattle.advance.proofs.Advanced.{advance-takes, advance-is, advance-with-means, advance-with-reopens}
 use Rattle.look.proofs.Placing.{look-means, look-within}
 use Rattle.look.proofs.Shown.{look-tells}
 use Rattle.demands.specs.Session.{callOn}
@@ -154,6 +156,15 @@ demand-2 = record {
   enough = λ i b. input-bounded i b .whole;
   done-clears = done-clears;
   done-ready = done-ready;
+  add-takes = add-takes;
+  add-is = add-is;
+  add-any = λ h first n kind label b slot body may. record {
+    shown = add-with-means h first n kind label b slot body may;
+    reopens = add-with-reopens h first n kind label b slot body may;
+  };
+  advance-takes = advance-takes;
+  advance-is = advance-is;
+  advance-any = λ h b body may. record { shown = advance-with-means h b body may; reopens = advance-with-reopens h b body may };
   stands = stands-for;
   one-state = λ b s e. only-state b e s;
   reached = reached;

@@ -12,7 +12,7 @@ use Rattle.words.proofs.Scan.{by-bool}
 use Rattle.model.specs.State.{State}
 use Rattle.model.specs.Answer.{Status, isDone, isStopped, isRefused, Report, ended, ask, orElse, View, stepsOf}
 use Rattle.model.specs.Calls.{Effect, refuse, change, orRefuse, created}
-use Rattle.model.specs.Holdings.{Room, named, holdingAt, isHeld, heldVia, isVia, isLive, isInnermost, rangeOk, kindNumbered, newlyHeld, parentHolds, parentSame, writableCells, parentCovers, addChecks, deleteChecks, advanceChecks, commitChecks}
+use Rattle.model.specs.Holdings.{Room, named, holdingAt, isHeld, heldVia, isVia, hasBody, liveEntries, copiesInUse, isLive, isInnermost, rangeOk, kindNumbered, newlyHeld, parentHolds, parentSame, writableCells, parentCovers, addChecks, deleteChecks, advanceChecks, commitChecks}
 use Rattle.model.specs.Restore.{viewedWith, restoreChecks, lookChecks}
 use Rattle.model.specs.History.{Request, create, list, add, delete, advance, commit, restore, look}
 use Rattle.model.specs.Session.{Input, make, call, opening, write, effectOf, memoryAt, viewOf}
@@ -97,8 +97,8 @@ module _ (room : Room) (memory : List ℕ) (s : State) where
       (fine-ask (rangeOk (room .cells) first n) 8 _ refl
       (fine-ask (not (isVia (kindNumbered k)) || parentHolds first n s) 11 _ refl
       (fine-ask (not (isVia (kindNumbered k)) || parentSame memory first n s) 12 _ refl
-      (fine-ask (leb (room .used + newlyHeld first n s) (room .slots)) 16 _ refl
-      (fine-ask (isVia (kindNumbered k) || leb (room .copies + newlyHeld first n s) (room .bodies)) 17 0 refl fine-none)))))))
+      (fine-ask (leb (liveEntries (room .cells) s + newlyHeld first n s) (room .slots)) 16 _ refl
+      (fine-ask (not (hasBody (kindNumbered k)) || leb (copiesInUse (room .cells) s + newlyHeld first n s) (room .bodies)) 17 0 refl fine-none)))))))
 
   delete-fine : (m h first n : ℕ) → Fine (deleteChecks m h first n s)
   delete-fine m h first n =
@@ -112,7 +112,7 @@ module _ (room : Room) (memory : List ℕ) (s : State) where
       fine-ask (isLive h s) 5 _ refl
       (fine-ask (isInnermost h s) 6 _ refl
       (fine-ask (parentCovers (room .cells) s) 15 _ refl
-      (fine-ask (leb (room .copies + writableCells (room .cells) s) (room .bodies)) 17 0 refl fine-none)))
+      (fine-ask (leb (copiesInUse (room .cells) s + writableCells (room .cells) s) (room .bodies)) 17 0 refl fine-none)))
 
   commit-fine : (h : ℕ) → Fine (commitChecks h s)
   commit-fine h = fine-ask (isLive h s) 5 _ refl (fine-ask (isInnermost h s) 6 0 refl fine-none)

@@ -12,7 +12,7 @@ use Rattle.words.specs.Journal.{pending}
 use Rattle.words.proofs.Scan.{and-split}
 use Rattle.words.proofs.Plans.{length-stores}
 use Rattle.model.specs.State.{State}
-use Rattle.model.specs.Answer.{Status, isDone, isStopped, isRefused, Report, done, refused, View, stepsOf}
+use Rattle.model.specs.Answer.{Status, isDone, isStopped, isRefused, Report, View, stepsOf}
 use Rattle.model.specs.Calls.{Effect, refuse, change, fresh, makeSteps, openSteps}
 use Rattle.model.specs.Restore.{viewedWith}
 use Rattle.model.specs.History.{Request}
@@ -24,10 +24,11 @@ use Rattle.store.specs.Calls.{makeCall, openCall}
 use Rattle.store.specs.Means.{roomOf}
 use Rattle.store.proofs.Checks.{open-shape, open-table, store-opens}
 use Rattle.store.proofs.Means.{by-check}
+use Rattle.store.proofs.Standing.{standing-opens}
 use Rattle.store.proofs.Pending.{afterPending, leftPending, make-pending, open-pending-after}
 use Rattle.demands.specs.Session.{callOn, inputOn, buffersAfter, wasStopped}
 use Rattle.demands.specs.Demands.{asked, opens, isCall, madeFrom, MakeDone, isCutMake, noCutMake}
-use Rattle.demands.proofs.Shape.{refused-kept, standing-opens}
+use Rattle.demands.proofs.Shape.{refused-kept}
 use Rattle.demands.proofs.Seen.{call-means, call-refusal, call-passed}
 use Rattle.demands.proofs.Steps.{call-kept, pairs-left, viewed-stands, open-seen, open-refusal, still-opens, unstepped}
 use Rattle.demands.proofs.Theorem.{Told, make-passed, make-enough, make-stands, ended-enough}

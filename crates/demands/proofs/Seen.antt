@@ -16,7 +16,7 @@ use Rattle.model.specs.Restore.{viewedWith, Looked, lookChecks, lookedBy}
 use Rattle.model.specs.History.{Request, create, list, add, delete, advance, commit, restore, look}
 use Rattle.model.specs.Session.{viewOf}
 use Rattle.model.proofs.Views.{viewed-plain}
-use Rattle.store.specs.Outcome.{Buffers, leaves}
+use Rattle.store.specs.Outcome.{Buffers}
 use Rattle.store.specs.State.{stateOf}
 use Rattle.store.specs.Means.{seen, callMeans, listMeans, roomOf}
 use Rattle.store.proofs.Means.{seenOf, by-check, store-standing}

@@ -1,22 +1,19 @@
 -- What holds of every call on every buffers by its shape: the lengths stay, and a refusal leaves everything as it is. Assumes nothing.
 use Prim.Native.Nat.{ℕ}
-use mathlib.Core.Bool.{Bool, true, false, cond}
 use mathlib.Core.List.{List, [], _∷_}
 use mathlib.Core.Option.{Option, none, some}
-use mathlib.Core.Path.{_≡_, refl, sym, ap, subst, _∙_}
-use lib.Dec.{leb, eqb, eqb·suc-zero}
-use borrow.Author.Tests.{eqb-true}
+use mathlib.Core.Path.{_≡_, refl, subst, _∙_}
+use lib.Dec.{leb, eqb·suc-zero}
 use lib.ListN.{length, take, length-set}
-use Rattle.words.specs.Stores.{stores}
 use Rattle.words.proofs.Plans.{length-stores}
 use Rattle.words.proofs.Scan.{by-bool}
-use Rattle.model.specs.Answer.{Status, isDone, isStopped, isRefused, Report, done, stopped, refused, ended}
+use Rattle.model.specs.Answer.{Status, isDone, isStopped, isRefused, refused, ended}
 use Rattle.model.specs.State.{State}
 use Rattle.model.specs.History.{Request, create, list, add, delete, advance, commit, restore, look}
 use Rattle.model.specs.Session.{Input, make, call, opening, write}
-use Rattle.store.specs.Outcome.{Buffers, buffers, Step, inMemory, inBodies, inTable, step, steps, Outcome, outcome, Call, refuse, perform}
+use Rattle.store.specs.Outcome.{Buffers, buffers, Step, inMemory, inBodies, inTable, step, steps, outcome, Call, refuse, perform}
 use Rattle.store.specs.Checks.{openCheck}
-use Rattle.store.specs.State.{stateOf, standing}
+use Rattle.store.specs.State.{standing}
 use Rattle.demands.specs.Session.{callOn, inputOn}
 
 -- buffers of the same lengths
@@ -92,10 +89,3 @@ standing-none b n e = rw (e, eqb·suc-zero n)
 abbrev pub None : Option State → Type 0
 None none = Unit {0}
 None (some s) = ⊥
-
-pub standing-opens : (b : Buffers) (s : State) → standing b ≡ some s → openCheck (length (b .memory)) (length (b .bodies)) (b .table) ≡ 0
-unfolding standing
-standing-opens b s e =
-    by-bool (eqb (openCheck (length (b .memory)) (length (b .bodies)) (b .table)) 0)
-    (λ t. eqb-true (openCheck (length (b .memory)) (length (b .bodies)) (b .table)) 0 t)
-    (λ t. let f = rw t at e in absurd (subst None f tt))

@@ -17,14 +17,14 @@ use Rattle.words.proofs.Scan.{by-bool}
 use Rattle.table.specs.Checks.{lengthsOk}
 use Rattle.table.proofs.Checks.{lengths-facts}
 use Rattle.model.specs.State.{State}
-use Rattle.model.specs.Answer.{isRefused, Report, stopped, refused, ended, View, stepsOf}
+use Rattle.model.specs.Answer.{isRefused, Report, refused, ended, View, stepsOf}
 use Rattle.model.specs.Calls.{Effect, refuse, change, orRefuse, makeSteps, makeView, openSteps, openView}
 use Rattle.model.specs.Restore.{viewedWith, lookChecks}
 use Rattle.model.specs.History.{Request, create, list, add, delete, advance, commit, restore, look}
 use Rattle.model.specs.Session.{Input, make, call, opening, write, Due, nothingDue, dropDue, finishDue, World, world, effectOf, memoryAt, viewOf, Move, call-refused, open-refused, written-to}
 use Rattle.model.proofs.Views.{dueAfter, make-moves, open-idle-moves, open-drop-moves, open-finish-moves}
 use Rattle.model.proofs.Idle.{every-view-moves}
-use Rattle.store.specs.Outcome.{Buffers, buffers, Outcome, outcome, leaves, Call, refuse as refusing, perform}
+use Rattle.store.specs.Outcome.{Buffers, buffers, Outcome, outcome, Call, refuse as refusing, perform}
 use Rattle.store.specs.Checks.{makeCheck}
 use Rattle.store.specs.State.{stateOf, standing, slots}
 use Rattle.store.specs.Calls.{makeCall, openCall}
@@ -32,7 +32,7 @@ use Rattle.store.specs.Means.{makeMeans, openMeans, roomOf}
 use Rattle.store.proofs.Means.{seenOf, by-check, make-means, open-means, store-standing}
 use Rattle.store.proofs.Checks.{store-idle}
 use Rattle.store.proofs.Created.{create-pending}
-use Rattle.store.proofs.Standing.{is-standing}
+use Rattle.store.proofs.Standing.{is-standing, standing-opens}
 use Rattle.store.proofs.Pending.{afterPending, leftPending, make-pending, open-pending-after}
 use Rattle.add.proofs.Added.{add-pending}
 use Rattle.delete.proofs.Deleted.{delete-pending}
@@ -41,7 +41,7 @@ use Rattle.commit.proofs.Committed.{commit-pending}
 use Rattle.restore.proofs.Cuts.{restore-pending}
 use Rattle.demands.specs.Session.{callOn, inputOn, wasStopped, isOpening}
 use Rattle.demands.specs.Demands.{asked, opens}
-use Rattle.demands.proofs.Shape.{Alike, call-alike, input-alike, refused-kept, None, standing-none, standing-opens}
+use Rattle.demands.proofs.Shape.{Alike, call-alike, input-alike, refused-kept, None, standing-none}
 use Rattle.demands.proofs.Seen.{call-means, call-refusal}
 use Rattle.demands.proofs.Within.{store-within}
 

@@ -23,13 +23,13 @@ use Rattle.model.proofs.Demand as abstract
 use Rattle.store.specs.Outcome.{Buffers, Outcome, outcome}
 use Rattle.store.specs.Checks.{makeCheck}
 use Rattle.store.specs.State.{stateOf, standing, slots}
-use Rattle.store.specs.Calls.{makeCall, openCall}
+use Rattle.store.specs.Calls.{makeCall, openCall, afterOpenings, openingAfter}
 use Rattle.store.specs.Means.{makeMeans, roomOf}
 use Rattle.store.proofs.Means.{seenOf, by-check, make-means, store-standing}
 use Rattle.store.proofs.Standing.{is-standing}
 use Rattle.store.proofs.Pending.{make-pending}
 use Rattle.demands.specs.Session.{callOn, inputOn, session, buffersAfter, wasStopped, isOpening, openingRule}
-use Rattle.demands.specs.Demands.{lengthsRight, asked, opens, madeFrom, MakeDone, Demand3, historyOf, historyNow, openings, allStopped, openedAfter, countsOf, CountsOne, Counted}
+use Rattle.demands.specs.Demands.{lengthsRight, asked, opens, madeFrom, MakeDone, Demand3, historyOf, historyNow, openings, allStopped, countsOf, CountsOne, Counted}
 use Rattle.demands.proofs.Shape.{input-alike, refused-kept}
 use Rattle.demands.proofs.Steps.{Fits, Pends, Moves, worldOf, exact, open-seen, open-refusal, not-due, input-moves}
 use Rattle.demands.proofs.Seen.{call-means, call-passed}
@@ -134,11 +134,15 @@ counts-then (i ∷ is) rest b n =
     ∙ sym (append-assoc (countEvent (o .event) (o .memory) n) (counts (observe o n) (session is ((inputOn i b) .buffers)))
     (counts (historyAfter n (session (i ∷ is) b)) (session rest (buffersAfter (i ∷ is) b))))
 
-pub buffers-then : (l rest : List Input) (b : Buffers) → buffersAfter (l ++ rest) b ≡ buffersAfter rest (buffersAfter l b)
+buffers-then : (l rest : List Input) (b : Buffers) → buffersAfter (l ++ rest) b ≡ buffersAfter rest (buffersAfter l b)
 buffers-then [] rest b = refl
 buffers-then (i ∷ is) rest b = buffers-then is rest ((inputOn i b) .buffers)
 
-pub openings-then : (ks : List ℕ) (i : ℕ) → openings (ks ++ i ∷ []) ≡ openings ks ++ opening i ∷ []
+openings-after : (ks : List ℕ) (b : Buffers) → buffersAfter (openings ks) b ≡ afterOpenings ks b
+openings-after [] b = refl
+openings-after (k ∷ ks) b = openings-after ks ((outcome (openCall b) k b) .buffers)
+
+openings-then : (ks : List ℕ) (i : ℕ) → openings (ks ++ i ∷ []) ≡ openings ks ++ opening i ∷ []
 openings-then [] i = refl
 openings-then (k ∷ ks) i = ap (λ (l : List Input). opening k ∷ l) (openings-then ks i)
 
@@ -340,10 +344,10 @@ module _ (b : Buffers) (k : ℕ) (l : List Input) (h j : ℕ) (e : MakeDone b k)
   -- the stopped restore adds no count, nor does a stopped opening; the opening that is done adds one, of the memory that it leaves
   pub late-counts : (ks : List ℕ) (i x : ℕ) → (callOn (restore h) j (buffersAfter l (madeFrom b k))) .report .status ≡ isStopped
       → allStopped ks ((callOn (restore h) j (buffersAfter l (madeFrom b k))) .buffers)
-      → (openedAfter ks i ((callOn (restore h) j (buffersAfter l (madeFrom b k))) .buffers)) .report ≡ done (suc x) 0
+      → (openingAfter ks i ((callOn (restore h) j (buffersAfter l (madeFrom b k))) .buffers)) .report ≡ done (suc x) 0
       → CountsOne h (madeFrom b k) l (call (restore h) j ∷ openings (ks ++ i ∷ []))
   late-counts ks i x d stops took =
-      let c = event-late ks i x d stops took in (c .0, c .1, λ g. longer (c .0) (c .2 g))
+      let c = event-late ks i x d stops took-last in (c .0, c .1, λ g. longer (c .0) (c .2 g))
     where
       made : Buffers
       made = madeFrom b k
@@ -367,6 +371,9 @@ module _ (b : Buffers) (k : ℕ) (l : List Input) (h j : ℕ) (e : MakeDone b k)
       before-last : Buffers
       before-last = buffersAfter (openings ks) left
 
+      took-last : (outcome (openCall before-last) i before-last) .report ≡ done (suc x) 0
+      took-last = subst (λ (u : Buffers). (outcome (openCall u) i u) .report ≡ done (suc x) 0) (sym (openings-after ks left)) took
+
       end-memory : (buffersAfter (l ++ call (restore h) j ∷ openings (ks ++ i ∷ [])) (madeFrom b k)) .memory ≡ left .memory
       end-memory =
           ap (λ (x : Buffers). x .memory) (buffers-then l (call (restore h) j ∷ openings (ks ++ i ∷ [])) (madeFrom b k))
@@ -377,7 +384,7 @@ module _ (b : Buffers) (k : ℕ) (l : List Input) (h j : ℕ) (e : MakeDone b k)
       last-event q one =
           let o : Outcome = outcome (openCall before-last) i before-last in
           append-nil (countEvent (opened i (o .report .status) (o .report .steps)) (o .buffers .memory) now)
-          ∙ ap (λ (r : Report). countEvent (opened i (r .status) (r .steps)) (o .buffers .memory) now) took
+          ∙ ap (λ (r : Report). countEvent (opened i (r .status) (r .steps)) (o .buffers .memory) now) took-last
           ∙ ap (λ (m : List ℕ). countEvent (opened i isDone (suc x)) m now) (open-memory i before-last ∙ openings-memory ks left)
           ∙ one
 

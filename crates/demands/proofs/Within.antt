@@ -1,21 +1,18 @@
 -- A store's domains hold cells of memory alone. Assumes nothing.
 use Prim.Native.Nat.{ℕ, zero, suc, _≤_, _<_}
-use mathlib.Core.Bool.{false}
 use mathlib.Core.List.{List}
-use mathlib.Core.Option.{Option, none}
-use mathlib.Core.Path.{_≡_, refl, sym, ap, subst, _∙_}
+use mathlib.Core.Option.{none}
+use mathlib.Core.Path.{_≡_, sym, ap, subst, _∙_}
 use native.Mathlib.Omega.{arith}
-use lib.Dec.{leb, eqb}
 use lib.ListN.{length, take}
 use Rattle.words.specs.Layout.{cellsOf, slotsOf, pairsAt}
 use Rattle.words.proofs.Scan.{by-le}
-use Rattle.table.specs.Entry.{live, word1, depthOf, cellOf, findIn, holdsIn}
+use Rattle.table.specs.Entry.{live, word1, depthOf, cellOf, findIn}
 use Rattle.table.proofs.Rule.{Rule}
-use Rattle.table.proofs.Entry.{find-hit, find-none, holds-false}
-use Rattle.model.specs.State.{State, Holding}
-use Rattle.model.specs.Holdings.{holdingAt}
+use Rattle.table.proofs.Entry.{find-none, holds-false}
+use Rattle.model.specs.State.{State}
 use Rattle.model.specs.Session.{Within}
-use Rattle.store.specs.Outcome.{Buffers, buffers}
+use Rattle.store.specs.Outcome.{buffers}
 use Rattle.store.specs.Checks.{storeCheck}
 use Rattle.store.specs.State.{heldIn, stateIn, stateOf}
 use Rattle.store.proofs.Means.{store-rule, store-state}

@@ -20,11 +20,15 @@ use Rattle.model.specs.Calls.{change, makeSteps, listed}
 use Rattle.model.specs.Holdings.{named, isLive, isInnermost, rangeOk}
 use Rattle.model.specs.History.{Request, create, list, add, delete, advance, commit, restore, look, History, Tracked, begun, finished, trackedAt, mismatches, counts, historyAfter}
 use Rattle.model.specs.Session.{Input, make, call, opening, write, effectOf, memoryAfter, viewOf, Mixed, AllZero, Agrees}
-use Rattle.store.specs.Outcome.{Buffers, Step, step, Outcome, outcome, leaves}
+use Rattle.store.specs.Outcome.{Buffers, Step, step, Call, Outcome, outcome, leaves}
 use Rattle.store.specs.Checks.{openCheck, storeCheck}
 use Rattle.store.specs.State.{StandsFor, slots, effectiveTable, stateOf, standing}
-use Rattle.store.specs.Calls.{makeCall, openCall}
-use Rattle.store.specs.Means.{seen, orRefused, makeMeans, openMeans, listMeans, roomOf}
+use Rattle.store.specs.Calls.{makeCall, openCall, openingAfter}
+use Rattle.store.specs.Means.{seenOf, orRefused, Reopens, makeMeans, openMeans, listMeans, roomOf}
+use Rattle.add.specs.Add.{addCall, addMeans}
+use Rattle.add.specs.Choice as adding
+use Rattle.advance.specs.Advance.{advanceCall, bodyFor, advanceMeans}
+use Rattle.advance.specs.Choice as advancing
 use Rattle.look.specs.Look.{lookPlace, placeByState, placeWithin, shownAt, lookMeans}
 use Rattle.store.proofs.make.Statement as make-contract
 use Rattle.store.proofs.open.Statement as open-contract
@@ -154,7 +158,7 @@ pub record Demand1 : Type 0 where
 
 -- what is to be seen of a call: its report, the state that opening finds, and memory
 abbrev pub shows : Outcome → View
-shows o = seen (o .report) (o .buffers)
+shows o = seenOf o
 
 -- and what should be: questions 1 to 4 are put to the buffers, the others to the state
 abbrev pub callView : Request → (budget : ℕ) → Buffers → View
@@ -180,25 +184,28 @@ pub data Found (c : Request) (b left : Buffers) : Type 0 where
   wholly-made : {bytes words h : ℕ} {new : State} → effectOf (roomOf b) (b .memory) c (stateOf b) ≡ change bytes words h new → standing left ≡ some new
       → 0 < pending (left .table) → left .memory ≡ memoryAfter c (stateOf b) (b .memory) → Found c b left
 
--- openings with these budgets, all of them stopped, and then one with budget j
-abbrev pub openings : List ℕ → List Input
-openings [] = []
-openings (k ∷ ks) = opening k ∷ openings ks
-
-abbrev pub allStopped : List ℕ → Buffers → Type 0
-allStopped [] b = Unit {0}
-allStopped (k ∷ ks) b = ((outcome (openCall b) k b) .report .status ≡ isStopped) × allStopped ks ((outcome (openCall b) k b) .buffers)
-
-abbrev pub openedAfter : List ℕ → (j : ℕ) → Buffers → Outcome
-openedAfter ks j b = inputOn (opening j) (buffersAfter (openings ks) b)
-
--- what the first done opening after a cut leaves, `final`: the state and the memory that the cut left; of a call not made, everything that it left;
--- of one wholly made, word for word and byte for byte, what the call leaves when it is not cut
+-- what an opening that is done leaves, `final`, where a cut left `left`, whatever openings came between: the state and the memory that the cut left;
+-- of a call not made, everything that it left; of one wholly made, word for word and byte for byte, what the call leaves when it is not cut
 pub record Reopened (c : Request) (b left final : Buffers) : Type 0 where
   pub state : standing final ≡ standing left
   pub memory : final .memory ≡ left .memory
   pub unmade : pending (left .table) ≡ 0 → final ≡ left
   pub made : 0 < pending (left .table) → (k : ℕ) → (callOn c k b) .report .status ≡ isDone → final ≡ (callOn c k b) .buffers
+
+-- "Two things are left free: which entries and bodies a call takes, though each was free before the call": the lowest free ones, which
+-- the contracts name, and what it is for a call to mean this and to be found after every cut as wholly made or not made
+abbrev pub lowestSlot : (first : ℕ) → Buffers → (j : ℕ) → ℕ
+lowestSlot first b = adding.slotFor (slots b) (b .table) first
+
+abbrev pub lowestBody : (first : ℕ) → Buffers → (j : ℕ) → ℕ
+lowestBody first b = adding.bodyFor (slots b) (cellsOf (length (b .bodies))) (b .table) first
+
+abbrev pub advanceBody : Buffers → (c : ℕ) → ℕ
+advanceBody b = bodyFor (slots b) (cellsOf (length (b .bodies))) (b .table)
+
+pub record Means (call : Call) (means : (k : ℕ) → View) (b : Buffers) : Type 0 where
+  pub shown : (k : ℕ) → shows (outcome call k b) ≡ means k
+  pub reopens : asked b ≡ 0 → Reopens call b
 
 -- "The buffers after budget k + 1 differ from those after k in at most one word or byte": they are the same, or one store more is made
 abbrev pub OneMore : (before after : Buffers) → Type 0
@@ -244,6 +251,15 @@ pub record Demand2 : Type 0 where
   -- a call that is done, an opening too, leaves word 6 zero, and questions 1 to 4 are answered yes after it
   pub done-clears : (i : Input) (b : Buffers) → isCall i ≡ true → (inputOn i b) .report .status ≡ isDone → pending ((inputOn i b) .buffers .table) ≡ 0
   pub done-ready : (i : Input) (b : Buffers) → isCall i ≡ true → (inputOn i b) .report .status ≡ isDone → asked ((inputOn i b) .buffers) ≡ 0
+  -- the slots and bodies that add takes, and the bodies that advance takes, were free before the call and differ; and with any such places each means
+  -- the same
+  pub add-takes : (h first n kind label : ℕ) (b : Buffers) → adding.MayTake h first n kind label b (lowestSlot first b) (lowestBody first b)
+  pub add-is : (h first n kind label : ℕ) (b : Buffers) → addCall h first n kind label b ≡ adding.addWith (lowestSlot first b) (lowestBody first b) h first n kind label b
+  pub add-any : (h first n kind label : ℕ) (b : Buffers) (slot body : ℕ → ℕ) → adding.MayTake h first n kind label b slot body
+      → Means (adding.addWith slot body h first n kind label b) (λ k. addMeans h first n kind label k b) b
+  pub advance-takes : (h : ℕ) (b : Buffers) → advancing.MayTake h b (advanceBody b)
+  pub advance-is : (h : ℕ) (b : Buffers) → advanceCall h b ≡ advancing.advanceWith (advanceBody b) h b
+  pub advance-any : (h : ℕ) (b : Buffers) (body : ℕ → ℕ) → advancing.MayTake h b body → Means (advancing.advanceWith body h b) (λ k. advanceMeans h k b) b
   -- "A table that opening accepts stands for one state of domains and holdings"
   pub stands : (b : Buffers) → opens b ≡ 0 → StandsFor (slots b) (effectiveTable b) (b .bodies) (stateOf b)
   pub one-state : (b : Buffers) (s : State) → opens b ≡ 0 → StandsFor (slots b) (effectiveTable b) (b .bodies) s → s ≡ stateOf b
@@ -255,8 +271,8 @@ pub record Demand2 : Type 0 where
   -- a cut call, and the openings after it: each keeps state and memory, whether it is done or stopped
   pub cut : (c : Request) (k : ℕ) (b : Buffers) → (callOn c k b) .report .status ≡ isStopped → Found c b ((callOn c k b) .buffers)
   pub reopened : (c : Request) (k : ℕ) (ks : List ℕ) (j : ℕ) (b : Buffers) → (callOn c k b) .report .status ≡ isStopped
-      → allStopped ks ((callOn c k b) .buffers) → (openedAfter ks j ((callOn c k b) .buffers)) .report .status ≡ isDone
-      → Reopened c b ((callOn c k b) .buffers) ((openedAfter ks j ((callOn c k b) .buffers)) .buffers)
+      → (openingAfter ks j ((callOn c k b) .buffers)) .report .status ≡ isDone
+      → Reopened c b ((callOn c k b) .buffers) ((openingAfter ks j ((callOn c k b) .buffers)) .buffers)
   pub opening-keeps : (k : ℕ) (b : Buffers) → opens b ≡ 0
       → (standing ((outcome (openCall b) k b) .buffers) ≡ standing b) × ((outcome (openCall b) k b) .buffers .memory ≡ b .memory)
 
@@ -276,6 +292,15 @@ historyOf b l = historyAfter begun (session l b)
 
 abbrev pub historyNow : Buffers → History → History
 historyNow b n = cond (eqb (pending (b .table)) 0) n (finished (n .waiting) (b .memory) n)
+
+-- openings with these budgets, and that each of them is stopped
+abbrev pub openings : List ℕ → List Input
+openings [] = []
+openings (k ∷ ks) = opening k ∷ openings ks
+
+abbrev pub allStopped : List ℕ → Buffers → Type 0
+allStopped [] b = Unit {0}
+allStopped (k ∷ ks) b = ((outcome (openCall b) k b) .report .status ≡ isStopped) × allStopped ks ((outcome (openCall b) k b) .buffers)
 
 -- the counts of a session
 abbrev pub countsOf : Buffers → List Input → List ℕ
@@ -300,7 +325,7 @@ pub record Counted : Type 0 where
       → openingRule false (l ++ call (restore h) j ∷ []) (madeFrom b k) ≡ true
       → (callOn (restore h) j (buffersAfter l (madeFrom b k))) .report .status ≡ isStopped
       → allStopped ks ((callOn (restore h) j (buffersAfter l (madeFrom b k))) .buffers)
-      → (openedAfter ks i ((callOn (restore h) j (buffersAfter l (madeFrom b k))) .buffers)) .report ≡ done (suc x) 0
+      → (openingAfter ks i ((callOn (restore h) j (buffersAfter l (madeFrom b k))) .buffers)) .report ≡ done (suc x) 0
       → CountsOne h (madeFrom b k) l (call (restore h) j ∷ openings (ks ++ i ∷ []))
 
 -- ---- the whole: the contracts of the calls and of the functions of C, and the demands

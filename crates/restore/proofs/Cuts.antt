@@ -1,36 +1,34 @@
 -- What opening finds after every cut of restore, what memory holds then, how many steps the call takes at most, and how many pairs it leaves
 -- pending. Assumes nothing.
-use Prim.Native.Nat.{ℕ, _+_, _-_, _*_, _≤_, _<_}
+use Prim.Native.Nat.{ℕ, _+_, _-_, _*_, _≤_}
 use mathlib.Core.Bool.{false}
-use mathlib.Core.List.{List, []}
+use mathlib.Core.List.{List}
 use mathlib.Core.Path.{_≡_, sym, ap, subst, _∙_}
 use native.Mathlib.Omega.{arith}
 use lib.Dec.{ltb, eqb}
 use lib.ListN.{length, getD, take}
-use lib.Seq.{take-nil, take-all}
+use lib.Seq.{take-all}
 use Rattle.words.specs.Layout.{cellsOf, slotsOf, pairsAt}
 use Rattle.words.specs.Stores.{Store, stores}
-use Rattle.words.specs.Journal.{pending, journal, openings}
+use Rattle.words.specs.Journal.{pending}
 use Rattle.words.proofs.Scan.{by-bool}
-use Rattle.words.proofs.Plans.{Each, length-stores}
+use Rattle.words.proofs.Plans.{length-stores}
 use Rattle.table.specs.Entry.{live}
 use Rattle.table.proofs.Rule.{Rule}
 use Rattle.search.specs.Domain.{depthNamed}
 use Rattle.search.proofs.Domain.{depth-small}
 use Rattle.model.specs.State.{State}
-use Rattle.model.specs.Answer.{done, ask, stepsOf}
+use Rattle.model.specs.Answer.{ask, stepsOf}
 use Rattle.model.specs.Holdings.{named, isHeld}
 use Rattle.model.specs.Restore.{cellOfByte, outermost, restoredMemory, cellsPutBack, restoreEffect}
 use Rattle.model.specs.Restore as model
 use Rattle.model.specs.Session.{Mixed}
 use Rattle.model.proofs.Views.{all-stored, part-stored}
-use Rattle.store.specs.Outcome.{Buffers, buffers, outcome, leaves, perform}
+use Rattle.store.specs.Outcome.{Buffers, buffers, outcome, perform}
 use Rattle.store.specs.Checks.{storeCheck}
 use Rattle.store.specs.State.{stateOf}
-use Rattle.store.specs.Calls.{openCall}
 use Rattle.store.proofs.Checks.{orElse-both, orElse-go}
 use Rattle.store.proofs.Outermost.{store-held}
-use Rattle.store.proofs.Changes.{change-unmade, change-reopened}
 use Rattle.store.proofs.Pending.{pendingAfter, afterPending, change-pending, call-pending}
 use Rattle.store.proofs.Raw.{raw-rule, raw-state, raw-named}
 use Rattle.restore.specs.Restore.{restoreCheck, restoreBytes, restoreWords, restorePlan, restoreCall}
@@ -76,45 +74,6 @@ module _ (memory bodies t : List ℕ) (yes : storeCheck (length memory) (length 
   rule-then : (k : ℕ) → Rule (cellsOf (length (filled k))) e b (stores ws (take (pairsAt (slotsOf (length t))) t))
   rule-then k =
       subst (λ (n : ℕ). Rule (cellsOf n) e b (stores ws (take (pairsAt (slotsOf (length t))) t))) (same-length k) (new-rule memory bodies t yes d low high)
-
-  -- ---- cuts: with p words, up to 2p steps after the bytes not made, from then on made by opening in p + 1 steps
-
-  -- cut in the bytes or in the pairs: opening takes no step, and table and bodies stand for the state before the call
-  pub restore-unmade : (k j : ℕ) → k ≤ length (restoreBytes (cellsOf (length memory)) d bodies t) + 2 * length (restoreWords d t)
-      → outcome (openCall (buffers (stores (take k (restoreBytes (cellsOf (length memory)) d bodies t)) memory) bodies
-      (stores (take (k - length (restoreBytes (cellsOf (length memory)) d bodies t)) (journal (pairsAt (slotsOf (length t))) (restoreWords d t))) t))) j
-      (buffers (stores (take k (restoreBytes (cellsOf (length memory)) d bodies t)) memory) bodies
-      (stores (take (k - length (restoreBytes (cellsOf (length memory)) d bodies t)) (journal (pairsAt (slotsOf (length t))) (restoreWords d t))) t))
-      ≡ leaves (done 0 0) (buffers (stores (take k (restoreBytes (cellsOf (length memory)) d bodies t)) memory) bodies
-      (stores (take (k - length (restoreBytes (cellsOf (length memory)) d bodies t)) (journal (pairsAt (slotsOf (length t))) (restoreWords d t))) t))
-  restore-unmade k j l =
-      let i : ℕ = k - length bytes in
-      let z : k - length bytes - 0 ≡ k - length bytes = omega arith in
-      let nil : take {A = Store} (k - length bytes) [] ≡ [] = take-nil (k - length bytes) in
-      rw (z, nil) at
-      (change-unmade (filled k) bodies t (yes-then k) [] ws tt (room memory bodies t yes d low high) (names memory bodies t yes d low high) (rule-then k) (k - length bytes) j (omega arith))
-
-  -- cut from word 6 on, with any number of stopped openings after it: opening gives the buffers of the uncut call, memory whole
-  pub restore-reopened : (k j : ℕ) (ks : List ℕ) → 0 < length (restoreWords d t)
-      → length (restoreBytes (cellsOf (length memory)) d bodies t) + 2 * length (restoreWords d t) < k
-      → k ≤ length (restoreBytes (cellsOf (length memory)) d bodies t) + (3 * length (restoreWords d t) + 1)
-      → Each (λ x. x ≤ length (restoreWords d t)) ks → length (restoreWords d t) < j
-      → outcome (openCall (buffers (stores (take k (restoreBytes (cellsOf (length memory)) d bodies t)) memory) bodies
-      (openings (pairsAt (slotsOf (length t))) ks
-      (stores (take (k - length (restoreBytes (cellsOf (length memory)) d bodies t)) (journal (pairsAt (slotsOf (length t))) (restoreWords d t))) t)))) j
-      (buffers (stores (take k (restoreBytes (cellsOf (length memory)) d bodies t)) memory) bodies
-      (openings (pairsAt (slotsOf (length t))) ks
-      (stores (take (k - length (restoreBytes (cellsOf (length memory)) d bodies t)) (journal (pairsAt (slotsOf (length t))) (restoreWords d t))) t)))
-      ≡ leaves (done (length (restoreWords d t) + 1) 0)
-      (buffers (stores (restoreBytes (cellsOf (length memory)) d bodies t) memory) bodies (stores (journal (pairsAt (slotsOf (length t))) (restoreWords d t)) t))
-  restore-reopened k j ks pos late early stops enough =
-      let z : k - length bytes - 0 ≡ k - length bytes = omega arith in
-      let nil : take {A = Store} (k - length bytes) [] ≡ [] = take-nil (k - length bytes) in
-      let full : filled k ≡ stores bytes memory = ap (λ (ps : List Store). stores ps memory) (take-all k bytes (omega arith)) in
-      (rw (z, nil) at
-      (change-reopened (filled k) bodies t (yes-then k) [] ws tt (room memory bodies t yes d low high) (names memory bodies t yes d low high) (rule-then k)
-      (k - length bytes) j ks pos (omega arith) (omega arith) stops enough))
-      ∙ ap (λ (now : List ℕ). leaves (done (length ws + 1) 0) (buffers now bodies (stores (journal first ws) t))) full
 
   -- "every other call at most 70E + 32"
   pub restore-bound : stepsOf (64 * cellsPutBack (cellsOf (length memory)) d (stateOf (buffers memory bodies t)))

@@ -1,12 +1,12 @@
--- Every changing call: from its stores to what it means at every budget, and to what opening finds after every cut. A call owes only that its
--- bytes spare the bodies in use, that its words may be named by pairs and leave a right table, and the state of that table.
+-- Every changing call: from its stores to what it means at every budget. A call owes only that its bytes spare the bodies in use, that its words may be
+-- named by pairs and leave a right table, and the state of that table.
 -- Assumes nothing.
 use Prim.Native.Nat.{ℕ, _+_, _-_, _*_, _≤_, _<_}
 use mathlib.Core.Bool.{true, cond}
 use mathlib.Core.List.{List, [], _∷_, map}
 use mathlib.Core.Logic.{_⊎_, ⊎-elim}
 use mathlib.Core.Option.{some}
-use mathlib.Core.Path.{_≡_, refl, sym, ap, subst, _∙_}
+use mathlib.Core.Path.{_≡_, refl, sym, ap, _∙_}
 use native.Mathlib.Omega.{arith}
 use borrow.Author.Tests.{eq-eqb, ne-eqb, lt-ltb, le-ltb}
 use lib.Dec.{ltb}
@@ -14,28 +14,26 @@ use lib.ListN.{length, take, drop, length-append, length-map, length-take, lengt
 use lib.Seq.{take-all, ext-getD, getD-take, getD-drop}
 use Rattle.words.specs.Layout.{cellAt, cellsOf, slotsOf, pairsAt, maxPairs, tableWords}
 use Rattle.words.specs.Stores.{Store, store, stores}
-use Rattle.words.specs.Journal.{pending, namesOk, effective, openPlan, applyPlan, journal, openings}
+use Rattle.words.specs.Journal.{pending, namesOk, effective, journal}
 use Rattle.words.specs.Cells.{cellBytes}
 use Rattle.words.proofs.Scan.{by-le}
-use Rattle.words.proofs.Places.{pendingAt-below}
 use Rattle.words.proofs.Plans.{Each, each-take, length-stores, stores-none, getD-stores, each-map, run-take-append, take-map}
-use Rattle.words.proofs.Pairs.{length-journal, journal-some, journal-none, open-pending, length-applyPlan}
+use Rattle.words.proofs.Pairs.{length-journal, journal-some, journal-none}
 use Rattle.words.proofs.Journal as law
 use Rattle.table.specs.Entry.{word2}
 use Rattle.table.proofs.Rule.{Rule}
 use Rattle.search.proofs.Value.{Copy}
 use Rattle.model.specs.State.{State}
-use Rattle.model.specs.Answer.{Report, done, ended, stepsOf}
+use Rattle.model.specs.Answer.{Report, ended, stepsOf}
 use Rattle.model.specs.Calls.{viewed, change}
 use Rattle.store.specs.Outcome.{buffers, inBodies, inTable, step, steps, outcome, leaves, perform, changePlan}
 use Rattle.store.specs.Checks.{shapeCheck, openCheck, storeCheck}
 use Rattle.store.specs.State.{stateIn, stateOf, standing}
-use Rattle.store.specs.Calls.{openCall}
 use Rattle.store.proofs.Checks.{store-shape, store-idle, store-opens, shape-lengths}
-use Rattle.store.proofs.Outcome.{steps-inTable, ended-done}
+use Rattle.store.proofs.Outcome.{steps-inTable}
 use Rattle.store.proofs.State.{state-kept}
-use Rattle.store.proofs.Cuts.{stands-open, cut, cut-effective, cut-opens, openings-open, openings-pending}
-use Rattle.store.proofs.Means.{seenOf, long, store-effective, store-rule, store-state, open-none, open-performed}
+use Rattle.store.proofs.Cuts.{stands-open, cut, cut-effective, cut-opens}
+use Rattle.store.proofs.Means.{seenOf, long, store-effective, store-rule, store-state}
 
 -- ---- bytes, then words, under one budget
 
@@ -188,70 +186,3 @@ module _ (memory bodies t : List ℕ) (yes : storeCheck (length memory) (length 
         ≡ viewed (change (length bytes) (length ws) h after) k (stateOf (buffers memory bodies t)) memory
     unfolding outcome
     change-seen k = rw (change-steps first k bytes ws memory bodies t, change-length first bytes ws, change-standing k)
-
-  room : 0 < length ws → pairsAt (slotsOf (length t)) + 2 * length ws ≤ length t
-  room pos = omega (arith, t-long)
-
-  -- ---- what opening finds after a cut
-
-  -- every cut can be opened
-  pub change-opens : (k i : ℕ) → openCheck (length memory) (length (filled k)) (worded i) ≡ 0
-  change-opens k i =
-      by-le (length ws) 0
-      (λ z.
-      let same : worded i ≡ t = rw (journal-none first ws (omega arith)) (sym (stores-none i t)) in
-      rw (same, same-bytes k) (store-opens (length memory) (length bodies) t yes))
-      (λ pos. rw (same-bytes k) (worded-opens pos i))
-
-  -- where no pair is pending, opening takes no step and leaves everything as it is
-  pub change-idle : (k j i : ℕ) → pending (worded i) ≡ 0
-      → outcome (openCall (buffers memory (filled k) (worded i))) j (buffers memory (filled k) (worded i)) ≡ leaves (done 0 0) (buffers memory (filled k) (worded i))
-  change-idle k j i none-left = sym (open-none memory (filled k) (worded i) j (change-opens k i) none-left)
-
-  -- so after a cut in the bytes or in the pairs: the call is not made
-  pub change-unmade : (k j : ℕ) → k ≤ length bytes + 2 * length ws
-      → outcome (openCall (buffers memory (filled k) (worded (k - length bytes)))) j (buffers memory (filled k) (worded (k - length bytes)))
-      ≡ leaves (done 0 0) (buffers memory (filled k) (worded (k - length bytes)))
-  change-unmade k j l =
-      let i : ℕ = k - length bytes in
-      change-idle k j i
-      (by-le (length ws) 0
-      (λ z.
-      let same : worded i ≡ t = rw (journal-none first ws (omega arith)) (sym (stores-none i t)) in
-      ap (λ (x : List ℕ). pending x) same ∙ idle)
-      (λ pos. ap (λ (x : List ℕ). pending x) (cut-is pos i) ∙ law.cut-idle first ws t (pendingAt-below e) (room pos) idle pos names i (omega arith)))
-
-  -- cut from word 6 on, with any number of stopped openings after it: opening takes p + 1 steps and leaves, word for word and byte for byte,
-  -- the buffers of the uncut call
-  pub change-reopened : (k j : ℕ) (ks : List ℕ) → 0 < length ws → length bytes + 2 * length ws < k → k ≤ length bytes + (3 * length ws + 1) → Each (λ x. x ≤ length ws) ks → length ws < j
-      → outcome (openCall (buffers memory (filled k) (openings (pairsAt (slotsOf (length t))) ks (worded (k - length bytes))))) j
-      (buffers memory (filled k) (openings (pairsAt (slotsOf (length t))) ks (worded (k - length bytes))))
-      ≡ leaves (done (length ws + 1) 0) (buffers memory (stores bytes bodies) (stores (journal (pairsAt (slotsOf (length t))) ws) t))
-  change-reopened k j ks pos late early stops enough =
-      let i : ℕ = k - length bytes in
-      let after6 : 2 * length ws < i = omega arith in
-      let upto : i ≤ 3 * length ws + 1 = omega arith in
-      let u : List ℕ = openings first ks (worded i) in
-      let full : filled k ≡ stores bytes bodies = rw (take-all k bytes (omega arith)) in
-      let wl : length (worded i) ≡ length t = worded-length i in
-      let ul : length u ≡ length t = law.openings-length first ks (worded i) ∙ wl in
-      let at : pairsAt (slotsOf (length (worded i))) ≡ first = ap (λ (x : ℕ). pairsAt (slotsOf x)) wl in
-      let wlong : length (worded i) ≡ tableWords (slotsOf (length (worded i))) = wl ∙ t-long ∙ ap (λ (x : ℕ). tableWords (slotsOf x)) (sym wl) in
-      let opens : openCheck (length memory) (length (filled k)) u ≡ 0 =
-      rw (same-bytes k) (subst (λ (x : ℕ). openCheck (length memory) (length bodies) (openings x ks (worded i)) ≡ 0) at
-      (openings-open (length memory) (length bodies) ks (worded i) wlong (worded-opens pos i))) in
-      let waiting : pending (worded i) ≡ length ws = ap (λ (x : List ℕ). pending x) (cut-is pos i) ∙ law.cut-pending first ws t (pendingAt-below e) (room pos) idle pos names i after6 upto in
-      let count : length ws ≡ pending u =
-      sym (subst (λ (x : ℕ). pending (openings x ks (worded i)) ≡ length ws) at
-      (openings-pending (length memory) (length bodies) (length ws) ks (worded i) wlong (worded-opens pos i) waiting stops)) in
-      let final : stores (openPlan first u) u ≡ stores (journal first ws) t =
-      ap (λ (x : List ℕ). stores (openPlan first (openings first ks x)) (openings first ks x)) (cut-is pos i)
-      ∙ law.cut-openings-again first ws t (pendingAt-below e) (room pos) idle pos names i ks after6
-      ∙ ap (λ (ps : List Store). stores ps t) (journal-some first ws pos) in
-      let plan : openPlan first u ≡ applyPlan u first (length ws) = open-pending first (length ws) u (sym count) pos in
-      let all : stores (take j (applyPlan u first (length ws))) u ≡ stores (journal first ws) t =
-      ap (λ (ps : List Store). stores ps u) (take-all j (applyPlan u first (length ws)) (rw length-applyPlan (omega arith)))
-      ∙ ap (λ (ps : List Store). stores ps u) (sym plan) ∙ final in
-      sym (ap (λ (b : List ℕ). leaves (done (length ws + 1) 0) (buffers memory b (stores (journal first ws) t))) (sym full)
-      ∙ open-performed memory (filled k) u j (length ws) first (stores (journal first ws) t) (done (length ws + 1) 0) opens count (λ z. omega arith)
-      (ap (λ (x : ℕ). pairsAt (slotsOf x)) (sym ul)) (sym all) (sym (ended-done (length ws + 1) 0 j (omega arith))))

@@ -1,33 +1,33 @@
 -- Create, from its stores to what it means and to what opening finds after every cut of it. Assumes nothing.
-use Prim.Native.Nat.{ℕ, zero, suc, _+_, _-_, _*_, _≤_, _<_}
-use mathlib.Core.Bool.{Bool, true, false, cond}
-use mathlib.Core.List.{List, [], _∷_, map}
-use mathlib.Core.Option.{Option, none, some}
+use Prim.Native.Nat.{ℕ, suc, _-_, _≤_, _<_}
+use mathlib.Core.Bool.{true}
+use mathlib.Core.List.{List, []}
+use mathlib.Core.Option.{Option}
 use mathlib.Core.Path.{_≡_, refl, sym, ap, subst, _∙_}
 use native.Mathlib.Omega.{arith}
 use borrow.Author.Tests.{ltb-true}
-use lib.Dec.{leb, ltb, eqb}
-use lib.ListN.{length, getD, take, length-take}
-use lib.Seq.{getD-take, take-nil}
-use Rattle.words.specs.Layout.{liveAt, nextAt, pairsAt, slotsOf, cellsOf, tableWords, maxLive, handleAt}
-use Rattle.words.specs.Stores.{Store, stores}
-use Rattle.words.specs.Journal.{pending, namesOk, journal, openings}
-use Rattle.words.proofs.Plans.{Each, stores-none}
+use lib.Dec.{ltb}
+use lib.ListN.{length, take, length-take}
+use lib.Seq.{getD-take}
+use Rattle.words.specs.Layout.{liveAt, nextAt, pairsAt, slotsOf, cellsOf, maxLive}
+use Rattle.words.specs.Stores.{stores}
+use Rattle.words.specs.Journal.{pending, namesOk, journal}
+use Rattle.words.proofs.Plans.{stores-none}
 use Rattle.table.specs.Entry.{live, nextHandle}
 use Rattle.table.proofs.Rule.{Rule}
 use Rattle.model.specs.State.{State}
-use Rattle.model.specs.Answer.{Report, done, refused, ended, ask, orElse, view}
-use Rattle.model.specs.Calls.{Effect, viewed, change, orRefuse, created, createEffect}
-use Rattle.store.specs.Outcome.{Buffers, buffers, changePlan, Outcome, outcome, leaves, perform, unless}
-use Rattle.store.specs.Checks.{openCheck, storeCheck, createCheck}
-use Rattle.store.specs.State.{stateIn, stateOf, standing}
-use Rattle.store.specs.Calls.{openCall, createWords, createCall}
+use Rattle.model.specs.Answer.{Report, refused, ended, ask, orElse, view}
+use Rattle.model.specs.Calls.{viewed, change, orRefuse, created, createEffect}
+use Rattle.store.specs.Outcome.{Buffers, buffers, changePlan, outcome, leaves, perform, unless}
+use Rattle.store.specs.Checks.{storeCheck, createCheck}
+use Rattle.store.specs.State.{stateIn, stateOf}
+use Rattle.store.specs.Calls.{createWords, createCall}
 use Rattle.store.specs.Means.{orRefused, callMeans, createMeans}
-use Rattle.store.proofs.Checks.{ask-yes, orElse-go, create-store, create-live}
+use Rattle.store.proofs.Checks.{ask-yes, orElse-go}
 use Rattle.store.proofs.Outcome.{refuses}
 use Rattle.store.proofs.Means.{seenOf, by-check, t-long, store-rule, store-state, store-standing, live-count, next-is}
 use Rattle.store.proofs.Creating.{create-rule, create-state, create-names}
-use Rattle.store.proofs.Changes.{Spares, change-performed, change-seen, change-unmade, change-reopened}
+use Rattle.store.proofs.Changes.{change-performed, change-seen}
 use Rattle.store.proofs.Pending.{pendingAfter, afterPending, performed-pending, call-pending}
 
 pub create-words : (t : List ℕ) → length (createWords t) ≡ 3
@@ -72,28 +72,6 @@ module _ (memory bodies t : List ℕ) (yes : storeCheck (length memory) (length 
   left : (k : ℕ) → pending ((outcome (perform (changePlan first [] (createWords t)) (nextHandle t)) k (buffers memory bodies t)) .buffers .table) ≡ pendingAfter 0 3 k
   unfolding createWords
   left k = performed-pending memory bodies t yes [] (createWords t) (omega arith) new-names (nextHandle t) k
-
-  -- ---- cuts: 0 to 6 not made, 7 to 10 made by opening in 4 steps
-
-  pub create-unmade : (k j : ℕ) → k ≤ 6
-      → outcome (openCall (buffers memory bodies (stores (take k (journal (pairsAt (slotsOf (length t))) (createWords t))) t))) j
-      (buffers memory bodies (stores (take k (journal (pairsAt (slotsOf (length t))) (createWords t))) t))
-      ≡ leaves (done 0 0) (buffers memory bodies (stores (take k (journal (pairsAt (slotsOf (length t))) (createWords t))) t))
-  unfolding createWords
-  create-unmade k j l =
-      let z : k - 0 ≡ k = omega arith in
-      let nil : take {A = Store} k [] ≡ [] = take-nil k in
-      rw (z, nil) at (change-unmade memory bodies t yes [] (createWords t) tt (omega arith) new-names new-rule k j l)
-
-  pub create-reopened : (k j : ℕ) (ks : List ℕ) → 6 < k → k ≤ 10 → Each (λ x. x ≤ 3) ks → 3 < j
-      → outcome (openCall (buffers memory bodies (openings (pairsAt (slotsOf (length t))) ks (stores (take k (journal (pairsAt (slotsOf (length t))) (createWords t))) t)))) j
-      (buffers memory bodies (openings (pairsAt (slotsOf (length t))) ks (stores (take k (journal (pairsAt (slotsOf (length t))) (createWords t))) t)))
-      ≡ leaves (done 4 0) (buffers memory bodies (stores (journal (pairsAt (slotsOf (length t))) (createWords t)) t))
-  unfolding createWords
-  create-reopened k j ks late early stops enough =
-      let z : k - 0 ≡ k = omega arith in
-      let nil : take {A = Store} k [] ≡ [] = take-nil k in
-      rw (z, nil) at (change-reopened memory bodies t yes [] (createWords t) tt (omega arith) new-names new-rule k j ks (omega arith) late early stops enough)
 
 -- questions 9 and 10, of words and of a state
 abbrev asked : ℕ → ℕ → ℕ

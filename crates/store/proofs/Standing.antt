@@ -1,16 +1,14 @@
 -- Demand 2 on states: a table that opening accepts stands for exactly one state, and what does not matter to it. Assumes nothing.
-use Prim.Native.Nat.{ℕ, zero, suc, _+_, _-_, _*_, _≤_, _<_}
-use mathlib.Core.Bool.{Bool, true, false, cond}
-use mathlib.Core.List.{List, [], _∷_}
+use Prim.Native.Nat.{ℕ, _-_}
+use mathlib.Core.List.{List}
 use mathlib.Core.Option.{Option, none, some}
-use mathlib.Core.Path.{_≡_, refl, sym, ap, subst, _∙_}
-use native.Mathlib.Omega.{arith}
-use lib.ListN.{length, getD, set, take, length-set}
-use lib.Seq.{set-out, take-set-le, set-comm, set-set}
-use Rattle.words.specs.Layout.{cellsOf, slotsOf, pairsAt, maxPairs, pendingAt, tableWords}
-use Rattle.words.specs.Stores.{Store, stores}
-use Rattle.words.specs.Journal.{pending, pairs, effective, openPlan, openings}
+use mathlib.Core.Path.{_≡_, refl, subst}
+use borrow.Author.Tests.{eqb-true}
+use lib.Dec.{eqb}
+use lib.ListN.{length}
+use Rattle.words.specs.Layout.{cellsOf}
 use Rattle.words.specs.Cells.{cellBytes}
+use Rattle.words.proofs.Scan.{by-bool}
 use Rattle.table.specs.Entry.{word2}
 use Rattle.table.proofs.Rule.{Rule}
 use Rattle.search.proofs.Value.{Copy}
@@ -18,7 +16,7 @@ use Rattle.model.specs.State.{State}
 use Rattle.store.specs.Outcome.{Buffers, buffers}
 use Rattle.store.specs.Checks.{openCheck}
 use Rattle.store.specs.State.{StandsFor, stateIn, stateOf, standing, slots, effectiveTable}
-use Rattle.store.proofs.Checks.{open-shape, open-table, table-rule, shape-lengths}
+use Rattle.store.proofs.Checks.{open-table, table-rule}
 use Rattle.store.proofs.State.{stands, only, state-kept}
 use Rattle.store.proofs.Cuts.{stands-open}
 
@@ -26,6 +24,18 @@ use Rattle.store.proofs.Cuts.{stands-open}
 
 abbrev pub Opens : Buffers → Type 0
 Opens b = openCheck (length (b .memory)) (length (b .bodies)) (b .table) ≡ 0
+
+abbrev None : Option State → Type 0
+None none = Unit {0}
+None (some s) = ⊥
+
+-- what stands for a state can be opened
+pub standing-opens : (b : Buffers) (s : State) → standing b ≡ some s → Opens b
+unfolding standing
+standing-opens b s e =
+    by-bool (eqb (openCheck (length (b .memory)) (length (b .bodies)) (b .table)) 0)
+    (λ t. eqb-true (openCheck (length (b .memory)) (length (b .bodies)) (b .table)) 0 t)
+    (λ t. let f = rw t at e in absurd (subst None f tt))
 
 module _ (b : Buffers) (opens : Opens b) where
   pub right : Rule (cellsOf (length (b .memory))) (slots b) (cellsOf (length (b .bodies))) (effectiveTable b)

@@ -2,15 +2,13 @@
 use Prim.Native.Nat.{ℕ, _+_, _*_}
 use mathlib.Core.Bool.{cond}
 use mathlib.Core.List.{List, [], _∷_, _++_, map}
-use mathlib.Core.Path.{_≡_}
 use lib.Dec.{eqb}
 use lib.ListN.{length}
 use Rattle.words.specs.Layout.{magic, magicAt, cellsAt, slotsAt, bodiesAt, liveAt, nextAt, handleAt, pairsAt, cellsOf, slotsOf}
 use Rattle.words.specs.Stores.{Store, _≔_, tab}
 use Rattle.words.specs.Journal.{openPlan}
 use Rattle.table.specs.Entry.{live, nextHandle}
-use Rattle.model.specs.Answer.{isStopped}
-use Rattle.store.specs.Outcome.{Buffers, inTable, changePlan, Call, perform, unless, outcome}
+use Rattle.store.specs.Outcome.{Buffers, inTable, changePlan, Call, perform, unless, Outcome, outcome}
 use Rattle.store.specs.Checks.{makeCheck, openCheck, createCheck}
 
 -- ---- make: word 0 cleared, words 1 to 15 + 2E once each, rising, then word 0
@@ -34,14 +32,13 @@ openCall b =
     unless (openCheck (length (b .memory)) (length (b .bodies)) (b .table))
     (perform (map inTable (openPlan (pairsAt (slotsOf (length (b .table)))) (b .table))) 0)
 
--- openings one after the other, each with its own budget: the buffers that they leave, and that each of them is stopped
-abbrev pub reopened : List ℕ → Buffers → Buffers
-reopened [] b = b
-reopened (k ∷ ks) b = reopened ks ((outcome (openCall b) k b) .buffers)
+-- openings one after the other, each with its own budget, and one more after them
+abbrev pub afterOpenings : List ℕ → Buffers → Buffers
+afterOpenings [] b = b
+afterOpenings (k ∷ ks) b = afterOpenings ks ((outcome (openCall b) k b) .buffers)
 
-abbrev pub AllStopped : List ℕ → Buffers → Type 0
-AllStopped [] b = Unit {0}
-AllStopped (k ∷ ks) b = ((outcome (openCall b) k b) .report .status ≡ isStopped) × AllStopped ks ((outcome (openCall b) k b) .buffers)
+abbrev pub openingAfter : List ℕ → (j : ℕ) → Buffers → Outcome
+openingAfter ks j b = outcome (openCall (afterOpenings ks b)) j (afterOpenings ks b)
 
 -- ---- create: the number of live domains, the next handle, and the new domain's handle, by the journal
 

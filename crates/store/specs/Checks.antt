@@ -2,7 +2,7 @@
 use Prim.Native.Nat.{ℕ}
 use mathlib.Core.List.{List}
 use lib.Dec.{eqb, ltb}
-use lib.ListN.{length, getD}
+use lib.ListN.{length}
 use Rattle.words.specs.Layout.{cellsOf, slotsOf, maxLive}
 use Rattle.words.specs.Journal.{pending}
 use Rattle.table.specs.Entry.{live, nextHandle}

@@ -14,7 +14,7 @@ use Rattle.model.specs.Calls.{Effect, refuse, change, viewed, makeView, openVie
 use Rattle.store.specs.Outcome.{Buffers, report, Call, Outcome, leaves, outcome}
 use Rattle.store.specs.Checks.{makeCheck, openCheck, storeCheck}
 use Rattle.store.specs.State.{stateOf, standing, slots}
-use Rattle.store.specs.Calls.{openCall, reopened, AllStopped}
+use Rattle.store.specs.Calls.{openingAfter}
 use Rattle.store.specs.declared.Listing.{Listing}
 
 -- what is to be seen of a report and the buffers left with it
@@ -63,16 +63,14 @@ abbrev pub afterPending : Effect → (k : ℕ) → ℕ
 afterPending (refuse n) k = 0
 afterPending (change b w h new) k = pendingAfter b w k
 
--- "After a cut, opening finds the call wholly made or not made", word for word: it takes no step where no pair is pending; and where pairs are,
--- one that is done, after any number of stopped ones, leaves the buffers of the call with budget enough
+-- "After a cut, opening finds the call wholly made or not made", word for word and whatever openings came before: where no pair is pending it takes no
+-- step; where pairs are, one that is done leaves the buffers of the call with budget enough
 pub record Reopens (c : Call) (b : Buffers) : Type 0 where
-  pub not-made : (k j : ℕ) → leftPending (outcome c k b) ≡ 0
-      → outcome (openCall ((outcome c k b) .buffers)) j ((outcome c k b) .buffers) ≡ leaves (done 0 0) ((outcome c k b) .buffers)
+  pub not-made : (k j : ℕ) (ks : List ℕ) → leftPending (outcome c k b) ≡ 0
+      → openingAfter ks j ((outcome c k b) .buffers) ≡ leaves (done 0 0) ((outcome c k b) .buffers)
   pub made : (k full j : ℕ) (ks : List ℕ) → 0 < leftPending (outcome c k b) → (outcome c full b) .report .status ≡ isDone
-      → AllStopped ks ((outcome c k b) .buffers)
-      → (outcome (openCall (reopened ks ((outcome c k b) .buffers))) j (reopened ks ((outcome c k b) .buffers))) .report .status ≡ isDone
-      → outcome (openCall (reopened ks ((outcome c k b) .buffers))) j (reopened ks ((outcome c k b) .buffers))
-      ≡ leaves (done (leftPending (outcome c k b) + 1) 0) ((outcome c full b) .buffers)
+      → (openingAfter ks j ((outcome c k b) .buffers)) .report .status ≡ isDone
+      → (openingAfter ks j ((outcome c k b) .buffers)) .buffers ≡ (outcome c full b) .buffers
 
 -- ---- list
 

@@ -1,6 +1,5 @@
 -- A call is a refusal or a plan of stores; its outcome at a budget is what the first stores of the plan leave.
 use Prim.Native.Nat.{ℕ}
-use mathlib.Core.Bool.{Bool, true, false, cond}
 use mathlib.Core.List.{List, map, _++_}
 use lib.ListN.{length, take}
 use Rattle.words.specs.Stores.{Store, store, run}
