@@ -6,19 +6,9 @@
  *   bodies   64 * B bytes, B from 1 to 4,096: the kept copies of cells.
  *   table    36 + 6 * E words, E from 1 to 4,096: the contents.
  *
- * Every function takes any buffers and any numbers. It returns 0 when it is done, 255 when it is stopped by its budget, and else the number of
- * the question that refused it; a refused call changes no byte of any buffer. Out parameters are set in every case, to 0 where there is nothing
- * to tell.
- *
- *    1  a length is not allowed                      10  the next handle would not fit
- *    2  no store here: make one first                11  via parent: the parent lacks a cell
- *    3  a call was cut: open first                   12  via parent: memory differs from the parent's value
- *    4  the table is corrupt                         13  the domain does not hold a cell
- *    5  the handle names no live domain              14  a child holds one of the cells via parent
- *    6  the domain is not the innermost              15  the parent does not hold every read-write cell
- *    7  kind or label is not 0 or 1                  16  no entry slots left for the new cells
- *    8  the range of cells is empty or past memory   17  no bodies left for the new copies
- *    9  eight domains are live already
+ * Every function takes any contents and any numbers. It returns DS_DONE, or DS_STOPPED where its budget stopped it, or else the number of the question
+ * that refused it (DS_REFUSED_.., below); a refused call changes no byte of any buffer. Out parameters are set in every case, to 0 where there is
+ * nothing to tell.
  *
  * A budget is the number of stores that a changing call may make; UINT64_MAX lets it finish. Pass it as a number of the run. A call that was
  * stopped, and a call in which the program ended, is followed by ds_open on the same buffers, which finds it wholly made or not made; a make that
@@ -27,9 +17,13 @@
  * Stack of a call at the largest sizes: ds_make 5 KB; ds_open, ds_create, ds_list, ds_look, ds_add, ds_delete, ds_commit, ds_restore 104 KB;
  * ds_advance 120 KB.
  *
- * What the caller owes, and no proof can see: each pointer points to so many elements (lengths are in elements, table_len in words), aligned for
- * its type; buffers and out parameters do not overlap (a pointer is to const where the call never stores into that buffer); and one call at a time is made on a store, with nothing else storing into its buffers
- * meanwhile.
+ * What the caller owes, and no proof can see:
+ *
+ * - Each pointer points to so many elements (lengths are in elements, table_len in words), aligned for its type.
+ * - No pointer is NULL, with one exception: a buffer of length 0 may be, and the call is then refused with DS_REFUSED_LENGTHS without looking at it.
+ *   Out parameters (steps, handle, handles, count, place, offset) are stored to by every call, refused ones too, so none of them is ever NULL.
+ * - Buffers and out parameters do not overlap. A pointer is to const where the call never stores into that buffer.
+ * - One call at a time is made on a store, with nothing else storing into its buffers meanwhile.
  */
 #ifndef DOMAIN_STORE_H
 #define DOMAIN_STORE_H
@@ -41,8 +35,49 @@
 extern "C" {
 #endif
 
-/* A call that was stopped by its budget. */
+/* A call that was carried out. */
+#define DS_DONE 0u
+
+/* A call that was stopped by its budget: ds_open comes next. */
 #define DS_STOPPED 255u
+
+/* Why a call was refused: the first of these that holds, in this order. */
+
+/* A buffer's length is not allowed. */
+#define DS_REFUSED_LENGTHS 1u
+/* The table is no store's for buffers of these lengths. First see that they are the buffers that the store was made in, in their order and whole. Only
+ * where no store was ever made in them, or a make was cut, ds_make is due: it forgets whatever stands there. */
+#define DS_REFUSED_NO_STORE 2u
+/* A call was cut, and what it changes is still pending: ds_open first, then call again. */
+#define DS_REFUSED_PENDING 3u
+/* The table is corrupt: lend an intact copy of all three buffers. */
+#define DS_REFUSED_CORRUPT 4u
+/* The handle names no live domain. */
+#define DS_REFUSED_NO_SUCH_DOMAIN 5u
+/* The domain is not the innermost. */
+#define DS_REFUSED_NOT_INNERMOST 6u
+/* Kind or label is not 0 or 1. */
+#define DS_REFUSED_KIND_OR_LABEL 7u
+/* The range of cells is empty or ends past memory. */
+#define DS_REFUSED_RANGE 8u
+/* Eight domains live already. */
+#define DS_REFUSED_TOO_MANY_DOMAINS 9u
+/* Every handle has been given out. */
+#define DS_REFUSED_NO_HANDLE_LEFT 10u
+/* Via parent: the parent does not hold a cell. */
+#define DS_REFUSED_PARENT_LACKS_CELL 11u
+/* Via parent: memory differs from the parent's value. */
+#define DS_REFUSED_MEMORY_DIFFERS 12u
+/* The domain does not hold a cell that is to be deleted. */
+#define DS_REFUSED_NOT_HELD 13u
+/* The child holds one of the cells that are to be deleted via this domain. */
+#define DS_REFUSED_CHILD_RELIES 14u
+/* The parent does not hold every read-write cell of the domain that is to advance. */
+#define DS_REFUSED_PARENT_LACKS_READ_WRITE 15u
+/* Too few free entries for the new cells. */
+#define DS_REFUSED_NO_FREE_ENTRY 16u
+/* Too few free bodies for the new copies. */
+#define DS_REFUSED_NO_FREE_BODY 17u
 
 /* Kinds and labels of ds_add. */
 #define DS_COPY 0u
@@ -55,37 +90,48 @@ extern "C" {
 #define DS_IN_BODIES 2u
 
 /* Makes a fresh store: no domains, next handle 1, no entries. Whatever the table held before is gone once the first store is made. */
-uint32_t ds_make(const uint8_t *memory, size_t memory_len, const uint8_t *bodies, size_t bodies_len, uint32_t *table, size_t table_len, uint64_t budget, uint64_t *steps);
+uint32_t ds_make(const uint8_t *memory, size_t memory_len, const uint8_t *bodies, size_t bodies_len, uint32_t *table, size_t table_len,
+                 uint64_t budget, uint64_t *steps);
 
 /* Opens a store after a cut: puts the pending pairs in place. Takes no step where nothing is pending. */
-uint32_t ds_open(const uint8_t *memory, size_t memory_len, const uint8_t *bodies, size_t bodies_len, uint32_t *table, size_t table_len, uint64_t budget, uint64_t *steps);
+uint32_t ds_open(const uint8_t *memory, size_t memory_len, const uint8_t *bodies, size_t bodies_len, uint32_t *table, size_t table_len,
+                 uint64_t budget, uint64_t *steps);
 
 /* Adds a domain inside the innermost one. *handle is its handle; 0 where the call was not done (after a cut, ds_list tells it). */
-uint32_t ds_create(const uint8_t *memory, size_t memory_len, const uint8_t *bodies, size_t bodies_len, uint32_t *table, size_t table_len, uint64_t budget, uint64_t *steps, uint32_t *handle);
+uint32_t ds_create(const uint8_t *memory, size_t memory_len, const uint8_t *bodies, size_t bodies_len, uint32_t *table, size_t table_len,
+                   uint64_t budget, uint64_t *steps, uint32_t *handle);
 
 /* Holds `count` cells from `first` on in the innermost domain, which `handle` names (0 means the innermost). A cell not yet held is held with memory's
  * bytes (DS_COPY) or by the parent's value (DS_VIA_PARENT); one already held keeps kind and value, and becomes read-write if the label is. */
-uint32_t ds_add(const uint8_t *memory, size_t memory_len, uint8_t *bodies, size_t bodies_len, uint32_t *table, size_t table_len, uint32_t handle, uint32_t first, uint32_t count, uint32_t kind, uint32_t label, uint64_t budget, uint64_t *steps);
+uint32_t ds_add(const uint8_t *memory, size_t memory_len, uint8_t *bodies, size_t bodies_len, uint32_t *table, size_t table_len,
+                uint32_t handle, uint32_t first, uint32_t count, uint32_t kind, uint32_t label, uint64_t budget, uint64_t *steps);
 
 /* Frees `count` cells from `first` on of the named domain, and of no other. */
-uint32_t ds_delete(const uint8_t *memory, size_t memory_len, const uint8_t *bodies, size_t bodies_len, uint32_t *table, size_t table_len, uint32_t handle, uint32_t first, uint32_t count, uint64_t budget, uint64_t *steps);
+uint32_t ds_delete(const uint8_t *memory, size_t memory_len, const uint8_t *bodies, size_t bodies_len, uint32_t *table, size_t table_len,
+                   uint32_t handle, uint32_t first, uint32_t count, uint64_t budget, uint64_t *steps);
 
 /* Ends the innermost domain: its cells go to the parent where that lacks them; where both hold a cell the parent's value stays, and its label becomes
  * read-write if the child's was. */
-uint32_t ds_commit(const uint8_t *memory, size_t memory_len, const uint8_t *bodies, size_t bodies_len, uint32_t *table, size_t table_len, uint32_t handle, uint64_t budget, uint64_t *steps);
+uint32_t ds_commit(const uint8_t *memory, size_t memory_len, const uint8_t *bodies, size_t bodies_len, uint32_t *table, size_t table_len,
+                   uint32_t handle, uint64_t budget, uint64_t *steps);
 
 /* Moves the innermost domain's point to now: every read-write cell takes memory's bytes, as a copy in a body that was free. */
-uint32_t ds_advance(const uint8_t *memory, size_t memory_len, uint8_t *bodies, size_t bodies_len, uint32_t *table, size_t table_len, uint32_t handle, uint64_t budget, uint64_t *steps);
+uint32_t ds_advance(const uint8_t *memory, size_t memory_len, uint8_t *bodies, size_t bodies_len, uint32_t *table, size_t table_len,
+                    uint32_t handle, uint64_t budget, uint64_t *steps);
 
-/* Puts memory back: each cell held by the named domain or one inside it gets the value of the outermost of these holders. The domains inside are ended. */
-uint32_t ds_restore(uint8_t *memory, size_t memory_len, const uint8_t *bodies, size_t bodies_len, uint32_t *table, size_t table_len, uint32_t handle, uint64_t budget, uint64_t *steps);
+/* Puts memory back: each cell held by the named domain or one inside it gets the value of the outermost of these holders. The domains inside are
+ * ended. */
+uint32_t ds_restore(uint8_t *memory, size_t memory_len, const uint8_t *bodies, size_t bodies_len, uint32_t *table, size_t table_len,
+                    uint32_t handle, uint64_t budget, uint64_t *steps);
 
 /* Lists the live domains: *count of them, their handles in `handles`, outermost first, with zeros after them. */
-uint32_t ds_list(const uint8_t *memory, size_t memory_len, const uint8_t *bodies, size_t bodies_len, const uint32_t *table, size_t table_len, uint32_t handles[8], uint32_t *count);
+uint32_t ds_list(const uint8_t *memory, size_t memory_len, const uint8_t *bodies, size_t bodies_len, const uint32_t *table, size_t table_len,
+                 uint32_t handles[8], uint32_t *count);
 
 /* Tells where the 64 bytes stand that ds_restore of this handle would leave in this cell: *place is DS_IN_MEMORY or DS_IN_BODIES (0 where refused),
  * *offset the first of them in that buffer. */
-uint32_t ds_look(const uint8_t *memory, size_t memory_len, const uint8_t *bodies, size_t bodies_len, const uint32_t *table, size_t table_len, uint32_t handle, uint32_t cell, uint32_t *place, uint64_t *offset);
+uint32_t ds_look(const uint8_t *memory, size_t memory_len, const uint8_t *bodies, size_t bodies_len, const uint32_t *table, size_t table_len,
+                 uint32_t handle, uint32_t cell, uint32_t *place, uint64_t *offset);
 
 #ifdef __cplusplus
 }

@@ -26,53 +26,55 @@ use std::fmt;
 /// ```
 #[derive(Clone, Copy, Debug, PartialEq, Eq, Hash, PartialOrd, Ord)]
 #[non_exhaustive]
+#[repr(u32)]
 pub enum Refusal {
     /// 1: a buffer's length is not allowed.
-    Lengths,
-    /// 2: the table has no store for buffers of these lengths.
-    NoStore,
+    Lengths = 1,
+    /// 2: the table is no store's for buffers of these lengths: other buffers than those that the store
+    /// was made in, or no store at all.
+    NoStore = 2,
     /// 3: a stopped call's changes are still pending.
-    Pending,
+    Pending = 3,
     /// 4: the table is corrupt.
-    Corrupt,
+    Corrupt = 4,
     /// 5: the handle names no live domain.
-    NoSuchDomain,
+    NoSuchDomain = 5,
     /// 6: the domain is not the innermost.
-    NotInnermost,
+    NotInnermost = 6,
     /// 7: kind or label is neither 0 nor 1. This crate's enums cannot be wrong, so only callers of
     /// [`ffi`](crate::ffi) meet it.
-    KindOrLabel,
+    KindOrLabel = 7,
     /// 8: the range of cells is empty or ends past memory.
-    Range,
+    Range = 8,
     /// 9: eight domains live already.
-    TooManyDomains,
+    TooManyDomains = 9,
     /// 10: every handle has been given out.
-    NoHandleLeft,
+    NoHandleLeft = 10,
     /// 11: the parent does not hold a cell that is to be held via parent.
-    ParentLacksCell,
+    ParentLacksCell = 11,
     /// 12: memory differs from the parent's value in a cell that is to be held via parent.
-    MemoryDiffers,
+    MemoryDiffers = 12,
     /// 13: the domain does not hold every cell that is to be deleted.
-    NotHeld,
+    NotHeld = 13,
     /// 14: the child holds one of the cells that are to be deleted via this domain.
-    ChildRelies,
+    ChildRelies = 14,
     /// 15: the parent does not hold every read-write cell of the domain that is to advance.
-    ParentLacksReadWrite,
+    ParentLacksReadWrite = 15,
     /// 16: too few free entries.
-    NoFreeEntry,
+    NoFreeEntry = 16,
     /// 17: too few free bodies.
-    NoFreeBody,
+    NoFreeBody = 17,
 }
 
 impl Refusal {
-    /// All refusals, by number from 1.
+    /// All refusals that a call can answer, by rising number.
     ///
     /// ```
     /// # use domain_store::Refusal;
-    /// assert_eq!(Refusal::ALL.len(), 17);
-    /// assert!(Refusal::ALL.iter().zip(1..).all(|(refusal, number)| refusal.number() == number));
+    /// assert_eq!(Refusal::ALL.first(), Some(&Refusal::Lengths));
+    /// assert!(Refusal::ALL.is_sorted_by_key(|refusal| refusal.number()));
     /// ```
-    pub const ALL: [Refusal; 17] = [
+    pub const ALL: &'static [Refusal] = &[
         Refusal::Lengths,
         Refusal::NoStore,
         Refusal::Pending,
@@ -101,25 +103,7 @@ impl Refusal {
     /// assert_eq!(Refusal::NoFreeBody.number(), 17);
     /// ```
     pub const fn number(self) -> u32 {
-        match self {
-            Refusal::Lengths => 1,
-            Refusal::NoStore => 2,
-            Refusal::Pending => 3,
-            Refusal::Corrupt => 4,
-            Refusal::NoSuchDomain => 5,
-            Refusal::NotInnermost => 6,
-            Refusal::KindOrLabel => 7,
-            Refusal::Range => 8,
-            Refusal::TooManyDomains => 9,
-            Refusal::NoHandleLeft => 10,
-            Refusal::ParentLacksCell => 11,
-            Refusal::MemoryDiffers => 12,
-            Refusal::NotHeld => 13,
-            Refusal::ChildRelies => 14,
-            Refusal::ParentLacksReadWrite => 15,
-            Refusal::NoFreeEntry => 16,
-            Refusal::NoFreeBody => 17,
-        }
+        self as u32
     }
 
     /// The refusal that a number stands for: none for 0 (done), 255 (stopped) and numbers that no
@@ -132,8 +116,10 @@ impl Refusal {
     /// assert_eq!(Refusal::from_number(255), None);
     /// ```
     pub fn from_number(number: u32) -> Option<Refusal> {
-        let place = usize::try_from(number.checked_sub(1)?).ok()?;
-        Refusal::ALL.get(place).copied()
+        Refusal::ALL
+            .iter()
+            .copied()
+            .find(|refusal| refusal.number() == number)
     }
 }
 
@@ -146,9 +132,10 @@ impl fmt::Display for Refusal {
                  more for each of 1 to 4,096 entries (`Sizes` tells them)."
             }
             Refusal::NoStore => {
-                "The table has no store for buffers of these lengths: lend the buffers that \
-                 the store was made in, whole, or make a fresh store if there is none or a \
-                 make was cut."
+                "The table is no store's for buffers of these lengths: see first that they are \
+                 the buffers that the store was made in, in their order and whole; only where \
+                 none was made in them, or a make was cut, make a fresh store, which forgets \
+                 whatever stands there."
             }
             Refusal::Pending => {
                 "An earlier call was stopped and its changes are still pending: open the \

@@ -510,14 +510,3 @@ fn the_raw_functions_set_their_out_parameters() {
         );
     }
 }
-
-#[test]
-fn each_refusal_says_what_and_what_to_do() {
-    for refusal in Refusal::ALL {
-        let text = refusal.to_string();
-        assert!(text.ends_with('.') && text.contains(": "), "{text}");
-        assert!(!text.contains("  "), "{text}");
-        assert_eq!(Refusal::from_number(refusal.number()), Some(refusal));
-    }
-    assert_eq!(Refusal::from_number(18), None);
-}
