@@ -13,11 +13,10 @@
 
 use core::mem::MaybeUninit;
 use core::ops::{Deref, DerefMut};
+use domain_model::{Add, Buffers, Call, Reply, STOPPED};
 
 /// The magic number of a made store.
-pub const MAGIC: u32 = 0xCD51_1E01;
-/// The answer of a call that its budget stopped.
-pub const STOPPED: u32 = 255;
+const MAGIC: u32 = 0xCD51_1E01;
 
 const READ_WRITE: u32 = 1 << 27;
 const VIA_PARENT: u32 = 1 << 26;
@@ -25,11 +24,11 @@ const MAX_CELLS: usize = 65_536;
 const MAX_PLACES: usize = 4_096;
 const CELL: usize = 64;
 
-/// The three lent buffers.
-pub struct Buffers<'a> {
-    pub memory: &'a mut [u8],
-    pub bodies: &'a mut [u8],
-    pub table: &'a mut [u32],
+/// The lent buffers.
+struct Slices<'a> {
+    memory: &'a mut [u8],
+    bodies: &'a mut [u8],
+    table: &'a mut [u32],
 }
 
 /// m, E and B, as the lengths give them.
@@ -127,18 +126,19 @@ fn entry(table: &[u32], place: usize) -> (u32, u32) {
 }
 
 /// Question 1.
-fn shape(memory: usize, bodies: usize, table: usize) -> Option<Shape> {
+fn shape(lent: &Slices) -> Result<Shape, u32> {
     let whole = |length: usize, most: usize| {
         (length.is_multiple_of(CELL) && (1..=most).contains(&(length / CELL)))
             .then_some(length / CELL)
+            .ok_or(1u32)
     };
-    let cells = whole(memory, MAX_CELLS)?;
-    let bodies = whole(bodies, MAX_PLACES)?;
-    let words = table.checked_sub(36)?;
+    let cells = whole(lent.memory.len(), MAX_CELLS)?;
+    let bodies = whole(lent.bodies.len(), MAX_PLACES)?;
+    let words = lent.table.len().checked_sub(36).ok_or(1u32)?;
     if !words.is_multiple_of(6) || !(1..=MAX_PLACES).contains(&(words / 6)) {
-        return None;
+        return Err(1);
     }
-    Some(Shape {
+    Ok(Shape {
         cells,
         entries: words / 6,
         bodies,
@@ -146,8 +146,9 @@ fn shape(memory: usize, bodies: usize, table: usize) -> Option<Shape> {
 }
 
 /// Questions 1 and 2.
-fn header(memory: usize, bodies: usize, table: &[u32]) -> Result<Shape, u32> {
-    let shape = shape(memory, bodies, table.len()).ok_or(1u32)?;
+fn header(lent: &Slices) -> Result<Shape, u32> {
+    let shape = shape(lent)?;
+    let table = &*lent.table;
     let right = table[0] == MAGIC
         && table[1] as usize == shape.cells
         && table[2] as usize == shape.entries
@@ -255,12 +256,12 @@ fn check_pending(table: &[u32], shape: Shape, marks: &mut Marks) -> bool {
 }
 
 /// Questions 1 to 4, as every call but make and open is put them.
-fn check(memory: usize, bodies: usize, table: &[u32], marks: &mut Marks) -> Result<Shape, u32> {
-    let shape = header(memory, bodies, table)?;
-    if table[6] != 0 {
+fn check(lent: &Slices, marks: &mut Marks) -> Result<Shape, u32> {
+    let shape = header(lent)?;
+    if lent.table[6] != 0 {
         return Err(3);
     }
-    if check_words(table, shape, marks) {
+    if check_words(lent.table, shape, marks) {
         Ok(shape)
     } else {
         Err(4)
@@ -482,16 +483,13 @@ fn put_in_place(
     stores.word(table, 6, 0)
 }
 
-pub fn make(buffers: &mut Buffers, budget: u64) -> (u32, u64) {
-    let Some(shape) = shape(
-        buffers.memory.len(),
-        buffers.bodies.len(),
-        buffers.table.len(),
-    ) else {
-        return (1, 0);
-    };
+/// The answer and the steps of a call that was not refused.
+type Answer = (u32, u64);
+
+fn make(lent: Slices, budget: u64) -> Result<Answer, u32> {
+    let shape = shape(&lent)?;
     let mut stores = Stores::new(budget);
-    let table = &mut *buffers.table;
+    let table = lent.table;
     let end = (|| {
         stores.word(table, 0, 0)?;
         stores.word(table, 1, shape.cells as u32)?;
@@ -504,50 +502,38 @@ pub fn make(buffers: &mut Buffers, budget: u64) -> (u32, u64) {
         }
         stores.word(table, 0, MAGIC)
     })();
-    stores.answer(end)
+    Ok(stores.answer(end))
 }
 
-pub fn open(buffers: &mut Buffers, budget: u64) -> (u32, u64) {
-    let table = &mut *buffers.table;
-    let shape = match header(buffers.memory.len(), buffers.bodies.len(), table) {
-        Ok(shape) => shape,
-        Err(number) => return (number, 0),
-    };
+fn open(lent: Slices, budget: u64) -> Result<Answer, u32> {
+    let shape = header(&lent)?;
+    let table = lent.table;
     let mut marks_room = room();
     let mut marks = Marks::new(&mut marks_room);
     if !check_pending(table, shape, &mut marks) {
-        return (4, 0);
+        return Err(4);
     }
     let pairs = table[6] as usize;
     if pairs == 0 {
-        return (0, 0);
+        return Ok((0, 0));
     }
     let mut stores = Stores::new(budget);
     let end = put_in_place(&mut stores, table, 16 + 2 * shape.entries, pairs);
-    stores.answer(end)
+    Ok(stores.answer(end))
 }
 
 /// The answer, the steps and the new handle (0 unless done).
-pub fn create(buffers: &mut Buffers, budget: u64) -> (u32, u64, u32) {
-    let table = &mut *buffers.table;
+fn create(lent: Slices, budget: u64) -> Result<(Answer, u32), u32> {
     let mut marks_room = room();
-    let mut marks = Marks::new(&mut marks_room);
-    let shape = match check(
-        buffers.memory.len(),
-        buffers.bodies.len(),
-        table,
-        &mut marks,
-    ) {
-        Ok(shape) => shape,
-        Err(number) => return (number, 0, 0),
-    };
+    let shape = check(&lent, &mut Marks::new(&mut marks_room))?;
+    let table = lent.table;
     let live = table[4] as usize;
     let handle = table[5];
     if live >= 8 {
-        return (9, 0, 0);
+        return Err(9);
     }
     if handle == u32::MAX {
-        return (10, 0, 0);
+        return Err(10);
     }
     let mut stores = Stores::new(budget);
     let mut journal = Journal::new(shape);
@@ -557,82 +543,64 @@ pub fn create(buffers: &mut Buffers, budget: u64) -> (u32, u64, u32) {
         journal.pair(&mut stores, table, 8 + live, handle)?;
         journal.finish(&mut stores, table)
     })();
-    let (number, steps) = stores.answer(end);
-    (number, steps, if number == 0 { handle } else { 0 })
+    let answer = stores.answer(end);
+    Ok((answer, if answer.0 == 0 { handle } else { 0 }))
 }
 
-pub fn add(
-    buffers: &mut Buffers,
-    handle: u32,
-    first: u32,
-    count: u32,
-    kind: u32,
-    label: u32,
-    budget: u64,
-) -> (u32, u64) {
-    let table = &mut *buffers.table;
+fn add(lent: Slices, add: Add, budget: u64) -> Result<Answer, u32> {
+    let Add {
+        handle,
+        first,
+        count,
+        kind,
+        label,
+    } = add;
     let mut marks_room = room();
     let mut marks = Marks::new(&mut marks_room);
-    let asked = (|| {
-        let shape = check(
-            buffers.memory.len(),
-            buffers.bodies.len(),
-            table,
-            &mut marks,
-        )?;
-        let depth = innermost(table, handle)?;
-        if kind > 1 || label > 1 {
-            return Err(7);
+    let shape = check(&lent, &mut marks)?;
+    let Slices {
+        memory,
+        bodies,
+        table,
+    } = lent;
+    let depth = innermost(table, handle)?;
+    if kind > 1 || label > 1 {
+        return Err(7);
+    }
+    let range = range(first, count, shape.cells)?;
+    let fresh = || range.clone().filter(|&cell| !marks.holds(depth, cell));
+    let new = fresh().count();
+    if kind == 1 && new > 0 {
+        if depth == 1 || fresh().any(|cell| !marks.holds(depth - 1, cell)) {
+            return Err(11);
         }
-        let range = range(first, count, shape.cells)?;
-        let fresh = range
-            .clone()
-            .filter(|&cell| !marks.holds(depth, cell))
-            .count();
-        if kind == 1 && fresh > 0 {
-            if depth == 1
-                || range
-                    .clone()
-                    .any(|cell| !marks.holds(depth, cell) && !marks.holds(depth - 1, cell))
-            {
-                return Err(11);
-            }
-            for cell in range.clone().filter(|&cell| !marks.holds(depth, cell)) {
-                let place = first_holder(table, shape.entries, depth - 1, depth - 1, cell)
-                    .expect("asked just before");
-                let body = body_behind(table, shape.entries, place);
-                if buffers.memory[CELL * cell..][..CELL] != buffers.bodies[CELL * body..][..CELL] {
-                    return Err(12);
-                }
+        for cell in fresh() {
+            let place = first_holder(table, shape.entries, depth - 1, depth - 1, cell)
+                .expect("asked just before");
+            let body = body_behind(table, shape.entries, place);
+            if memory[CELL * cell..][..CELL] != bodies[CELL * body..][..CELL] {
+                return Err(12);
             }
         }
-        if marks.entries + fresh > shape.entries {
-            return Err(16);
-        }
-        if kind == 0 && marks.copies + fresh > shape.bodies {
-            return Err(17);
-        }
-        Ok((shape, depth, range))
-    })();
-    let (shape, depth, range) = match asked {
-        Ok(plan) => plan,
-        Err(number) => return (number, 0),
-    };
+    }
+    if marks.entries + new > shape.entries {
+        return Err(16);
+    }
+    if kind == 0 && marks.copies + new > shape.bodies {
+        return Err(17);
+    }
     let mut stores = Stores::new(budget);
     let end = (|| {
         if kind == 0 {
             let mut free = FreeBodies::new(&marks.used);
-            for cell in range.clone().filter(|&cell| !marks.holds(depth, cell)) {
+            for cell in fresh() {
                 let body = free.take();
-                stores.cell(
-                    &mut buffers.bodies[CELL * body..],
-                    &buffers.memory[CELL * cell..],
-                )?;
+                stores.cell(&mut bodies[CELL * body..], &memory[CELL * cell..])?;
             }
         }
         // The lowest free entries in order of cell, and the lowest free bodies too: one walk over the entries meets both in order.
         let mut free = FreeBodies::new(&marks.used);
-        let mut fresh = range.clone().filter(|&cell| !marks.holds(depth, cell));
+        let mut fresh = fresh();
         let mut journal = Journal::new(shape);
         for place in 0..shape.entries {
             let (word, second) = entry(table, place);
@@ -652,46 +620,26 @@ pub fn add(
         }
         journal.finish(&mut stores, table)
     })();
-    stores.answer(end)
+    Ok(stores.answer(end))
 }
 
-pub fn delete(
-    buffers: &mut Buffers,
-    handle: u32,
-    first: u32,
-    count: u32,
-    budget: u64,
-) -> (u32, u64) {
-    let table = &mut *buffers.table;
+fn delete(lent: Slices, handle: u32, first: u32, count: u32, budget: u64) -> Result<Answer, u32> {
     let mut marks_room = room();
     let mut marks = Marks::new(&mut marks_room);
-    let asked = (|| {
-        let shape = check(
-            buffers.memory.len(),
-            buffers.bodies.len(),
-            table,
-            &mut marks,
-        )?;
-        let depth = depth_of_handle(table, handle)?;
-        let range = range(first, count, shape.cells)?;
-        if range.clone().any(|cell| !marks.holds(depth, cell)) {
-            return Err(13);
+    let shape = check(&lent, &mut marks)?;
+    let table = lent.table;
+    let depth = depth_of_handle(table, handle)?;
+    let range = range(first, count, shape.cells)?;
+    if range.clone().any(|cell| !marks.holds(depth, cell)) {
+        return Err(13);
+    }
+    for place in 0..shape.entries {
+        let (word, _) = entry(table, place);
+        let child = depth_of(word) == depth + 1 && word & VIA_PARENT != 0;
+        if child && range.contains(&cell_of(word)) {
+            return Err(14);
         }
-        for place in 0..shape.entries {
-            let (word, _) = entry(table, place);
-            if depth_of(word) == depth + 1
-                && word & VIA_PARENT != 0
-                && range.contains(&cell_of(word))
-            {
-                return Err(14);
-            }
-        }
-        Ok((shape, depth, range))
-    })();
-    let (shape, depth, range) = match asked {
-        Ok(plan) => plan,
-        Err(number) => return (number, 0),
-    };
+    }
     let mut stores = Stores::new(budget);
     let mut journal = Journal::new(shape);
     let end = (|| {
@@ -703,26 +651,15 @@ pub fn delete(
         }
         journal.finish(&mut stores, table)
     })();
-    stores.answer(end)
+    Ok(stores.answer(end))
 }
 
-pub fn commit(buffers: &mut Buffers, handle: u32, budget: u64) -> (u32, u64) {
-    let table = &mut *buffers.table;
+fn commit(lent: Slices, handle: u32, budget: u64) -> Result<Answer, u32> {
     let mut marks_room = room();
     let mut marks = Marks::new(&mut marks_room);
-    let asked = (|| {
-        let shape = check(
-            buffers.memory.len(),
-            buffers.bodies.len(),
-            table,
-            &mut marks,
-        )?;
-        Ok((shape, innermost(table, handle)?))
-    })();
-    let (shape, depth) = match asked {
-        Ok(plan) => plan,
-        Err(number) => return (number, 0),
-    };
+    let shape = check(&lent, &mut marks)?;
+    let table = lent.table;
+    let depth = innermost(table, handle)?;
     // The cells that the innermost domain holds read-write: they raise the label further out.
     let mut raising_room = room::<u64, { MAX_CELLS / 64 }>();
     let mut raising = Front::new(&mut raising_room);
@@ -760,45 +697,37 @@ pub fn commit(buffers: &mut Buffers, handle: u32, budget: u64) -> (u32, u64) {
         }
         journal.finish(&mut stores, table)
     })();
-    stores.answer(end)
+    Ok(stores.answer(end))
 }
 
-pub fn advance(buffers: &mut Buffers, handle: u32, budget: u64) -> (u32, u64) {
-    let table = &mut *buffers.table;
+fn advance(lent: Slices, handle: u32, budget: u64) -> Result<Answer, u32> {
     let mut marks_room = room();
     let mut marks = Marks::new(&mut marks_room);
+    let shape = check(&lent, &mut marks)?;
+    let Slices {
+        memory,
+        bodies,
+        table,
+    } = lent;
+    let depth = innermost(table, handle)?;
     // Cell and place of each read-write entry of the innermost domain, to be taken in order of cell.
     let mut found_room = room::<u32, MAX_PLACES>();
     let mut found = Front::new(&mut found_room);
-    let asked = (|| {
-        let shape = check(
-            buffers.memory.len(),
-            buffers.bodies.len(),
-            table,
-            &mut marks,
-        )?;
-        let depth = innermost(table, handle)?;
-        found.fill(marks.entries, 0);
-        let mut count = 0;
-        for place in 0..shape.entries {
-            let (word, _) = entry(table, place);
-            if depth_of(word) == depth && word & READ_WRITE != 0 {
-                if depth > 1 && !marks.holds(depth - 1, cell_of(word)) {
-                    return Err(15);
-                }
-                found[count] = (cell_of(word) as u32) << 16 | place as u32;
-                count += 1;
+    found.fill(marks.entries, 0);
+    let mut count = 0;
+    for place in 0..shape.entries {
+        let (word, _) = entry(table, place);
+        if depth_of(word) == depth && word & READ_WRITE != 0 {
+            if depth > 1 && !marks.holds(depth - 1, cell_of(word)) {
+                return Err(15);
             }
+            found[count] = (cell_of(word) as u32) << 16 | place as u32;
+            count += 1;
         }
-        if marks.copies + count > shape.bodies {
-            return Err(17);
-        }
-        Ok((shape, count))
-    })();
-    let (shape, count) = match asked {
-        Ok(plan) => plan,
-        Err(number) => return (number, 0),
-    };
+    }
+    if marks.copies + count > shape.bodies {
+        return Err(17);
+    }
     let found = &mut found[..count];
     found.sort_unstable();
     let mut body_room = room::<u16, MAX_PLACES>();
@@ -811,10 +740,7 @@ pub fn advance(buffers: &mut Buffers, handle: u32, budget: u64) -> (u32, u64) {
             let (cell, place) = ((key >> 16) as usize, (key & 0xFFFF) as usize);
             let body = free.take();
             body_for[place] = body as u16;
-            stores.cell(
-                &mut buffers.bodies[CELL * body..],
-                &buffers.memory[CELL * cell..],
-            )?;
+            stores.cell(&mut bodies[CELL * body..], &memory[CELL * cell..])?;
         }
         let mut journal = Journal::new(shape);
         for (place, &body) in body_for.iter().enumerate() {
@@ -825,26 +751,19 @@ pub fn advance(buffers: &mut Buffers, handle: u32, budget: u64) -> (u32, u64) {
         }
         journal.finish(&mut stores, table)
     })();
-    stores.answer(end)
+    Ok(stores.answer(end))
 }
 
-pub fn restore(buffers: &mut Buffers, handle: u32, budget: u64) -> (u32, u64) {
-    let table = &mut *buffers.table;
+fn restore(lent: Slices, handle: u32, budget: u64) -> Result<Answer, u32> {
     let mut marks_room = room();
     let mut marks = Marks::new(&mut marks_room);
-    let asked = (|| {
-        let shape = check(
-            buffers.memory.len(),
-            buffers.bodies.len(),
-            table,
-            &mut marks,
-        )?;
-        Ok((shape, depth_of_handle(table, handle)?))
-    })();
-    let (shape, depth) = match asked {
-        Ok(plan) => plan,
-        Err(number) => return (number, 0),
-    };
+    let shape = check(&lent, &mut marks)?;
+    let Slices {
+        memory,
+        bodies,
+        table,
+    } = lent;
+    let depth = depth_of_handle(table, handle)?;
     let live = table[4] as usize;
     let mut stores = Stores::new(budget);
     let end = (|| {
@@ -857,10 +776,7 @@ pub fn restore(buffers: &mut Buffers, handle: u32, budget: u64) -> (u32, u64) {
                 let place = first_holder(table, shape.entries, depth, live, cell)
                     .expect("the marks name a holder");
                 let body = body_behind(table, shape.entries, place);
-                stores.cell(
-                    &mut buffers.memory[CELL * cell..],
-                    &buffers.bodies[CELL * body..],
-                )?;
+                stores.cell(&mut memory[CELL * cell..], &bodies[CELL * body..])?;
             }
             Ok(())
         };
@@ -887,52 +803,70 @@ pub fn restore(buffers: &mut Buffers, handle: u32, budget: u64) -> (u32, u64) {
         }
         journal.finish(&mut stores, table)
     })();
-    stores.answer(end)
+    Ok(stores.answer(end))
 }
 
-/// The answer, the handles outermost first, and their number.
-pub fn list(memory: &[u8], bodies: &[u8], table: &[u32]) -> (u32, [u32; 8], u32) {
+/// The handles outermost first, and their number.
+fn list(lent: &Slices) -> Result<([u32; 8], u32), u32> {
     let mut marks_room = room();
-    let mut marks = Marks::new(&mut marks_room);
-    if let Err(number) = check(memory.len(), bodies.len(), table, &mut marks) {
-        return (number, [0; 8], 0);
-    }
+    check(lent, &mut Marks::new(&mut marks_room))?;
     let mut handles = [0; 8];
-    handles.copy_from_slice(&table[8..16]);
-    (0, handles, table[4])
+    handles.copy_from_slice(&lent.table[8..16]);
+    Ok((handles, lent.table[4]))
 }
 
-/// Where a looked-for cell stands: the answer, the place (1 memory, 2 bodies, 0 refused) and the offset of its 64 bytes.
-pub fn look(
-    memory: &[u8],
-    bodies: &[u8],
-    table: &[u32],
-    handle: u32,
-    cell: u32,
-) -> (u32, u32, u64) {
+/// Where a looked-for cell stands: the place (1 memory, 2 bodies) and the offset of its 64 bytes.
+fn look(lent: &Slices, handle: u32, cell: u32) -> Result<(u32, u64), u32> {
     let mut marks_room = room();
-    let mut marks = Marks::new(&mut marks_room);
-    let asked = (|| {
-        let shape = check(memory.len(), bodies.len(), table, &mut marks)?;
-        let depth = depth_of_handle(table, handle)?;
-        range(cell, 1, shape.cells)?;
-        Ok((shape, depth))
-    })();
-    match asked {
-        Err(number) => (number, 0, 0),
-        Ok((shape, depth)) => match first_holder(
-            table,
-            shape.entries,
-            depth,
-            table[4] as usize,
-            cell as usize,
-        ) {
-            Some(place) => (
-                0,
-                2,
-                (CELL * body_behind(table, shape.entries, place)) as u64,
-            ),
-            None => (0, 1, (CELL * cell as usize) as u64),
+    let shape = check(lent, &mut Marks::new(&mut marks_room))?;
+    let table = &*lent.table;
+    let depth = depth_of_handle(table, handle)?;
+    range(cell, 1, shape.cells)?;
+    let live = table[4] as usize;
+    Ok(
+        match first_holder(table, shape.entries, depth, live, cell as usize) {
+            Some(place) => {
+                let body = body_behind(table, shape.entries, place);
+                (2, (CELL * body) as u64)
+            }
+            None => (1, (CELL * cell as usize) as u64),
         },
-    }
+    )
+}
+
+/// Makes the call.
+pub fn call(buffers: &mut Buffers, call: &Call, budget: u64) -> Reply {
+    let lent = Slices {
+        memory: &mut buffers.memory,
+        bodies: &mut buffers.bodies,
+        table: &mut buffers.table,
+    };
+    let mut reply = Reply::default();
+    let answer = match *call {
+        Call::Make => make(lent, budget),
+        Call::Open => open(lent, budget),
+        Call::Create => create(lent, budget).map(|(answer, handle)| {
+            reply.handle = handle;
+            answer
+        }),
+        Call::Add(numbers) => add(lent, numbers, budget),
+        Call::Delete {
+            handle,
+            first,
+            count,
+        } => delete(lent, handle, first, count, budget),
+        Call::Commit { handle } => commit(lent, handle, budget),
+        Call::Advance { handle } => advance(lent, handle, budget),
+        Call::Restore { handle } => restore(lent, handle, budget),
+        Call::List => list(&lent).map(|(handles, count)| {
+            (reply.handles, reply.count) = (handles, count);
+            (0, 0)
+        }),
+        Call::Look { handle, cell } => look(&lent, handle, cell).map(|(place, offset)| {
+            (reply.place, reply.offset) = (place, offset);
+            (0, 0)
+        }),
+    };
+    (reply.code, reply.steps) = answer.unwrap_or_else(|number| (number, 0));
+    reply
 }

@@ -1,7 +1,7 @@
 //! Prints the library's times beside the same store without proofs, beside a plain scan of the table and beside plain copies, with the
 //! goals that they are held to.
 
-use domain_bench::measure::{CALLS, Call, Medians, Shape, measure};
+use domain_bench::measure::{FIGURES, Figure, Medians, Shape, measure};
 use std::time::Duration;
 
 /// How long each shape is measured.
@@ -22,15 +22,15 @@ const CELLS: [usize; 6] = [1, 9, 64, 512, 1_024, 4_096];
 
 /// A figure beside its goal, for the account at the end.
 struct Held {
-    call: Call,
+    call: Figure,
     shape: Shape,
     ratio: f64,
     met: bool,
 }
 
-fn goal(call: Call) -> f64 {
+fn goal(call: Figure) -> f64 {
     match call {
-        Call::Check => GOAL_CHECK,
+        Figure::Check => GOAL_CHECK,
         _ => GOAL,
     }
 }
@@ -86,7 +86,7 @@ fn place_name(shape: &Shape) -> String {
     )
 }
 
-fn print_head(width: usize, calls: &[Call]) {
+fn print_head(width: usize, calls: &[Figure]) {
     let names: String = calls
         .iter()
         .map(|call| format!(" {:>width$} |", call.name()))
@@ -102,7 +102,7 @@ fn print_head(width: usize, calls: &[Call]) {
 /// The library's figures of one shape, each with the ratio that its goal is about.
 fn print_row(medians: &Medians) {
     let mut line = row_name(&medians.shape);
-    for call in CALLS {
+    for call in FIGURES {
         let text = match (medians.library[call as usize], medians.ratio(call)) {
             (Some(value), Some(ratio)) => {
                 let met = mark(ratio <= goal(call));
@@ -123,7 +123,7 @@ fn print_shapes(memory: usize, places: usize) -> Vec<Medians> {
         number(places)
     );
     println!();
-    print_head(WIDE, &CALLS);
+    print_head(WIDE, &FIGURES);
     let mut all = Vec::new();
     for domains in [1, 3] {
         for scattered in [false, true] {
@@ -173,8 +173,8 @@ fn print_check(all: &[Medians]) {
                 };
                 for medians in these().next().into_iter().chain(these().next_back()) {
                     let (Some(library), Some(baseline)) = (
-                        medians.library[Call::Check as usize],
-                        medians.baseline[Call::Check as usize],
+                        medians.library[Figure::Check as usize],
+                        medians.baseline[Figure::Check as usize],
                     ) else {
                         continue;
                     };
@@ -201,15 +201,15 @@ fn print_check(all: &[Medians]) {
 }
 
 /// How many times as long a call takes at E = 4,096 as at E = 256, and whether that is allowed.
-fn growth(small: &Medians, large: &Medians, call: Call) -> Option<(f64, bool)> {
+fn growth(small: &Medians, large: &Medians, call: Figure) -> Option<(f64, bool)> {
     let before = small.library[call as usize]?;
     let after = large.library[call as usize]?;
     let times = after / before;
     let mut met = times <= GOAL_GROWTH;
-    if call == Call::Restore && !met {
+    if call == Figure::Restore && !met {
         // One search at the larger size: a look that finds nobody, less the check, for each domain.
-        let check = large.library[Call::Check as usize]?;
-        let search = (large.library[Call::LookNobody as usize]? - check).max(0.0);
+        let check = large.library[Figure::Check as usize]?;
+        let search = (large.library[Figure::LookNobody as usize]? - check).max(0.0);
         met = after - before <= check + small.shape.cells as f64 * search;
     }
     Some((times, met))
@@ -249,7 +249,7 @@ fn print_growth(all: &[Medians]) -> Vec<Held> {
     for memory in MEMORIES {
         println!("m = {}", number(memory));
         println!();
-        print_head(WIDTH, &CALLS);
+        print_head(WIDTH, &FIGURES);
         for small in all {
             let shape = Shape {
                 places: 4_096,
@@ -262,7 +262,7 @@ fn print_growth(all: &[Medians]) -> Vec<Held> {
                 continue;
             };
             let mut line = row_name(&shape);
-            for call in CALLS {
+            for call in FIGURES {
                 let text = match growth(small, large, call) {
                     Some((ratio, met)) => {
                         held.push(Held {
@@ -289,7 +289,7 @@ fn print_last(last: &[Medians]) {
         "Entries in the last places, m = 65,536, E = B = 4,096 (not among the goals): library in µs, and how many times the baseline; check: a scan"
     );
     println!();
-    print_head(WIDE, &CALLS);
+    print_head(WIDE, &FIGURES);
     last.iter()
         .filter(|medians| (medians.shape.memory, medians.shape.places) == (65_536, 4_096))
         .for_each(print_row);
@@ -297,7 +297,12 @@ fn print_last(last: &[Medians]) {
 }
 
 fn print_copies(all: &[Medians]) {
-    let calls = [Call::Preserve, Call::Advance, Call::Restore, Call::Cycle];
+    let calls = [
+        Figure::Preserve,
+        Figure::Advance,
+        Figure::Restore,
+        Figure::Cycle,
+    ];
     println!(
         "Beside plain copies of the same bytes (and for the cycle the same writes), m = 65,536, E = B = 4,096: copies in µs, and how many times that the library takes"
     );
@@ -373,7 +378,7 @@ fn main() {
     let beside: Vec<Held> = all
         .iter()
         .flat_map(|medians| {
-            CALLS.into_iter().filter_map(|call| {
+            FIGURES.into_iter().filter_map(|call| {
                 let ratio = medians.ratio(call)?;
                 Some(Held {
                     call,
@@ -391,7 +396,7 @@ fn main() {
 
     println!("Goals");
     println!();
-    for call in CALLS {
+    for call in FIGURES {
         account(
             &format!("{} <= {}", call.name(), goal(call)),
             beside.iter().filter(|held| held.call == call),
@@ -399,7 +404,7 @@ fn main() {
     }
     account(
         &format!("all calls <= {GOAL}"),
-        beside.iter().filter(|held| held.call != Call::Check),
+        beside.iter().filter(|held| held.call != Figure::Check),
     );
     account(&format!("growth <= {GOAL_GROWTH}"), growths.iter());
 }

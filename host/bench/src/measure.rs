@@ -4,14 +4,16 @@
 //! Before each call the buffers are put into the state that the call is to meet, out of the measured time: "ground" is what stands
 //! before the measured domain is created, "held" is the same after it has taken its cells.
 
-use crate::stores::{Baseline, Buffers, Library, Store};
+use crate::stores::{Baseline, Library, Measured};
+use domain_model::calls::{COPY, READ_WRITE, VIA_PARENT};
+use domain_model::{Buffers, Call, Sizes};
 use std::hint::black_box;
 use std::time::{Duration, Instant};
 
 /// What is measured beside the baseline.
 #[derive(Clone, Copy, PartialEq, Eq, Debug)]
 #[repr(usize)]
-pub enum Call {
+pub enum Figure {
     /// Create, and add n cells by copy: one add for contiguous cells, n adds for scattered ones.
     Preserve,
     /// Create, and add n cells via parent.
@@ -32,36 +34,36 @@ pub enum Call {
     Check,
 }
 
-pub const CALLS: [Call; 9] = [
-    Call::Preserve,
-    Call::ViaParent,
-    Call::Advance,
-    Call::Restore,
-    Call::Commit,
-    Call::Look,
-    Call::LookNobody,
-    Call::Cycle,
-    Call::Check,
+pub const FIGURES: [Figure; 9] = [
+    Figure::Preserve,
+    Figure::ViaParent,
+    Figure::Advance,
+    Figure::Restore,
+    Figure::Commit,
+    Figure::Look,
+    Figure::LookNobody,
+    Figure::Cycle,
+    Figure::Check,
 ];
 
-impl Call {
+impl Figure {
     pub fn name(self) -> &'static str {
         match self {
-            Call::Preserve => "preserve",
-            Call::ViaParent => "via parent",
-            Call::Advance => "advance",
-            Call::Restore => "restore",
-            Call::Commit => "commit",
-            Call::Look => "look",
-            Call::LookNobody => "look, free",
-            Call::Cycle => "cycle",
-            Call::Check => "check",
+            Figure::Preserve => "preserve",
+            Figure::ViaParent => "via parent",
+            Figure::Advance => "advance",
+            Figure::Restore => "restore",
+            Figure::Commit => "commit",
+            Figure::Look => "look",
+            Figure::LookNobody => "look, free",
+            Figure::Cycle => "cycle",
+            Figure::Check => "check",
         }
     }
 }
 
 /// Microseconds of each call; none where it does not fit.
-pub type Times = [Option<f64>; CALLS.len()];
+pub type Times = [Option<f64>; FIGURES.len()];
 
 #[derive(Clone, Copy, PartialEq, Eq, Debug)]
 pub struct Shape {
@@ -118,20 +120,149 @@ impl Shape {
             memory[64 * self.first()..][..64 * self.cells].fill(byte);
         }
     }
+}
 
-    /// All cells into the innermost domain.
-    fn add<S: Store>(&self, buffers: &mut Buffers, kind: u32) -> u32 {
-        if self.scattered {
-            (0..self.cells).fold(0, |refused, index| {
-                refused | S::add(buffers, self.cell(index), 1, kind)
-            })
-        } else {
-            S::add(buffers, self.first(), self.cells, kind)
+/// A store with buffers of its own.
+struct Runner<S> {
+    shape: Shape,
+    store: S,
+    buffers: Buffers,
+}
+
+impl<S: Measured> Runner<S> {
+    fn new(shape: Shape, store: S) -> Self {
+        let places = shape.places as u32;
+        let sizes = Sizes {
+            m: shape.memory as u32,
+            e: places,
+            b: places,
+        };
+        let mut buffers = Buffers::filled(sizes.lengths(), 0, 0);
+        buffers.memory.fill(1);
+        Runner {
+            shape,
+            store,
+            buffers,
         }
     }
 
-    fn preserve<S: Store>(&self, buffers: &mut Buffers, kind: u32) -> u32 {
-        S::create(buffers) | self.add::<S>(buffers, kind)
+    fn call(&mut self, call: Call) -> u32 {
+        self.store.call(&mut self.buffers, call)
+    }
+
+    /// The program's writes.
+    fn write(&mut self, byte: u8) {
+        self.shape.write(&mut self.buffers.memory, byte);
+    }
+
+    fn add(&mut self, first: usize, count: usize, kind: u32) -> u32 {
+        self.call(Call::add(first as u32, count as u32, kind, READ_WRITE))
+    }
+
+    /// A new domain that holds all cells, read-write.
+    fn preserve(&mut self, kind: u32) -> u32 {
+        let shape = self.shape;
+        let created = self.call(Call::Create);
+        if shape.scattered {
+            (0..shape.cells).fold(created, |refused, index| {
+                refused | self.add(shape.cell(index), 1, kind)
+            })
+        } else {
+            created | self.add(shape.first(), shape.cells, kind)
+        }
+    }
+
+    fn look(&mut self, cell: usize) -> u32 {
+        self.call(Call::Look {
+            handle: 1,
+            cell: cell as u32,
+        })
+    }
+
+    fn advance(&mut self) -> u32 {
+        self.call(Call::Advance { handle: 0 })
+    }
+
+    fn restore(&mut self, handle: u32) -> u32 {
+        self.call(Call::Restore { handle })
+    }
+
+    fn commit(&mut self) -> u32 {
+        self.call(Call::Commit { handle: 0 })
+    }
+
+    /// Every figure once, and what it left handed to `after`.
+    fn run(&mut self, setting: &Setting, mut after: impl FnMut(Figure, &Buffers)) -> Times {
+        let Setting {
+            shape,
+            clock,
+            ground,
+            held,
+        } = setting;
+        let mut times: Times = [None; FIGURES.len()];
+        let mut measured = |figure: Figure, time, buffers: &Buffers| {
+            times[figure as usize] = time;
+            after(figure, buffers);
+        };
+
+        // Entries are taken from the first free place on, so what takes new ones says nothing about last places.
+        if !shape.last {
+            ground.put(&mut self.buffers);
+            self.write(1);
+            let time = clock.done(|| self.preserve(COPY));
+            measured(Figure::Preserve, time, &self.buffers);
+        }
+
+        held.put(&mut self.buffers);
+        self.write(1);
+        let time = clock.repeated(|| self.call(Call::List));
+        measured(Figure::Check, time, &self.buffers);
+        let time = clock.repeated(|| self.look(shape.cell(shape.cells - 1)));
+        measured(Figure::Look, time, &self.buffers);
+        if let Some(cell) = shape.nobody() {
+            let time = clock.repeated(|| self.look(cell));
+            measured(Figure::LookNobody, time, &self.buffers);
+        }
+
+        if shape.domains > 1 || shape.one_more_fits() {
+            // One domain: a second inside it. Three: the third.
+            let before = if shape.domains > 1 { ground } else { held };
+            before.put(&mut self.buffers);
+            let time = clock.done(|| self.preserve(VIA_PARENT));
+            if shape.domains == 1 || !shape.last {
+                measured(Figure::ViaParent, time, &self.buffers);
+            }
+        }
+
+        if shape.one_more_fits() {
+            held.put(&mut self.buffers);
+            self.write(2);
+            let time = clock.done(|| self.advance());
+            measured(Figure::Advance, time, &self.buffers);
+        }
+
+        held.put(&mut self.buffers);
+        let time = clock.done(|| self.commit());
+        measured(Figure::Commit, time, &self.buffers);
+
+        held.put(&mut self.buffers);
+        self.write(3);
+        let time = clock.done(|| self.restore(1));
+        measured(Figure::Restore, time, &self.buffers);
+
+        if shape.one_more_fits() && !shape.last {
+            ground.put(&mut self.buffers);
+            self.write(1);
+            let time = clock.done(|| {
+                let mut refused = self.preserve(COPY);
+                self.write(4);
+                refused |= self.advance();
+                self.write(5);
+                refused | self.restore(0) | self.commit()
+            });
+            measured(Figure::Cycle, time, &self.buffers);
+        }
+        times
     }
 }
 
@@ -144,8 +275,8 @@ struct State {
 impl State {
     fn of(buffers: &Buffers) -> Self {
         State {
-            bodies: buffers.bodies.clone(),
-            table: buffers.table.clone(),
+            bodies: buffers.bodies.to_vec(),
+            table: buffers.table.to_vec(),
         }
     }
 
@@ -229,164 +360,75 @@ pub struct Medians {
 
 impl Medians {
     /// How many times the baseline, or for the check how many times the scan.
-    pub fn ratio(&self, call: Call) -> Option<f64> {
+    pub fn ratio(&self, call: Figure) -> Option<f64> {
         let other = match call {
-            Call::Check => self.scan,
+            Figure::Check => self.scan,
             _ => self.baseline[call as usize]?,
         };
         Some(self.library[call as usize]? / other)
     }
 }
 
-struct Bench {
+/// What both stores are measured in.
+struct Setting {
     shape: Shape,
     clock: Clock,
     ground: State,
     held: State,
-    library: Buffers,
-    baseline: Buffers,
+}
+
+struct Bench {
+    setting: Setting,
+    library: Runner<Library>,
+    baseline: Runner<Baseline>,
 }
 
 impl Bench {
     fn new(shape: Shape) -> Self {
-        let mut library = Buffers::new(shape.memory, shape.places);
-        let baseline = Buffers::new(shape.memory, shape.places);
-        let buffers = &mut library;
-        let mut refused = Library::make(buffers);
+        let mut library = Runner::new(shape, Library::default());
+        let mut refused = library.call(Call::Make);
         for _ in 1..shape.domains {
-            refused |= shape.preserve::<Library>(buffers, 0);
+            refused |= library.preserve(COPY);
         }
-        let ground = State::of(buffers);
-        refused |= shape.preserve::<Library>(buffers, 0);
-        let mut held = State::of(buffers);
+        let ground = State::of(&library.buffers);
+        refused |= library.preserve(COPY);
+        let mut held = State::of(&library.buffers);
         if shape.last {
             held.turn_round(shape.places);
         }
         assert_eq!(refused, 0, "the cells do not fit");
         Bench {
-            shape,
-            clock: Clock::new(),
-            ground,
-            held,
+            setting: Setting {
+                shape,
+                clock: Clock::new(),
+                ground,
+                held,
+            },
             library,
-            baseline,
+            baseline: Runner::new(shape, Baseline),
         }
-    }
-
-    /// Every call once, and what it left handed to `after`.
-    fn run<S: Store>(&mut self, which: Which, mut after: impl FnMut(Call, &Buffers)) -> Times {
-        let Bench {
-            shape,
-            clock,
-            ground,
-            held,
-            library,
-            baseline,
-        } = self;
-        let buffers = match which {
-            Which::Library => library,
-            Which::Baseline => baseline,
-        };
-        let mut times: Times = [None; CALLS.len()];
-        let mut measured = |call: Call, time, buffers: &Buffers| {
-            times[call as usize] = time;
-            after(call, buffers);
-        };
-
-        // Entries are taken from the first free place on, so what takes new ones says nothing about last places.
-        if !shape.last {
-            ground.put(buffers);
-            shape.write(&mut buffers.memory, 1);
-            let time = clock.done(|| shape.preserve::<S>(buffers, 0));
-            measured(Call::Preserve, time, buffers);
-        }
-
-        held.put(buffers);
-        shape.write(&mut buffers.memory, 1);
-        let time = clock.repeated(|| S::list(buffers));
-        measured(Call::Check, time, buffers);
-        let cell = shape.cell(shape.cells - 1);
-        let time = clock.repeated(|| S::look(buffers, 1, cell));
-        measured(Call::Look, time, buffers);
-        if let Some(cell) = shape.nobody() {
-            let time = clock.repeated(|| S::look(buffers, 1, cell));
-            measured(Call::LookNobody, time, buffers);
-        }
-
-        if shape.domains > 1 || shape.one_more_fits() {
-            // One domain: a second inside it. Three: the third.
-            if shape.domains > 1 { &*ground } else { &*held }.put(buffers);
-            let time = clock.done(|| shape.preserve::<S>(buffers, 1));
-            if shape.domains == 1 || !shape.last {
-                measured(Call::ViaParent, time, buffers);
-            }
-        }
-
-        if shape.one_more_fits() {
-            held.put(buffers);
-            shape.write(&mut buffers.memory, 2);
-            let time = clock.done(|| S::advance(buffers));
-            measured(Call::Advance, time, buffers);
-        }
-
-        held.put(buffers);
-        let time = clock.done(|| S::commit(buffers));
-        measured(Call::Commit, time, buffers);
-
-        held.put(buffers);
-        shape.write(&mut buffers.memory, 3);
-        let time = clock.done(|| S::restore(buffers, 1));
-        measured(Call::Restore, time, buffers);
-
-        if shape.one_more_fits() && !shape.last {
-            ground.put(buffers);
-            shape.write(&mut buffers.memory, 1);
-            let time = clock.done(|| {
-                let mut refused = shape.preserve::<S>(buffers, 0);
-                shape.write(&mut buffers.memory, 4);
-                refused |= S::advance(buffers);
-                shape.write(&mut buffers.memory, 5);
-                refused | S::restore(buffers, 0) | S::commit(buffers)
-            });
-            measured(Call::Cycle, time, buffers);
-        }
-        times
     }
 
     /// The first run of each is not counted, since it meets untouched pages. It is used to see that both leave the same.
     fn compare(&mut self) {
         let mut left = Vec::new();
-        let image = |buffers: &Buffers| {
-            (
-                buffers.memory.clone(),
-                buffers.bodies.clone(),
-                buffers.table.clone(),
-            )
-        };
-        self.run::<Library>(Which::Library, |call, buffers| {
-            left.push((call, image(buffers)))
+        self.library.run(&self.setting, |figure, buffers| {
+            left.push((figure, buffers.clone()))
         });
         let mut left = left.into_iter();
-        self.run::<Baseline>(Which::Baseline, |call, buffers| {
-            let (of, library) = left.next().expect("the same calls");
-            assert_eq!(of, call);
-            assert!(
-                library == image(buffers),
-                "library and baseline differ after {}",
-                call.name()
-            );
+        self.baseline.run(&self.setting, |figure, buffers| {
+            let (of, library) = left.next().expect("the same figures");
+            assert_eq!(of, figure);
+            let differs = buffers.differs(&library);
+            assert_eq!(differs, None, "after {}", figure.name());
         });
     }
 
     /// The same bytes copied plainly, and for the cycle the program's writes too.
     fn run_memcpy(&mut self) -> Times {
-        let Bench {
-            shape,
-            clock,
-            baseline,
-            ..
-        } = self;
-        let mut times: Times = [None; CALLS.len()];
+        let Setting { shape, clock, .. } = &self.setting;
+        let baseline = &mut self.baseline.buffers;
+        let mut times: Times = [None; FIGURES.len()];
         let (start, length) = (64 * shape.first(), 64 * shape.cells);
         let keep = |buffers: &mut Buffers| {
             black_box(&mut buffers.bodies[..length])
@@ -399,17 +441,17 @@ impl Bench {
         let write = |buffers: &mut Buffers, byte| {
             black_box(&mut buffers.memory[start..][..length]).fill(byte);
         };
-        times[Call::Preserve as usize] = clock.repeated(|| {
+        times[Figure::Preserve as usize] = clock.repeated(|| {
             keep(baseline);
             0
         });
-        times[Call::Restore as usize] = clock.repeated(|| {
+        times[Figure::Restore as usize] = clock.repeated(|| {
             put_back(baseline);
             0
         });
         if shape.one_more_fits() {
-            times[Call::Advance as usize] = times[Call::Preserve as usize];
-            times[Call::Cycle as usize] = clock.repeated(|| {
+            times[Figure::Advance as usize] = times[Figure::Preserve as usize];
+            times[Figure::Cycle as usize] = clock.repeated(|| {
                 keep(baseline);
                 write(baseline, 4);
                 keep(baseline);
@@ -420,12 +462,6 @@ impl Bench {
         }
         times
     }
-}
-
-#[derive(Clone, Copy)]
-enum Which {
-    Library,
-    Baseline,
 }
 
 fn median(mut values: Vec<f64>) -> Option<f64> {
@@ -450,20 +486,22 @@ pub fn measure(shape: Shape, limit: Duration) -> Medians {
     let mut round = 0;
     while round < 7 || (start.elapsed() < limit && round < 501) {
         // Each goes first every other time.
+        let setting = &bench.setting;
         if round % 2 == 0 {
-            library.push(bench.run::<Library>(Which::Library, |_, _| ()));
-            baseline.push(bench.run::<Baseline>(Which::Baseline, |_, _| ()));
-        } else {
-            baseline.push(bench.run::<Baseline>(Which::Baseline, |_, _| ()));
-            library.push(bench.run::<Library>(Which::Library, |_, _| ()));
+            library.push(bench.library.run(setting, |_, _| ()));
+        }
+        baseline.push(bench.baseline.run(setting, |_, _| ()));
+        if round % 2 == 1 {
+            library.push(bench.library.run(setting, |_, _| ()));
         }
         if !shape.scattered {
             memcpy.push(bench.run_memcpy());
         }
-        bench.held.put(&mut bench.library);
-        let entries = &bench.library.table[16..16 + 2 * shape.places];
-        scans.extend(bench.clock.repeated(|| scan(black_box(entries))));
-        sums.extend(bench.clock.repeated(|| {
+        let Setting { clock, held, .. } = &bench.setting;
+        held.put(&mut bench.library.buffers);
+        let entries = &bench.library.buffers.table[16..16 + 2 * shape.places];
+        scans.extend(clock.repeated(|| scan(black_box(entries))));
+        sums.extend(clock.repeated(|| {
             black_box(sum(black_box(entries)));
             0
         }));

@@ -2,9 +2,33 @@
 //! leaves.
 
 use crate::fault::Fault;
+use crate::reply::{Reply, STOPPED};
 use crate::state::{Bytes, CELL, Domain, Holding, Kept, State, cell_of};
+use crate::table::Decoded;
 use std::collections::{BTreeMap, BTreeSet};
 use std::fmt;
+use std::ops::RangeInclusive;
+
+/// How add keeps a cell, as its kind: by a copy of the bytes, or by what the next domain out holds.
+pub const COPY: u32 = 0;
+pub const VIA_PARENT: u32 = 1;
+
+/// The labels of add.
+pub const READ_ONLY: u32 = 0;
+pub const READ_WRITE: u32 = 1;
+
+/// The numbers that a call can be refused by.
+pub const REFUSALS: RangeInclusive<u32> = 1..=17;
+
+/// The numbers of an add.
+#[derive(Clone, Copy, PartialEq, Eq, Debug)]
+pub struct Add {
+    pub handle: u32,
+    pub first: u32,
+    pub count: u32,
+    pub kind: u32,
+    pub label: u32,
+}
 
 /// A call with its arguments. The numbers are as lent, right or wrong.
 #[derive(Clone, Copy, PartialEq, Eq, Debug)]
@@ -12,32 +36,13 @@ pub enum Call {
     Make,
     Open,
     Create,
-    Add {
-        handle: u32,
-        first: u32,
-        count: u32,
-        kind: u32,
-        label: u32,
-    },
-    Delete {
-        handle: u32,
-        first: u32,
-        count: u32,
-    },
-    Commit {
-        handle: u32,
-    },
-    Advance {
-        handle: u32,
-    },
-    Restore {
-        handle: u32,
-    },
+    Add(Add),
+    Delete { handle: u32, first: u32, count: u32 },
+    Commit { handle: u32 },
+    Advance { handle: u32 },
+    Restore { handle: u32 },
     List,
-    Look {
-        handle: u32,
-        cell: u32,
-    },
+    Look { handle: u32, cell: u32 },
 }
 
 impl Call {
@@ -45,13 +50,67 @@ impl Call {
         "make", "open", "create", "add", "delete", "commit", "advance", "restore", "list", "look",
     ];
 
+    /// An add to the innermost domain.
+    pub fn add(first: u32, count: u32, kind: u32, label: u32) -> Call {
+        Call::Add(Add {
+            handle: 0,
+            first,
+            count,
+            kind,
+            label,
+        })
+    }
+
+    /// An add by copy to the innermost domain.
+    pub fn copy(first: u32, count: u32, label: u32) -> Call {
+        Call::add(first, count, COPY, label)
+    }
+
+    /// An add via parent to the innermost domain.
+    pub fn via_parent(first: u32, count: u32, label: u32) -> Call {
+        Call::add(first, count, VIA_PARENT, label)
+    }
+
+    pub fn delete(handle: u32, first: u32, count: u32) -> Call {
+        Call::Delete {
+            handle,
+            first,
+            count,
+        }
+    }
+
+    /// The same call on the domain with this handle, where it names one.
+    pub fn on(mut self, handle: u32) -> Call {
+        if let [Some(named), ..] = self.numbers_mut() {
+            *named = handle;
+        }
+        self
+    }
+
+    /// Every call once, in the order of [`Call::NAMES`], about one domain and one cell; add, commit
+    /// and advance are about the innermost.
+    pub fn one_of_each(handle: u32, cell: u32) -> [Call; Call::NAMES.len()] {
+        [
+            Call::Make,
+            Call::Open,
+            Call::Create,
+            Call::copy(cell, 1, READ_WRITE),
+            Call::delete(handle, cell, 1),
+            Call::Commit { handle: 0 },
+            Call::Advance { handle: 0 },
+            Call::Restore { handle },
+            Call::List,
+            Call::Look { handle, cell },
+        ]
+    }
+
     /// The call's place in [`Call::NAMES`].
     pub fn number(&self) -> usize {
         match self {
             Call::Make => 0,
             Call::Open => 1,
             Call::Create => 2,
-            Call::Add { .. } => 3,
+            Call::Add(_) => 3,
             Call::Delete { .. } => 4,
             Call::Commit { .. } => 5,
             Call::Advance { .. } => 6,
@@ -70,13 +129,13 @@ impl Call {
     pub fn numbers_mut(&mut self) -> [Option<&mut u32>; 5] {
         match self {
             Call::Make | Call::Open | Call::Create | Call::List => [None, None, None, None, None],
-            Call::Add {
+            Call::Add(Add {
                 handle,
                 first,
                 count,
                 kind,
                 label,
-            } => [handle, first, count, kind, label].map(Some),
+            }) => [handle, first, count, kind, label].map(Some),
             Call::Delete {
                 handle,
                 first,
@@ -102,30 +161,40 @@ impl Call {
 
 impl fmt::Display for Call {
     fn fmt(&self, f: &mut fmt::Formatter<'_>) -> fmt::Result {
-        let [handle, first, count, kind, label] = self.numbers();
+        let name = self.name();
         match self {
-            Call::Make | Call::Open | Call::Create | Call::List => write!(f, "{}", self.name()),
-            Call::Add { .. } => {
-                let kind = match kind {
-                    0 => "copy".to_string(),
-                    1 => "via parent".to_string(),
+            Call::Make | Call::Open | Call::Create | Call::List => write!(f, "{name}"),
+            Call::Add(add) => {
+                let kind = match add.kind {
+                    COPY => "copy".to_string(),
+                    VIA_PARENT => "via parent".to_string(),
                     n => format!("kind {n}"),
                 };
-                let label = match label {
-                    0 => "read-only".to_string(),
-                    1 => "read-write".to_string(),
+                let label = match add.label {
+                    READ_ONLY => "read-only".to_string(),
+                    READ_WRITE => "read-write".to_string(),
                     n => format!("label {n}"),
                 };
+                let Add {
+                    handle,
+                    first,
+                    count,
+                    ..
+                } = add;
                 write!(
                     f,
                     "add to {handle}: first {first}, count {count}, {kind}, {label}"
                 )
             }
-            Call::Delete { .. } => write!(f, "delete from {handle}: first {first}, count {count}"),
-            Call::Commit { .. } | Call::Advance { .. } | Call::Restore { .. } => {
-                write!(f, "{} {handle}", self.name())
+            Call::Delete {
+                handle,
+                first,
+                count,
+            } => write!(f, "delete from {handle}: first {first}, count {count}"),
+            Call::Commit { handle } | Call::Advance { handle } | Call::Restore { handle } => {
+                write!(f, "{name} {handle}")
             }
-            Call::Look { .. } => write!(f, "look {handle}, cell {first}"),
+            Call::Look { handle, cell } => write!(f, "look {handle}, cell {cell}"),
         }
     }
 }
@@ -153,6 +222,11 @@ impl Sizes {
             bodies: self.b as usize * CELL,
             table: 36 + 6 * self.e as usize,
         }
+    }
+
+    /// The word at which the pairs begin: behind the entries, two words each.
+    pub fn pairs_at(&self) -> usize {
+        16 + 2 * self.e as usize
     }
 }
 
@@ -237,6 +311,41 @@ pub enum Verdict {
     Work(Work),
 }
 
+impl Verdict {
+    /// What the call has to tell with this budget. Look tells a place, which the buffers before the
+    /// call have.
+    pub fn reply(&self, call: &Call, before: Option<&Decoded>, budget: u64) -> Option<Reply> {
+        let mut reply = Reply::default();
+        match self {
+            Verdict::Refused(number) => reply.code = *number,
+            Verdict::Listed(list) => {
+                reply.count = list.len() as u32;
+                for (place, handle) in reply.handles.iter_mut().zip(list) {
+                    *place = *handle;
+                }
+            }
+            Verdict::Looked(looked) => {
+                let Call::Look { cell, .. } = *call else {
+                    return None;
+                };
+                let (place, number) = match looked.keeper {
+                    None => (1, cell),
+                    Some(keeper) => (2, before?.places.get(&(keeper, cell))?.body),
+                };
+                (reply.place, reply.offset) = (place, CELL as u64 * u64::from(number));
+            }
+            Verdict::Work(work) => {
+                let (steps, done) = work.steps(budget);
+                reply.steps = steps;
+                reply.code = if done { 0 } else { STOPPED };
+                // A stopped create names no handle.
+                reply.handle = if done { work.handle } else { 0 };
+            }
+        }
+        Some(reply)
+    }
+}
+
 /// The model of document 01, perhaps with one error switched on.
 #[derive(Clone, Copy, Debug, Default)]
 pub struct Model {
@@ -304,19 +413,22 @@ impl Model {
         if pending != 0 {
             return Err(3);
         }
-        let [handle, first, count, kind, label] = call.numbers();
-        match call {
+        match *call {
             Call::Make | Call::Open => unreachable!(),
             Call::Create => self.create(state),
-            Call::Add { .. } => self.add(sizes, state, memory, handle, first, count, kind, label),
-            Call::Delete { .. } => self.delete(sizes, state, handle, first, count),
-            Call::Commit { .. } => self.commit(state, handle),
-            Call::Advance { .. } => self.advance(sizes, state, memory, handle),
-            Call::Restore { .. } => self.restore(state, handle),
+            Call::Add(add) => self.add(sizes, state, memory, add),
+            Call::Delete {
+                handle,
+                first,
+                count,
+            } => self.delete(sizes, state, handle, first, count),
+            Call::Commit { handle } => self.commit(state, handle),
+            Call::Advance { handle } => self.advance(sizes, state, memory, handle),
+            Call::Restore { handle } => self.restore(state, handle),
             Call::List => Ok(Verdict::Listed(
                 state.domains.iter().map(|d| d.handle).collect(),
             )),
-            Call::Look { .. } => self.look(sizes, state, memory, handle, first),
+            Call::Look { handle, cell } => self.look(sizes, state, memory, handle, cell),
         }
     }
 
@@ -388,18 +500,14 @@ impl Model {
         })
     }
 
-    #[allow(clippy::too_many_arguments)]
-    fn add(
-        &self,
-        sizes: Sizes,
-        state: &State,
-        memory: &[u8],
-        handle: u32,
-        first: u32,
-        count: u32,
-        kind: u32,
-        label: u32,
-    ) -> Result<Verdict, u32> {
+    fn add(&self, sizes: Sizes, state: &State, memory: &[u8], add: Add) -> Result<Verdict, u32> {
+        let Add {
+            handle,
+            first,
+            count,
+            kind,
+            label,
+        } = add;
         let named = state.find(handle).ok_or(5u32)?;
         if named + 1 != state.domains.len() {
             return Err(6);
@@ -410,7 +518,7 @@ impl Model {
         let range = self.range(sizes, first, count)?;
         let domain = &state.domains[named];
         let new: Vec<u32> = range.clone().filter(|c| !domain.holds(*c)).collect();
-        if kind == 1 && !new.is_empty() {
+        if kind == VIA_PARENT && !new.is_empty() {
             let outer = named.checked_sub(1).ok_or(11u32)?;
             let holds = |c: u32| state.domains[outer].holds(c);
             let equal = |c: u32| state.value(outer, c) == Some(cell_of(memory, c));
@@ -432,7 +540,7 @@ impl Model {
             }
         }
         let no_16 = state.entries() + new.len() as u64 > sizes.e as u64;
-        let no_17 = kind == 0 && state.copies() + new.len() as u64 > sizes.b as u64;
+        let no_17 = kind == COPY && state.copies() + new.len() as u64 > sizes.b as u64;
         if self.has(Fault::BodiesBeforeEntries) && no_17 {
             return Err(17);
         }
@@ -448,7 +556,7 @@ impl Model {
         for c in range {
             match cells.get_mut(&c) {
                 None => {
-                    let kept = if kind == 0 {
+                    let kept = if kind == COPY {
                         work.taken.push((c, cell_of(memory, c)));
                         Kept::Copy(cell_of(memory, c))
                     } else {
@@ -457,25 +565,25 @@ impl Model {
                     cells.insert(
                         c,
                         Holding {
-                            read_write: label == 1,
+                            read_write: label == READ_WRITE,
                             kept,
                         },
                     );
                     work.words += 2;
                 }
                 Some(held) => {
-                    if label == 1 && !held.read_write {
+                    if label == READ_WRITE && !held.read_write {
                         held.read_write = true;
                         if !self.has(Fault::RaiseWithoutSteps) {
                             work.words += 2;
                         }
                     }
-                    if self.has(Fault::LabelGoesBack) && label == 0 && held.read_write {
+                    if self.has(Fault::LabelGoesBack) && label == READ_ONLY && held.read_write {
                         held.read_write = false;
                         work.words += 2;
                     }
                     if self.has(Fault::AddTakesNewValue)
-                        && kind == 0
+                        && kind == COPY
                         && matches!(held.kept, Kept::Copy(_))
                     {
                         held.kept = Kept::Copy(cell_of(memory, c));
@@ -711,6 +819,16 @@ impl Work {
     /// Byte steps: 64 for each copy taken or cell put back.
     pub fn byte_steps(&self) -> u64 {
         (CELL * (self.taken.len() + self.put_back.len())) as u64
+    }
+
+    /// From how many steps on an opening finds the call made; none where it has no table part.
+    pub fn made_from(&self) -> Option<u64> {
+        match self.shape {
+            Shape::Make => Some(self.need),
+            _ if self.words == 0 => None,
+            Shape::Open => Some(0),
+            _ => Some(self.byte_steps() + 2 * self.words + 1),
+        }
     }
 
     /// Steps of a call with this budget, and whether it is done.

@@ -15,18 +15,27 @@
 //! - [`fault`]: plausible errors that can be switched on one at a time, to show that a comparison
 //!   with this model finds them.
 //! - [`edges`]: document 01's "edges to run" as scripts.
+//!
+//! Besides, what all tests share and document 01 says nothing of: [`buffers`], the lent buffers with
+//! guards around each; [`reply`], what a call tells; [`rng`], numbers at random.
 
+pub mod buffers;
 pub mod calls;
 pub mod edges;
 pub mod fault;
 pub mod notebook;
 pub mod plan;
+pub mod reply;
+pub mod rng;
 pub mod state;
 pub mod table;
 
-pub use calls::{Call, Lengths, Looked, Model, Reading, Sizes, Verdict, Work};
+pub use buffers::{Buffer, Buffers};
+pub use calls::{Add, Call, Lengths, Looked, Model, Reading, Sizes, Verdict, Work};
 pub use fault::Fault;
 pub use notebook::{Ended, Notebook};
-pub use plan::{Place, Store};
+pub use plan::{Place, Step};
+pub use reply::{FULL, Reply, STOPPED, Store};
+pub use rng::Rng;
 pub use state::{Bytes, CELL, Domain, Holding, Kept, State};
 pub use table::{Broken, Decoded};

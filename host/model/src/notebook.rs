@@ -4,7 +4,7 @@
 //! count, the place of each program write, and memory after each of these. It never sees table or
 //! bodies, so it cannot repeat a mistake of theirs.
 
-use crate::calls::Call;
+use crate::calls::{Add, Call, READ_WRITE};
 use crate::fault::Fault;
 use crate::state::{Bytes, CELL, cell_of};
 use std::collections::BTreeMap;
@@ -166,18 +166,18 @@ impl Notebook {
                 });
                 self.next += 1;
             }
-            Call::Add {
+            Call::Add(Add {
                 handle,
                 first,
                 count,
                 label,
                 ..
-            } => {
+            }) => {
                 let named = self.find(handle)?;
                 for c in first..first + count {
-                    let entering = (label == 1, cell_of(memory, c));
+                    let entering = (label == READ_WRITE, cell_of(memory, c));
                     let held = self.live[named].cells.entry(c).or_insert(entering);
-                    held.0 |= label == 1;
+                    held.0 |= label == READ_WRITE;
                 }
             }
             Call::Delete {

@@ -4,7 +4,8 @@
 //! the call. So a plan is made from the places that somebody chose: the lowest free ones, or those
 //! that a library was seen to take.
 
-use crate::calls::{Call, Sizes, Work};
+use crate::buffers::{Buffer, Buffers};
+use crate::calls::{Call, Model, Sizes, Work};
 use crate::fault::Fault;
 use crate::state::{CELL, Kept, State};
 use crate::table::{Decoded, ENTRIES, MAGIC, NEXT, PENDING, encode};
@@ -17,62 +18,128 @@ pub struct Place {
     pub body: u32,
 }
 
-/// One step.
+/// One step: a byte of memory or bodies, or a word of the table.
 #[derive(Clone, Copy, PartialEq, Eq, Debug)]
-pub enum Store {
-    Memory { at: usize, value: u8 },
-    Body { at: usize, value: u8 },
-    Word { at: usize, value: u32 },
+pub struct Step {
+    pub buffer: Buffer,
+    pub at: usize,
+    pub value: u32,
 }
 
-impl Store {
+impl Step {
+    fn word(at: usize, value: u32) -> Step {
+        Step {
+            buffer: Buffer::Table,
+            at,
+            value,
+        }
+    }
+
+    /// The 64 bytes of a cell or a body.
+    fn bytes(buffer: Buffer, number: u32, bytes: &[u8; CELL]) -> impl Iterator<Item = Step> {
+        (0..).zip(bytes).map(move |(i, value)| Step {
+            buffer,
+            at: CELL * number as usize + i,
+            value: u32::from(*value),
+        })
+    }
+
     /// Makes the store.
-    pub fn apply(&self, memory: &mut [u8], bodies: &mut [u8], table: &mut [u32]) {
-        match *self {
-            Store::Memory { at, value } => memory[at] = value,
-            Store::Body { at, value } => bodies[at] = value,
-            Store::Word { at, value } => table[at] = value,
+    pub fn apply(&self, buffers: &mut Buffers) {
+        match self.buffer {
+            Buffer::Memory => buffers.memory[self.at] = self.value as u8,
+            Buffer::Bodies => buffers.bodies[self.at] = self.value as u8,
+            Buffer::Table => buffers.table[self.at] = self.value,
         }
     }
 }
 
+/// Makes these stores.
+pub fn play(steps: &[Step], buffers: &mut Buffers) {
+    steps.iter().for_each(|step| step.apply(buffers));
+}
+
+/// The stores of a call that the model says is to be done, with the places that it was seen to
+/// take in `after`.
+pub fn seen(
+    model: Model,
+    before: &Buffers,
+    call: &Call,
+    work: &Work,
+    after: &Buffers,
+) -> Result<Vec<Step>, String> {
+    let steps = planned(model, before, call, work, |from| {
+        let to = readable(model, after)?;
+        let place = |at, cell| to.places.get(&(at, cell)).copied();
+        places_after(from, call, work, model.fault, false, place)
+    })?;
+    if steps.len() as u64 != work.need {
+        return Err(format!(
+            "{} stores bring about what the model says, and it counts {} steps",
+            steps.len(),
+            work.need
+        ));
+    }
+    Ok(steps)
+}
+
+/// The stores of such a call with the lowest free places, in order of cell: one possible choice.
+pub fn lowest(
+    model: Model,
+    before: &Buffers,
+    call: &Call,
+    work: &Work,
+) -> Result<Vec<Step>, String> {
+    planned(model, before, call, work, |from| {
+        lowest_places(from, call, work, model.fault)
+    })
+}
+
+fn planned(
+    model: Model,
+    before: &Buffers,
+    call: &Call,
+    work: &Work,
+    places: impl FnOnce(&Decoded) -> Result<BTreeMap<(usize, u32), Place>, String>,
+) -> Result<Vec<Step>, String> {
+    if *call == Call::Make {
+        return Ok(make(before.sizes()));
+    }
+    let from = readable(model, before)?;
+    Ok(match call {
+        Call::Open => open(&from),
+        _ => steps(&from, work, &places(&from)?),
+    })
+}
+
+fn readable(model: Model, buffers: &Buffers) -> Result<Decoded, String> {
+    buffers
+        .decode(model.fault)
+        .map_err(|why| format!("the buffers cannot be read: {why:?}"))
+}
+
 /// The stores of make: word 0 cleared, words 1 to 15 + 2E once each, word 0.
-pub fn make(sizes: Sizes) -> Vec<Store> {
+fn make(sizes: Sizes) -> Vec<Step> {
     let mut fresh = encode(sizes, &State::fresh(), &BTreeMap::new());
     fresh[0] = 0;
-    let words = fresh
-        .into_iter()
-        .enumerate()
-        .map(|(at, value)| Store::Word { at, value });
-    words
-        .chain([Store::Word {
-            at: 0,
-            value: MAGIC,
-        }])
-        .collect()
+    let words = (0..).zip(fresh).map(|(at, value)| Step::word(at, value));
+    words.chain([Step::word(0, MAGIC)]).collect()
 }
 
 /// The stores of an opening: the pairs in their order, then word 6.
-pub fn open(before: &Decoded) -> Vec<Store> {
+fn open(before: &Decoded) -> Vec<Step> {
     if before.pairs.is_empty() {
         return Vec::new();
     }
-    let words = before.pairs.iter().map(|(word, value)| Store::Word {
-        at: *word as usize,
-        value: *value,
-    });
-    words
-        .chain([Store::Word {
-            at: PENDING,
-            value: 0,
-        }])
-        .collect()
+    let words = before.pairs.iter();
+    let words = words.map(|(word, value)| Step::word(*word as usize, *value));
+    words.chain([Step::word(PENDING, 0)]).collect()
 }
 
 /// The places after a call. `chosen` is asked for each holding that takes an entry or a body, and
 /// gives both; what it gives is checked: a place that was free before, and none twice. With
 /// `in_place` a copy goes over the old body: an error, for a store that is to make it.
-pub fn places_after(
+fn places_after(
     before: &Decoded,
     call: &Call,
     work: &Work,
@@ -112,7 +179,7 @@ pub fn places_after(
                 old.is_some() && matches!(before.state.domains[at].cells[cell].kept, Kept::Copy(_));
             let over_old = had_body
                 && (in_place
-                    || fault == Some(Fault::AddTakesNewValue) && matches!(call, Call::Add { .. }));
+                    || fault == Some(Fault::AddTakesNewValue) && matches!(call, Call::Add(_)));
             if copied && !over_old {
                 place.body = chosen(at, *cell)
                     .ok_or_else(|| {
@@ -145,8 +212,8 @@ pub fn places_after(
     Ok(after)
 }
 
-/// The lowest free places, in order of cell: one possible choice.
-pub fn lowest(
+/// The lowest free places, in order of cell.
+fn lowest_places(
     before: &Decoded,
     call: &Call,
     work: &Work,
@@ -173,90 +240,60 @@ pub fn lowest(
 }
 
 /// The stores of any call but make and open: bytes, then pairs, word 6, the words, word 6.
-pub fn steps(
-    before: &Decoded,
-    words_before: &[u32],
-    work: &Work,
-    places: &BTreeMap<(usize, u32), Place>,
-) -> Vec<Store> {
-    let sizes = before.sizes;
+fn steps(before: &Decoded, work: &Work, places: &BTreeMap<(usize, u32), Place>) -> Vec<Step> {
     let innermost = before.state.domains.len().wrapping_sub(1);
     let mut bytes = Vec::new();
     for (cell, value) in &work.taken {
-        let body = places[&(innermost, *cell)].body as usize;
-        bytes.extend(value.iter().enumerate().map(|(i, v)| Store::Body {
-            at: CELL * body + i,
-            value: *v,
-        }));
+        let body = places[&(innermost, *cell)].body;
+        bytes.extend(Step::bytes(Buffer::Bodies, body, value));
     }
     for (cell, value) in &work.put_back {
-        bytes.extend(value.iter().enumerate().map(|(i, v)| Store::Memory {
-            at: CELL * *cell as usize + i,
-            value: *v,
-        }));
-    }
-
-    // An entry of which one word changes puts both into pairs, so the comparison goes entry by
-    // entry.
-    let words_after = encode(sizes, &work.after, places);
-    let mut pairs: Vec<(usize, u32)> = Vec::new();
-    for at in (4..=NEXT).chain(8..16) {
-        if words_after[at] != words_before[at] {
-            pairs.push((at, words_after[at]));
-        }
+        bytes.extend(Step::bytes(Buffer::Memory, *cell, value));
     }
     let mut forced = BTreeSet::new();
     if work.over_bodies() {
-        forced.extend(
-            work.taken
-                .iter()
-                .map(|(c, _)| places[&(innermost, *c)].entry),
-        );
+        let taken = work.taken.iter();
+        forced.extend(taken.map(|(c, _)| places[&(innermost, *c)].entry));
     }
-    for entry in 0..sizes.e {
-        let at = ENTRIES + 2 * entry as usize;
-        if words_after[at..at + 2] != words_before[at..at + 2] || forced.contains(&entry) {
-            pairs.push((at, words_after[at]));
-            pairs.push((at + 1, words_after[at + 1]));
-        }
-    }
-    let mut table = Vec::new();
-    if !pairs.is_empty() {
-        let spare = ENTRIES + 2 * sizes.e as usize;
-        let announce = Store::Word {
-            at: PENDING,
-            value: pairs.len() as u32,
-        };
-        let mut journal = Vec::new();
-        for (i, (word, value)) in pairs.iter().enumerate() {
-            journal.push(Store::Word {
-                at: spare + 2 * i,
-                value: *word as u32,
-            });
-            journal.push(Store::Word {
-                at: spare + 2 * i + 1,
-                value: *value,
-            });
-        }
-        if work.early_word_6() {
-            table.push(announce);
-            table.extend(journal);
-        } else {
-            table.extend(journal);
-            table.push(announce);
-        }
-        table.extend(pairs.iter().map(|(at, value)| Store::Word {
-            at: *at,
-            value: *value,
-        }));
-        table.push(Store::Word {
-            at: PENDING,
-            value: 0,
-        });
-    }
+    let pairs = pairs(before, &encode(before.sizes, &work.after, places), &forced);
+    let table = journal(before.sizes, &pairs, work.early_word_6());
     if work.table_first() {
         table.into_iter().chain(bytes).collect()
     } else {
         bytes.into_iter().chain(table).collect()
     }
+}
+
+/// The words to replace, with their new values. An entry of which one word changes puts both into
+/// pairs, so the comparison goes entry by entry.
+fn pairs(before: &Decoded, after: &[u32], forced: &BTreeSet<u32>) -> Vec<(usize, u32)> {
+    let mut pairs: Vec<(usize, u32)> = (4..=NEXT)
+        .chain(8..16)
+        .filter(|at| after[*at] != before.words[*at])
+        .map(|at| (at, after[at]))
+        .collect();
+    for entry in 0..before.sizes.e {
+        let at = ENTRIES + 2 * entry as usize;
+        if after[at..at + 2] != before.words[at..at + 2] || forced.contains(&entry) {
+            pairs.extend([(at, after[at]), (at + 1, after[at + 1])]);
+        }
+    }
+    pairs
+}
+
+/// The table part: the pairs, word 6, the words in the same order, and word 6 again.
+fn journal(sizes: Sizes, pairs: &[(usize, u32)], early_word_6: bool) -> Vec<Step> {
+    if pairs.is_empty() {
+        return Vec::new();
+    }
+    let mut steps = Vec::new();
+    for (i, (word, value)) in pairs.iter().enumerate() {
+        let at = sizes.pairs_at() + 2 * i;
+        steps.extend([Step::word(at, *word as u32), Step::word(at + 1, *value)]);
+    }
+    let announced = if early_word_6 { 0 } else { steps.len() };
+    steps.insert(announced, Step::word(PENDING, pairs.len() as u32));
+    steps.extend(pairs.iter().map(|(at, value)| Step::word(*at, *value)));
+    steps.push(Step::word(PENDING, 0));
+    steps
 }

@@ -1,7 +1,8 @@
 //! The three lent buffers as document 01 describes them: read back into a state, and written from
 //! one.
 
-use crate::calls::{Lengths, Reading, Sizes};
+use crate::buffers::Buffers;
+use crate::calls::{Reading, Sizes};
 use crate::fault::Fault;
 use crate::plan::Place;
 use crate::state::{Bytes, CELL, Domain, Holding, Kept, State};
@@ -40,6 +41,8 @@ pub struct Decoded {
     pub places: BTreeMap<(usize, u32), Place>,
     /// Pending pairs: word number, new value.
     pub pairs: Vec<(u32, u32)>,
+    /// The words in front of the pairs, as the pairs mean them.
+    pub words: Vec<u32>,
 }
 
 impl Decoded {
@@ -78,46 +81,35 @@ pub fn reading(decoded: &Result<Decoded, Broken>) -> Reading {
     }
 }
 
-/// Reads a store from its buffers, with questions 1, 2 and 4. Memory's length is all that the table
-/// has to do with memory.
-pub fn decode(
-    memory_len: usize,
-    bodies: &[u8],
-    table: &[u32],
-    fault: Option<Fault>,
-) -> Result<Decoded, Broken> {
-    let lengths = Lengths {
-        memory: memory_len,
-        bodies: bodies.len(),
-        table: table.len(),
-    };
-    let sizes = lengths.sizes().ok_or(Broken::Lengths)?;
-    if table[0] != MAGIC
-        || table[1] != sizes.m
-        || table[2] != sizes.e
-        || table[3] != sizes.b
-        || table[7] != 0
-    {
-        return Err(Broken::Header);
-    }
-    let damaged = |why: String| Broken::Table {
-        pending: table[PENDING] != 0,
-        why,
-    };
-    let pairs = pairs(sizes, table).map_err(damaged)?;
-    let mut meant = table[..ENTRIES + 2 * sizes.e as usize].to_vec();
-    if fault != Some(Fault::TableReadsRaw) {
-        for (word, value) in &pairs {
-            meant[*word as usize] = *value;
+impl Buffers {
+    /// Reads a store from its buffers, with questions 1, 2 and 4. Memory's length is all that the
+    /// table has to do with memory.
+    pub fn decode(&self, fault: Option<Fault>) -> Result<Decoded, Broken> {
+        let sizes = self.lengths().sizes().ok_or(Broken::Lengths)?;
+        let table = &self.table;
+        if table[..4] != [MAGIC, sizes.m, sizes.e, sizes.b] || table[7] != 0 {
+            return Err(Broken::Header);
         }
+        let damaged = |why: String| Broken::Table {
+            pending: table[PENDING] != 0,
+            why,
+        };
+        let pairs = pairs(sizes, table).map_err(damaged)?;
+        let mut words = table[..sizes.pairs_at()].to_vec();
+        if fault != Some(Fault::TableReadsRaw) {
+            for (word, value) in &pairs {
+                words[*word as usize] = *value;
+            }
+        }
+        let (state, places) = meaning(sizes, &self.bodies, &words, fault).map_err(damaged)?;
+        Ok(Decoded {
+            sizes,
+            state,
+            places,
+            pairs,
+            words,
+        })
     }
-    let (state, places) = meaning(sizes, bodies, &meant, fault).map_err(damaged)?;
-    Ok(Decoded {
-        sizes,
-        state,
-        places,
-        pairs,
-    })
 }
 
 /// The pending pairs: they name words 4, 5, 8 to 15 or an entry word, strictly rising.
@@ -129,7 +121,7 @@ fn pairs(sizes: Sizes, table: &[u32]) -> Result<Vec<(u32, u32)>, String> {
             2 * sizes.e + 10
         ));
     }
-    let end = ENTRIES as u32 + 2 * sizes.e;
+    let end = sizes.pairs_at() as u32;
     let mut pairs: Vec<(u32, u32)> = Vec::with_capacity(pending as usize);
     for at in 0..pending as usize {
         let (word, value) = (
@@ -269,7 +261,7 @@ fn meaning(
 /// Words 0 to 15 + 2E of a table for this state, with nothing pending. The pairs after them are
 /// spare.
 pub fn encode(sizes: Sizes, state: &State, places: &BTreeMap<(usize, u32), Place>) -> Vec<u32> {
-    let mut words = vec![0; ENTRIES + 2 * sizes.e as usize];
+    let mut words = vec![0; sizes.pairs_at()];
     words[..4].copy_from_slice(&[MAGIC, sizes.m, sizes.e, sizes.b]);
     words[LIVE] = state.domains.len() as u32;
     words[NEXT] = state.next;

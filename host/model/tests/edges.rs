@@ -34,7 +34,7 @@ fn every_edge() {
             let name = script.name;
             match line {
                 Line::Fill(cell, byte) => memory[64 * *cell as usize..][..64].fill(*byte),
-                Line::Call(call, answer) => {
+                Line::Answers(call, answer) => {
                     let told = play(Model::default(), &mut reading, lengths, &mut memory, call).0;
                     assert_eq!(told, *answer, "{name}: {call}");
                 }
@@ -110,13 +110,7 @@ fn steps_by_hand() {
         pending: 0,
     };
     let model = Model::default();
-    let add = |first, count, kind, label| Call::Add {
-        handle: 0,
-        first,
-        count,
-        kind,
-        label,
-    };
+    let add = Call::add;
     let list: [(Call, u64); 16] = [
         (Call::Make, 33),                         // 2 x 8 + 17
         (Call::Open, 0),                          // nothing pending
@@ -133,14 +127,7 @@ fn steps_by_hand() {
         (Call::Create, 11),                       //
         (add(3, 1, 0, 0), 64 + 8),                //
         (Call::Restore { handle: 1 }, 256 + 17), // four cells; two domains and one entry end: p = 1 + 2 + 2
-        (
-            Call::Delete {
-                handle: 1,
-                first: 0,
-                count: 3,
-            },
-            20,
-        ), // p = 6
+        (Call::delete(1, 0, 3), 20),             // p = 6
     ];
     for (call, need) in list {
         let Verdict::Work(work) = model.verdict(lengths, &reading, &memory, &call) else {
@@ -163,17 +150,7 @@ fn cuts_of_a_restore() {
         pending: 0,
     };
     let model = Model::default();
-    for call in [
-        Call::Create,
-        Call::Create,
-        Call::Add {
-            handle: 0,
-            first: 1,
-            count: 1,
-            kind: 0,
-            label: 1,
-        },
-    ] {
+    for call in [Call::Create, Call::Create, Call::copy(1, 1, 1)] {
         assert_eq!(play(model, &mut reading, lengths, &mut memory, &call).0, 0);
     }
     memory.fill(9);

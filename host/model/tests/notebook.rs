@@ -1,17 +1,9 @@
 //! The notebook's lines, one by one.
 
-use domain_model::{Call, Ended, Notebook};
-
-const FULL: u64 = u64::MAX;
+use domain_model::{Call, Ended, FULL, Notebook};
 
 fn add(first: u32, label: u32) -> Call {
-    Call::Add {
-        handle: 0,
-        first,
-        count: 1,
-        kind: 0,
-        label,
-    }
+    Call::copy(first, 1, label)
 }
 
 struct Bench {
@@ -84,11 +76,7 @@ fn a_delete_spoils_for_the_domain_and_all_around_it() {
     b.done(Call::Create);
     b.done(add(0, 1));
     b.write(0, 9);
-    b.done(Call::Delete {
-        handle: 2,
-        first: 0,
-        count: 1,
-    });
+    b.done(Call::delete(2, 0, 1));
     assert_eq!(b.done(Call::Restore { handle: 2 }), Some(0));
     assert_eq!(b.done(Call::Restore { handle: 1 }), Some(0));
 }

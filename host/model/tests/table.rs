@@ -1,11 +1,19 @@
 //! The table of document 01: what is written is read back, and each rule of question 4 is looked
 //! at.
 
-use domain_model::table::{Broken, MAGIC, decode, encode, reading};
-use domain_model::{Domain, Holding, Kept, Place, Reading, Sizes, State};
+use domain_model::table::{Broken, MAGIC, encode, reading};
+use domain_model::{Buffers, Decoded, Domain, Holding, Kept, Place, Reading, Sizes, State};
 use std::collections::BTreeMap;
 
 type Places = BTreeMap<(usize, u32), Place>;
+
+/// Buffers with these bodies and this table, read.
+fn decode(bodies: &[u8], table: &[u32]) -> Result<Decoded, Broken> {
+    let mut buffers = Buffers::filled(SIZES.lengths(), 0, 0);
+    buffers.bodies.copy_from_slice(bodies);
+    buffers.table.copy_from_slice(table);
+    buffers.decode(None)
+}
 
 const SIZES: Sizes = Sizes { m: 4, e: 6, b: 5 };
 
@@ -43,7 +51,7 @@ fn sample() -> (Vec<u8>, Vec<u32>, State, Places) {
         ((1, 0), Place { entry: 2, body: 0 }),
     ]);
     let mut table = encode(SIZES, &state, &places);
-    table.resize(36 + 6 * SIZES.e as usize, 0xDEAD);
+    table.resize(SIZES.lengths().table, 0xDEAD);
     (bodies, table, state, places)
 }
 
@@ -69,7 +77,7 @@ fn written_and_read_back() {
             4
         ]
     );
-    let read = decode(256, &bodies, &table, None).expect("a store");
+    let read = decode(&bodies, &table).expect("a store");
     assert_eq!((&read.state, &read.places), (&state, &places));
     assert!(read.pairs.is_empty());
     assert_eq!(
@@ -87,7 +95,7 @@ fn damaged(edits: &[(usize, u32)]) -> Option<Broken> {
     for (word, value) in edits {
         table[*word] = *value;
     }
-    decode(256, &bodies, &table, None).err()
+    decode(&bodies, &table).err()
 }
 
 #[test]
@@ -161,7 +169,7 @@ fn pending_pairs() {
         table[*word] = 0xFFFF_FFFF;
     }
     table[6] = 22;
-    let read = decode(256, &bodies, &table, None);
+    let read = decode(&bodies, &table);
     assert_eq!(
         reading(&read),
         Reading::Store {
@@ -172,7 +180,7 @@ fn pending_pairs() {
     // One pair less: the last word stands raw, and is wrong.
     table[6] = 21;
     assert_eq!(
-        reading(&decode(256, &bodies, &table, None)),
+        reading(&decode(&bodies, &table)),
         Reading::Damaged { pending: true }
     );
     // Two pairs that name the same word, or fall.
@@ -181,7 +189,7 @@ fn pending_pairs() {
         table[6] = 2;
         table[28..32].copy_from_slice(&[a, right[a as usize], b, right[b as usize]]);
         assert_eq!(
-            reading(&decode(256, &bodies, &table, None)),
+            reading(&decode(&bodies, &table)),
             Reading::Damaged { pending: true }
         );
     }

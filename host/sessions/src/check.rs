@@ -1,13 +1,11 @@
 //! One call on both sides, with every comparison: answer, step count, handle, buffers after exactly
 //! that many stores, meaning, guards, notebook.
 
-use crate::buffers::Buffers;
-use crate::rng::Rng;
-use crate::store::{Reply, STOPPED, Store};
 use domain_model::{
-    Call, Decoded, Ended, Kept, Model, Notebook, Reading, State, Verdict, Work, plan, table,
+    Add, Buffers, Call, Ended, FULL, Holding, Kept, Model, Notebook, Reading, Reply, Rng, STOPPED,
+    State, Store, Verdict, Work, calls::VIA_PARENT, plan, table,
 };
-use std::collections::BTreeSet;
+use std::collections::{BTreeMap, BTreeSet};
 
 /// Where store and model differ.
 #[derive(Clone, Debug)]
@@ -50,8 +48,8 @@ impl Line {
 pub struct Tally {
     pub sessions: u64,
     pub writes: u64,
-    /// Calls by name, then by answer: refusals 1 to 17, 0 done, 18 stopped.
-    pub answers: [[u64; 19]; 10],
+    /// Calls by name, then by answer: refusals, 0 done, 255 stopped.
+    pub answers: [BTreeMap<u32, u64>; Call::NAMES.len()],
     /// Stopped calls other than opening.
     pub cuts: u64,
     /// Calls of which every cut was tried.
@@ -81,22 +79,19 @@ pub struct Tally {
 
 impl Tally {
     pub fn calls(&self) -> u64 {
-        self.answers.iter().flatten().sum()
+        self.answers.iter().flat_map(BTreeMap::values).sum()
     }
 
     pub fn answered(&self, number: u32) -> u64 {
-        self.answers.iter().map(|a| a[number as usize]).sum()
+        self.answers.iter().filter_map(|a| a.get(&number)).sum()
     }
 
     /// Adds another tally.
     pub fn join(&mut self, other: &Tally) {
-        for (mine, theirs) in self
-            .answers
-            .iter_mut()
-            .flatten()
-            .zip(other.answers.iter().flatten())
-        {
-            *mine += theirs;
+        for (mine, theirs) in self.answers.iter_mut().zip(&other.answers) {
+            for (number, times) in theirs {
+                *mine.entry(*number).or_default() += times;
+            }
         }
         self.sessions += other.sessions;
         self.writes += other.writes;
@@ -145,7 +140,7 @@ impl<'a> Checker<'a> {
     /// Makes the call on the line and compares everything.
     pub fn call(&mut self, line: &mut Line, call: &Call, budget: u64) -> Result<Reply, Mismatch> {
         self.compared(line, call, budget).map_err(|what| {
-            let limit = if call.only_reads() || budget == u64::MAX {
+            let limit = if call.only_reads() || budget == FULL {
                 String::new()
             } else {
                 format!(" with budget {budget}")
@@ -165,21 +160,12 @@ impl<'a> Checker<'a> {
             self.note(line, call, budget, &reply)?;
             return Ok(reply);
         }
-        let fault = self.model.fault;
         let before = line.buffers.clone();
-        let verdict =
-            self.model
-                .verdict(before.lengths(), &line.reading, before.memory.get(), call);
+        let verdict = self.verdict(line, call);
         let reply = self.store.call(&mut line.buffers, call, budget);
         self.tally_answer(call, &reply);
         let expected = expected(&verdict, call, budget, &before, self.model)?;
-        if reply != expected {
-            return Err(format!(
-                "told {}, should tell {}",
-                tell(&reply, call),
-                tell(&expected, call)
-            ));
-        }
+        as_expected(&reply, &expected, call)?;
         if let Some(stray) = line.buffers.strayed() {
             return Err(stray);
         }
@@ -189,9 +175,9 @@ impl<'a> Checker<'a> {
                 unchanged(&line.buffers, &before)?;
                 let from = reply.offset as usize;
                 let shown = if reply.place == 1 {
-                    line.buffers.memory.get()
+                    &line.buffers.memory
                 } else {
-                    line.buffers.bodies.get()
+                    &line.buffers.bodies
                 };
                 if shown.get(from..from + 64) != Some(&looked.bytes[..]) {
                     return Err("look shows other bytes than a restore would leave".into());
@@ -201,46 +187,49 @@ impl<'a> Checker<'a> {
                 let (steps, done) = work.steps(budget);
                 bounded(call, work, &before)?;
                 let stores = if done {
-                    planned(self.model, &before, call, work, &line.buffers)?
+                    plan::seen(self.model, &before, call, work, &line.buffers)?
                 } else {
                     // The places that a call takes do not depend on the budget, so a whole run on a
                     // copy tells them.
                     let full = self.whole_run(&before, call, work)?;
-                    planned(self.model, &before, call, work, &full)?
+                    plan::seen(self.model, &before, call, work, &full)?
                 };
                 let mut should = before;
                 let reading = work.reading_after(&line.reading, steps);
-                let mut memory = should.memory.get().to_vec();
-                for store in &stores[..steps as usize] {
-                    store.apply(
-                        should.memory.get_mut(),
-                        should.bodies.get_mut(),
-                        should.table.get_mut(),
-                    );
-                }
+                let mut memory = should.memory.to_vec();
+                plan::play(&stores[..steps as usize], &mut should);
                 if let Some(at) = line.buffers.differs(&should) {
                     return Err(format!("after {steps} steps {at}"));
                 }
                 work.memory_after(&mut memory, steps);
-                if memory != line.buffers.memory.get() {
+                if memory != *line.buffers.memory {
                     return Err(format!(
                         "after {steps} steps memory is not what the call leaves there"
                     ));
                 }
-                let decoded = line.buffers.decode(fault);
-                let found = table::reading(&decoded);
-                if found != reading {
-                    return Err(format!(
-                        "after {steps} steps {}",
-                        other_meaning(&found, &reading)
-                    ));
-                }
+                self.means(&line.buffers, &reading, steps)?;
                 self.tally_work(call, work, line.state(), done);
                 line.reading = reading;
             }
         }
         self.note(line, call, budget, &reply)?;
         Ok(reply)
+    }
+
+    fn verdict(&self, line: &Line, call: &Call) -> Verdict {
+        let buffers = &line.buffers;
+        self.model
+            .verdict(buffers.lengths(), &line.reading, &buffers.memory, call)
+    }
+
+    /// Whether the buffers stand for this after so many steps.
+    fn means(&self, buffers: &Buffers, should: &Reading, steps: u64) -> Result<(), String> {
+        let found = table::reading(&buffers.decode(self.model.fault));
+        if found == *should {
+            return Ok(());
+        }
+        let other = other_meaning(&found, should);
+        Err(format!("after {steps} steps {other}"))
     }
 
     /// Feeds the notebook, and looks at a zero count.
@@ -261,7 +250,7 @@ impl<'a> Checker<'a> {
         };
         // Of the step counts the notebook may see opening's only.
         let steps = if *call == Call::Open { reply.steps } else { 0 };
-        if let Some(count) = notebook.call(call, budget, ended, steps, line.buffers.memory.get())? {
+        if let Some(count) = notebook.call(call, budget, ended, steps, &line.buffers.memory)? {
             self.tally.counts += 1;
             self.tally.looked_at += count.looked_at;
             if count.differ != 0 {
@@ -289,20 +278,14 @@ impl<'a> Checker<'a> {
 
     fn whole_run(&mut self, before: &Buffers, call: &Call, work: &Work) -> Result<Buffers, String> {
         let mut full = before.clone();
-        let reply = self.store.call(&mut full, call, u64::MAX);
+        let reply = self.store.call(&mut full, call, FULL);
         self.tally_answer(call, &reply);
         let should = Reply {
             steps: work.need,
             handle: work.handle,
             ..Reply::default()
         };
-        if reply != should {
-            return Err(format!(
-                "without a budget told {}, should tell {}",
-                tell(&reply, call),
-                tell(&should, call)
-            ));
-        }
+        as_expected(&reply, &should, call).map_err(|what| format!("without a budget {what}"))?;
         Ok(full)
     }
 
@@ -314,9 +297,7 @@ impl<'a> Checker<'a> {
             what,
         };
         let before = &line.buffers;
-        let verdict =
-            self.model
-                .verdict(before.lengths(), &line.reading, before.memory.get(), call);
+        let verdict = self.verdict(line, call);
         let Verdict::Work(work) = &verdict else {
             return Ok(());
         };
@@ -324,15 +305,15 @@ impl<'a> Checker<'a> {
             return Ok(());
         }
         let full = self.whole_run(before, call, work).map_err(named)?;
-        let stores = planned(self.model, before, call, work, &full).map_err(named)?;
+        let stores = plan::seen(self.model, before, call, work, &full).map_err(named)?;
         let mut rng = Rng::new(seed);
         let budgets = self.budgets(work, &mut rng);
         let all_openings = if work.words > 0 {
             work.byte_steps() + 2 * work.words + 1 + rng.below(work.words + 1)
         } else {
-            u64::MAX
+            FULL
         };
-        let small = before.memory.get().len() <= 64 * 64;
+        let small = before.memory.len() <= 64 * 64;
         let mut should = before.clone();
         let mut copy = before.clone();
         let mut applied = 0;
@@ -342,25 +323,13 @@ impl<'a> Checker<'a> {
                 call: format!("{call} with budget {budget}"),
                 what,
             };
-            for store in &stores[applied..budget as usize] {
-                store.apply(
-                    should.memory.get_mut(),
-                    should.bodies.get_mut(),
-                    should.table.get_mut(),
-                );
-            }
+            plan::play(&stores[applied..budget as usize], &mut should);
             applied = budget as usize;
             copy.copy_from(before);
             let reply = self.store.call(&mut copy, call, budget);
             self.tally_answer(call, &reply);
             let expected = expected(&verdict, call, budget, before, self.model).map_err(at)?;
-            if reply != expected {
-                return Err(at(format!(
-                    "told {}, should tell {}",
-                    tell(&reply, call),
-                    tell(&expected, call)
-                )));
-            }
+            as_expected(&reply, &expected, call).map_err(at)?;
             if let Some(stray) = copy.strayed() {
                 return Err(at(stray));
             }
@@ -368,13 +337,7 @@ impl<'a> Checker<'a> {
                 return Err(at(format!("after {budget} steps {place}")));
             }
             let reading = work.reading_after(&line.reading, budget);
-            let found = table::reading(&copy.decode(self.model.fault));
-            if found != reading {
-                return Err(at(format!(
-                    "after {budget} steps {}",
-                    other_meaning(&found, &reading)
-                )));
-            }
+            self.means(&copy, &reading, budget).map_err(at)?;
             if reply.code != STOPPED {
                 continue;
             }
@@ -436,27 +399,9 @@ impl<'a> Checker<'a> {
         if rng.chance(150) {
             let mut other = line.clone();
             other.notebook = None;
-            let probes = [
-                Call::List,
-                Call::Create,
-                Call::Commit { handle: 0 },
-                Call::Advance { handle: 0 },
-                Call::Restore { handle: 0 },
-                Call::Look { handle: 0, cell: 0 },
-                Call::Add {
-                    handle: 0,
-                    first: 0,
-                    count: 1,
-                    kind: 0,
-                    label: 1,
-                },
-                Call::Delete {
-                    handle: 0,
-                    first: 0,
-                    count: 1,
-                },
-            ];
-            self.call(&mut other, rng.pick(&probes), u64::MAX)?;
+            // All but make and open.
+            let probes = &Call::one_of_each(0, 0)[2..];
+            self.call(&mut other, rng.pick(probes), FULL)?;
         }
         if let Reading::Store { pending, .. } = line.reading {
             let most = pending as u64 + 1;
@@ -465,7 +410,7 @@ impl<'a> Checker<'a> {
                     let mut other = line.clone();
                     if self.call(&mut other, &Call::Open, budget)?.code == STOPPED {
                         self.call(&mut other, &Call::Open, rng.below(most))?;
-                        self.call(&mut other, &Call::Open, u64::MAX)?;
+                        self.call(&mut other, &Call::Open, FULL)?;
                     }
                 }
             }
@@ -475,23 +420,20 @@ impl<'a> Checker<'a> {
                 }
             }
         }
-        self.call(&mut line, &Call::Open, u64::MAX)?;
+        self.call(&mut line, &Call::Open, FULL)?;
         if line.notebook.is_some()
             && let Some(live) = line.state().map(|s| s.domains.len()).filter(|n| *n > 0)
         {
             let handle =
                 line.state().expect("a store").domains[rng.below(live as u64) as usize].handle;
-            self.call(&mut line, &Call::Restore { handle }, u64::MAX)?;
+            self.call(&mut line, &Call::Restore { handle }, FULL)?;
         }
         Ok(())
     }
 
     fn tally_answer(&mut self, call: &Call, reply: &Reply) {
-        let answer = match reply.code {
-            STOPPED => 18,
-            number => number.min(17) as usize,
-        };
-        self.tally.answers[call.number()][answer] += 1;
+        let answers = &mut self.tally.answers[call.number()];
+        *answers.entry(reply.code).or_default() += 1;
         if reply.code == STOPPED {
             if *call == Call::Open {
                 self.tally.stopped_openings += 1;
@@ -548,7 +490,9 @@ impl<'a> Checker<'a> {
                     .keys()
                     .any(|c| !was.contains_key(c)) as u64;
             }
-            Call::Add { kind: 1, .. } => {
+            Call::Add(Add {
+                kind: VIA_PARENT, ..
+            }) => {
                 let innermost = after.domains.len() - 1;
                 for c in after.domains[innermost].cells.keys() {
                     let way = after.keeper(innermost, *c).map_or(0, |k| innermost - k);
@@ -568,76 +512,22 @@ fn expected(
     before: &Buffers,
     model: Model,
 ) -> Result<Reply, String> {
-    let mut reply = Reply::default();
-    match verdict {
-        Verdict::Refused(number) => reply.code = *number,
-        Verdict::Listed(list) => {
-            reply.count = list.len() as u32;
-            for (place, handle) in reply.handles.iter_mut().zip(list) {
-                *place = *handle;
-            }
-        }
-        Verdict::Looked(looked) => {
-            let Call::Look { cell, .. } = call else {
-                return Err("the model mixed up its calls".into());
-            };
-            (reply.place, reply.offset) = match looked.keeper {
-                None => (1, 64 * *cell as u64),
-                Some(keeper) => {
-                    let decoded = decoded(before, model)?;
-                    let place = decoded
-                        .places
-                        .get(&(keeper, *cell))
-                        .ok_or("the cell looked for has no place")?;
-                    (2, 64 * place.body as u64)
-                }
-            };
-        }
-        Verdict::Work(work) => {
-            let (steps, done) = work.steps(budget);
-            reply.steps = steps;
-            reply.code = if done { 0 } else { STOPPED };
-            // A stopped create names no handle.
-            reply.handle = if done { work.handle } else { 0 };
-        }
-    }
-    Ok(reply)
-}
-
-fn decoded(buffers: &Buffers, model: Model) -> Result<Decoded, String> {
-    buffers
-        .decode(model.fault)
-        .map_err(|why| format!("the buffers cannot be read: {why:?}"))
-}
-
-/// The exact stores of the call, with the places that the store was seen to take in `after`.
-fn planned(
-    model: Model,
-    before: &Buffers,
-    call: &Call,
-    work: &Work,
-    after: &Buffers,
-) -> Result<Vec<domain_model::Store>, String> {
-    let stores = match call {
-        Call::Make => plan::make(before.lengths().sizes().ok_or("make with wrong lengths")?),
-        Call::Open => plan::open(&decoded(before, model)?),
-        _ => {
-            let from = decoded(before, model)?;
-            let to = decoded(after, model)?;
-            let places = plan::places_after(&from, call, work, model.fault, false, |at, cell| {
-                to.places.get(&(at, cell)).copied()
-            })?;
-            plan::steps(&from, before.table.get(), work, &places)
-        }
+    // Only look tells a place.
+    let decoded = match verdict {
+        Verdict::Looked(_) => before.decode(model.fault).ok(),
+        _ => None,
     };
-    if stores.len() as u64 != work.need {
-        return Err(format!(
-            "{} stores bring about what the model says, and it counts {} steps",
-            stores.len(),
-            work.need
-        ));
+    verdict
+        .reply(call, decoded.as_ref(), budget)
+        .ok_or("the cell looked for has no place".into())
+}
+
+fn as_expected(reply: &Reply, should: &Reply, call: &Call) -> Result<(), String> {
+    if reply == should {
+        return Ok(());
     }
-    Ok(stores)
+    let (is, should) = (tell(reply, call), tell(should, call));
+    Err(format!("told {is}, should tell {should}"))
 }
 
 /// Document 01's bounds: open needs at most 2E + 11 steps, every other call at most 70E + 32.
@@ -700,64 +590,67 @@ fn other_meaning(is: &Reading, should: &Reading) -> String {
                 state: b,
                 pending: q,
             },
-        ) => {
-            if p != q {
-                return format!("{p} pairs are pending and should be {q}");
+        ) => match p == q {
+            false => format!("{p} pairs are pending and should be {q}"),
+            true => other_state(a, b),
+        },
+        _ => format!(
+            "the buffers are {}, and should be {}",
+            named(is),
+            named(should)
+        ),
+    }
+}
+
+fn named(reading: &Reading) -> String {
+    match reading {
+        Reading::WrongLengths => "no store (question 1)".into(),
+        Reading::NoStore => "no store (question 2)".into(),
+        Reading::Damaged { pending: false } => "a damaged table".into(),
+        Reading::Damaged { pending: true } => "a damaged table with pairs pending".into(),
+        Reading::Store { pending, .. } => format!("a store with {pending} pairs pending"),
+    }
+}
+
+/// How two states differ, in words.
+fn other_state(a: &State, b: &State) -> String {
+    if a.next != b.next {
+        return format!("the next handle is {} and should be {}", a.next, b.next);
+    }
+    let handles = |s: &State| s.domains.iter().map(|d| d.handle).collect::<Vec<u32>>();
+    if handles(a) != handles(b) {
+        return format!("live are {:?} and should be {:?}", handles(a), handles(b));
+    }
+    for (x, y) in a.domains.iter().zip(&b.domains) {
+        let cells: BTreeSet<u32> = x.cells.keys().chain(y.cells.keys()).copied().collect();
+        for c in cells {
+            let (is, should) = (x.cells.get(&c), y.cells.get(&c));
+            if is != should {
+                return format!(
+                    "domain {} has cell {c} {}, and should have it {}",
+                    x.handle,
+                    holding(is),
+                    holding(should)
+                );
             }
-            if a.next != b.next {
-                return format!("the next handle is {} and should be {}", a.next, b.next);
-            }
-            let handles = |s: &State| s.domains.iter().map(|d| d.handle).collect::<Vec<u32>>();
-            if handles(a) != handles(b) {
-                return format!("live are {:?} and should be {:?}", handles(a), handles(b));
-            }
-            for (x, y) in a.domains.iter().zip(&b.domains) {
-                let cells: BTreeSet<u32> = x.cells.keys().chain(y.cells.keys()).copied().collect();
-                for c in cells {
-                    if x.cells.get(&c) != y.cells.get(&c) {
-                        let show = |h: Option<&domain_model::Holding>| match h {
-                            None => "not held".to_string(),
-                            Some(h) => {
-                                let label = if h.read_write {
-                                    "read-write"
-                                } else {
-                                    "read-only"
-                                };
-                                match h.kept {
-                                    Kept::ViaParent => format!("{label} via parent"),
-                                    Kept::Copy(bytes) if bytes.iter().all(|v| *v == bytes[0]) => {
-                                        format!("{label} as a copy of {}", bytes[0])
-                                    }
-                                    Kept::Copy(bytes) => format!("{label} as a copy of {bytes:?}"),
-                                }
-                            }
-                        };
-                        return format!(
-                            "domain {} has cell {c} {}, and should have it {}",
-                            x.handle,
-                            show(x.cells.get(&c)),
-                            show(y.cells.get(&c))
-                        );
-                    }
-                }
-            }
-            "the states differ".into()
         }
-        _ => {
-            let name = |r: &Reading| match r {
-                Reading::WrongLengths => "no store (question 1)".to_string(),
-                Reading::NoStore => "no store (question 2)".to_string(),
-                Reading::Damaged { pending } => format!(
-                    "a damaged table{}",
-                    if *pending { " with pairs pending" } else { "" }
-                ),
-                Reading::Store { pending, .. } => format!("a store with {pending} pairs pending"),
-            };
-            format!(
-                "the buffers are {}, and should be {}",
-                name(is),
-                name(should)
-            )
+    }
+    "the states differ".into()
+}
+
+fn holding(held: Option<&Holding>) -> String {
+    let Some(held) = held else {
+        return "not held".into();
+    };
+    let label = match held.read_write {
+        true => "read-write",
+        false => "read-only",
+    };
+    match held.kept {
+        Kept::ViaParent => format!("{label} via parent"),
+        Kept::Copy(bytes) if bytes.iter().all(|v| *v == bytes[0]) => {
+            format!("{label} as a copy of {}", bytes[0])
         }
+        Kept::Copy(bytes) => format!("{label} as a copy of {bytes:?}"),
     }
 }

@@ -5,9 +5,8 @@
 //! what is held, makes memory equal before an add via parent, and cuts where steps are.
 
 use crate::check::Line;
-use crate::rng::Rng;
-use crate::session::Input;
-use domain_model::{Call, Kept, Lengths, Model, Sizes, State, Verdict, state::cell_of};
+use crate::session::{Input, Made};
+use domain_model::{Call, FULL, Kept, Lengths, Model, Rng, Sizes, State, Verdict, state::cell_of};
 use std::collections::VecDeque;
 
 /// What a session is like. Numbers are out of a thousand.
@@ -172,48 +171,37 @@ impl Generator {
         let verdict = model.verdict(
             line.buffers.lengths(),
             &line.reading,
-            line.buffers.memory.get(),
+            &line.buffers.memory,
             &call,
         );
         let Verdict::Work(work) = verdict else {
             let budget = if self.rng.chance(300) {
                 self.rng.below(20)
             } else {
-                u64::MAX
+                FULL
             };
-            return Input::Call {
-                call,
-                budget,
-                openings: Vec::new(),
-                every_cut: None,
-            };
+            return Input::Call(Made::with_budget(call, budget));
         };
-        let every_cut = self
+        let mut made = Made::with_budget(call, FULL);
+        made.every_cut = self
             .rng
             .chance(self.habits.every_cut)
             .then(|| self.rng.draw());
-        let mut input = (u64::MAX, Vec::new());
         if work.need > 0 && self.rng.chance(self.habits.cut) {
             let bytes = work.byte_steps().min(work.need);
             // Most steps are bytes, and most of what can go wrong lies behind them.
-            let budget = if self.rng.chance(500) || bytes == work.need {
+            made.budget = if self.rng.chance(500) || bytes == work.need {
                 self.rng.below(work.need)
             } else {
                 self.rng.between(bytes, work.need - 1)
             };
-            let openings = (0..self.rng.below(4))
+            made.openings = (0..self.rng.below(4))
                 .map(|_| self.rng.below(work.words + 2))
                 .collect();
-            input = (budget, openings);
         } else if self.rng.chance(100) {
-            input.0 = work.need + self.rng.below(2);
+            made.budget = work.need + self.rng.below(2);
         }
-        Input::Call {
-            call,
-            budget: input.0,
-            openings: input.1,
-            every_cut,
-        }
+        Input::Call(made)
     }
 
     fn letter(&mut self) -> u8 {
@@ -296,7 +284,7 @@ impl Generator {
         match self.rng.below(10) {
             // A part of memory that does not keep to cells.
             0 | 1 => {
-                let all = line.buffers.memory.get().len() as u64;
+                let all = line.buffers.memory.len() as u64;
                 let at = (64 * cell as u64 + self.rng.below(64)).min(all - 1);
                 let len = self.rng.between(1, 150.min(all - at)) as usize;
                 let letter = self.letter();
@@ -310,7 +298,7 @@ impl Generator {
                 self.wants.push_back(Want::Write(at, vec![letter]));
             }
             // The same bytes again: a write of equal bytes is a write.
-            3 => self.write_cell(cell, cell_of(line.buffers.memory.get(), cell).to_vec()),
+            3 => self.write_cell(cell, cell_of(&line.buffers.memory, cell).to_vec()),
             _ => {
                 for _ in 0..self.rng.between(1, 3) {
                     let (cell, letter) = (self.cell(state), self.letter());
@@ -346,13 +334,7 @@ impl Generator {
         let count = self.count(first);
         let label = self.rng.chance(650) as u32;
         let handle = self.handle(state, state.domains.len() - 1);
-        self.call(Call::Add {
-            handle,
-            first,
-            count,
-            kind: 0,
-            label,
-        });
+        self.call(Call::copy(first, count, label).on(handle));
     }
 
     /// Add via parent: cells that the next domain out holds, after memory was made equal.
@@ -361,13 +343,7 @@ impl Generator {
         let Some(outer) = inner.checked_sub(1) else {
             // Refused by 11: there is no domain further out.
             let first = self.cell(state);
-            return self.call(Call::Add {
-                handle: 0,
-                first,
-                count: 1,
-                kind: 1,
-                label: 1,
-            });
+            return self.call(Call::via_parent(first, 1, 1));
         };
         let open: Vec<u32> = state.domains[outer]
             .cells
@@ -392,7 +368,7 @@ impl Generator {
         }
         for c in first..first + count {
             if let Some(value) = state.value(outer, c)
-                && value != cell_of(line.buffers.memory.get(), c)
+                && value != cell_of(&line.buffers.memory, c)
                 && self.rng.chance(900)
             {
                 self.write_cell(c, value.to_vec());
@@ -400,24 +376,12 @@ impl Generator {
         }
         let label = self.rng.chance(600) as u32;
         let handle = self.handle(state, inner);
-        self.call(Call::Add {
-            handle,
-            first,
-            count,
-            kind: 1,
-            label,
-        });
+        self.call(Call::via_parent(first, count, label).on(handle));
         // Deeper chains: the same cells once more, one domain further in.
         while self.rng.chance(400) {
             let label = self.rng.below(2) as u32;
             self.call(Call::Create);
-            self.call(Call::Add {
-                handle: 0,
-                first,
-                count,
-                kind: 1,
-                label,
-            });
+            self.call(Call::via_parent(first, count, label));
         }
     }
 
@@ -435,13 +399,7 @@ impl Generator {
             self.count(first)
         };
         let (kind, label) = (self.rng.below(2) as u32, self.rng.below(2) as u32);
-        self.call(Call::Add {
-            handle: 0,
-            first,
-            count,
-            kind,
-            label,
-        });
+        self.call(Call::add(first, count, kind, label));
     }
 
     fn delete(&mut self, state: &State, line: &Line) {
@@ -477,11 +435,7 @@ impl Generator {
             count += 1;
         }
         let handle = self.handle(state, at);
-        self.call(Call::Delete {
-            handle,
-            first,
-            count,
-        });
+        self.call(Call::delete(handle, first, count));
     }
 
     fn commit(&mut self, state: &State, _: &Line) {
@@ -561,13 +515,7 @@ impl Generator {
         for _ in 0..self.rng.between(1, 3) {
             let (kind, label) = (self.rng.chance(400) as u32, self.rng.chance(750) as u32);
             self.call(Call::Create);
-            self.call(Call::Add {
-                handle: 0,
-                first,
-                count,
-                kind,
-                label,
-            });
+            self.call(Call::add(first, count, kind, label));
             if self.rng.chance(600) {
                 let (cell, letter) = (first + self.rng.below(count as u64) as u32, self.letter());
                 self.write_cell(cell, vec![letter; 64]);
@@ -620,11 +568,7 @@ impl Generator {
                 handle,
                 cell: self.wild_number(),
             },
-            22..=28 => Call::Delete {
-                handle,
-                first: self.wild_number(),
-                count: self.wild_number(),
-            },
+            22..=28 => Call::delete(handle, self.wild_number(), self.wild_number()),
             _ => {
                 let odd = |rng: &mut Rng| {
                     if rng.chance(150) {
@@ -633,13 +577,13 @@ impl Generator {
                         rng.below(2) as u32
                     }
                 };
-                Call::Add {
-                    handle,
-                    first: self.wild_number(),
-                    count: self.wild_number(),
-                    kind: odd(&mut self.rng),
-                    label: odd(&mut self.rng),
-                }
+                Call::add(
+                    self.wild_number(),
+                    self.wild_number(),
+                    odd(&mut self.rng),
+                    odd(&mut self.rng),
+                )
+                .on(handle)
             }
         }
     }
@@ -666,25 +610,20 @@ impl Generator {
                 handle: any(&mut self.rng, state),
                 cell: self.cell(state),
             },
-            9 => Call::Delete {
-                handle: any(&mut self.rng, state),
-                first: self.cell(state),
-                count: 1,
-            },
+            9 => Call::delete(any(&mut self.rng, state), self.cell(state), 1),
             10 => self.wild_call(),
-            _ => Call::Add {
-                handle: 0,
-                first: self.cell(state),
-                count: 1,
-                kind: self.rng.below(2) as u32,
-                label: self.rng.below(2) as u32,
-            },
+            _ => Call::add(
+                self.cell(state),
+                1,
+                self.rng.below(2) as u32,
+                self.rng.below(2) as u32,
+            ),
         }
     }
 
     /// A damaged table: random flips, one field wrong, or pairs pending with good or bad names.
     fn damaged(&mut self, line: &Line) -> Input {
-        let table = line.buffers.table.get();
+        let table = &line.buffers.table;
         let state = line.state().expect("a store").clone();
         let Sizes { m, e, b } = self.habits.sizes;
         let entries_end = 16 + 2 * e as usize;
@@ -725,7 +664,7 @@ impl Generator {
                             Call::Commit { handle: 0 },
                             Call::Create,
                         ]
-                        .map(|c| (c, u64::MAX));
+                        .map(|c| (c, FULL));
                         return Input::Damaged {
                             edits,
                             then: then.to_vec(),
@@ -810,7 +749,7 @@ impl Generator {
             let budget = if self.rng.chance(300) {
                 self.rng.below(40)
             } else {
-                u64::MAX
+                FULL
             };
             then.push((call, budget));
         }

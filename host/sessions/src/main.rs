@@ -1,8 +1,8 @@
 //! Random sessions that compare the linked library with the model.
 
-use domain_model::Fault;
+use domain_model::{Fault, Store};
+use domain_sessions::StandIn;
 use domain_sessions::run::{Plan, Until, long, run};
-use domain_sessions::store::{StandIn, Store};
 use std::process::ExitCode;
 use std::time::Duration;
 
@@ -105,7 +105,7 @@ fn seconds(text: &str, unit: f64) -> Option<Duration> {
 
 #[cfg(feature = "linked")]
 fn linked() -> Box<dyn Store> {
-    Box::new(domain_sessions::store::Linked)
+    Box::new(domain_lend::Linked)
 }
 
 #[cfg(not(feature = "linked"))]

@@ -4,8 +4,7 @@ use crate::check::{Checker, Tally};
 use crate::generate::Generator;
 use crate::session::Session;
 use crate::shrink::{Shrunk, shrink};
-use crate::store::Store;
-use domain_model::{Call, Fault, Model};
+use domain_model::{Call, Fault, Model, Rng, STOPPED, Store};
 use std::fmt::Write;
 use std::time::{Duration, Instant};
 
@@ -64,7 +63,7 @@ pub fn seed_of(seed: u64, at: u64) -> u64 {
     if at == 0 {
         seed
     } else {
-        crate::rng::Rng::new(seed ^ at.wrapping_mul(0xD605_BBB5_8C8A_BBC9)).draw()
+        Rng::new(seed ^ at.wrapping_mul(0xD605_BBB5_8C8A_BBC9)).draw()
     }
 }
 
@@ -174,14 +173,13 @@ pub fn long(tally: &Tally) -> String {
     )
     .unwrap();
     for (name, answers) in Call::NAMES.iter().zip(&tally.answers) {
-        write!(text, "{name:8} done {}", answers[0]).unwrap();
-        if answers[18] > 0 {
-            write!(text, ", stopped {}", answers[18]).unwrap();
+        let times = |number| answers.get(&number).copied().unwrap_or(0);
+        write!(text, "{name:8} done {}", times(0)).unwrap();
+        if times(STOPPED) > 0 {
+            write!(text, ", stopped {}", times(STOPPED)).unwrap();
         }
-        for (number, times) in answers.iter().enumerate().skip(1).take(17) {
-            if *times > 0 {
-                write!(text, ", {number}: {times}").unwrap();
-            }
+        for (number, times) in answers.range(1..STOPPED) {
+            write!(text, ", {number}: {times}").unwrap();
         }
         text.push('\n');
     }

@@ -1,10 +1,31 @@
 //! A session as a plain list of inputs: it can be played again, shrunk and printed.
 
-use crate::buffers::Buffers;
 use crate::check::{Checker, Line, Mismatch};
-use crate::store::STOPPED;
-use domain_model::{Call, Lengths, Notebook, Sizes};
+use domain_model::{Buffers, Call, FULL, Lengths, Notebook, STOPPED, Sizes};
 use std::fmt;
+
+/// A call with what belongs to it. If it is stopped, openings with these budgets follow, and at last
+/// one without. With `every_cut` it is first cut at every step, on copies; the number is the seed of
+/// what follows each cut.
+#[derive(Clone, PartialEq, Eq, Debug)]
+pub struct Made {
+    pub call: Call,
+    pub budget: u64,
+    pub openings: Vec<u64>,
+    pub every_cut: Option<u64>,
+}
+
+impl Made {
+    /// A call with a budget, and nothing else.
+    pub fn with_budget(call: Call, budget: u64) -> Made {
+        Made {
+            call,
+            budget,
+            openings: Vec::new(),
+            every_cut: None,
+        }
+    }
+}
 
 /// One input. All numbers are in it, so that a session without some of its inputs is a session
 /// again.
@@ -12,15 +33,8 @@ use std::fmt;
 pub enum Input {
     /// The program writes bytes to memory.
     Write { at: usize, bytes: Vec<u8> },
-    /// A call. If it is stopped, openings with these budgets follow, and at last one without. With
-    /// `every_cut` it is first cut at every step, on copies; the number is the seed of what follows
-    /// each cut.
-    Call {
-        call: Call,
-        budget: u64,
-        openings: Vec<u64>,
-        every_cut: Option<u64>,
-    },
+    /// A call.
+    Call(Made),
     /// On a copy: table words are set by hand, then come calls with their budgets.
     Damaged {
         edits: Vec<(usize, u32)>,
@@ -59,7 +73,7 @@ impl Input {
     pub fn play(&self, checker: &mut Checker, line: &mut Line) -> Result<(), Mismatch> {
         match self {
             Input::Write { at, bytes } => {
-                let memory = line.buffers.memory.get_mut();
+                let memory = &mut line.buffers.memory;
                 let end = (at + bytes.len()).min(memory.len());
                 if *at < end {
                     memory[*at..end].copy_from_slice(&bytes[..end - at]);
@@ -70,30 +84,26 @@ impl Input {
                 }
                 Ok(())
             }
-            Input::Call {
-                call,
-                budget,
-                openings,
-                every_cut,
-            } => {
-                if let Some(seed) = every_cut {
-                    checker.every_cut(line, call, *seed)?;
+            Input::Call(made) => {
+                let call = &made.call;
+                if let Some(seed) = made.every_cut {
+                    checker.every_cut(line, call, seed)?;
                 }
-                let mut reply = checker.call(line, call, *budget)?;
+                let mut reply = checker.call(line, call, made.budget)?;
                 if *call == Call::Make && reply.code == 0 {
                     // The list starts anew with every done make.
                     line.notebook = Some(Notebook::new(checker.model.fault));
                 }
-                let mut openings = openings.iter().copied().chain([u64::MAX]);
+                let mut openings = made.openings.iter().copied();
                 while reply.code == STOPPED {
-                    reply = checker.call(line, &Call::Open, openings.next().unwrap_or(u64::MAX))?;
+                    reply = checker.call(line, &Call::Open, openings.next().unwrap_or(FULL))?;
                 }
                 Ok(())
             }
             Input::Damaged { edits, then } => {
                 let mut buffers = line.buffers.clone();
                 for (word, value) in edits {
-                    if let Some(place) = buffers.table.get_mut().get_mut(*word) {
+                    if let Some(place) = buffers.table.get_mut(*word) {
                         *place = *value;
                     }
                 }
@@ -109,14 +119,14 @@ impl Input {
             Input::Lengths { lengths, call } => {
                 let mut other = Line::new(line.buffers.resized(*lengths), checker.model);
                 checker.tally.lengths += 1;
-                checker.call(&mut other, call, u64::MAX).map(|_| ())
+                checker.call(&mut other, call, FULL).map(|_| ())
             }
         }
     }
 }
 
 fn budget_text(budget: u64) -> String {
-    if budget == u64::MAX {
+    if budget == FULL {
         String::new()
     } else {
         format!(", budget {budget}")
@@ -138,17 +148,13 @@ impl fmt::Display for Input {
                     write!(f, "{bytes:?}")
                 }
             }
-            Input::Call {
-                call,
-                budget,
-                openings,
-                every_cut,
-            } => {
-                write!(f, "{call}{}", budget_text(*budget))?;
-                if *budget != u64::MAX && !openings.is_empty() {
+            Input::Call(made) => {
+                write!(f, "{}{}", made.call, budget_text(made.budget))?;
+                if made.budget != FULL && !made.openings.is_empty() {
+                    let openings = &made.openings;
                     write!(f, "; if stopped, openings with budgets {openings:?}")?;
                 }
-                if every_cut.is_some() {
+                if made.every_cut.is_some() {
                     write!(f, "; also cut at every step")?;
                 }
                 Ok(())

@@ -1,8 +1,8 @@
 //! Makes a failing session short: drops inputs, takes out cuts and damage, lowers numbers.
 
 use crate::check::{Checker, Mismatch};
-use crate::session::{Input, Session};
-use domain_model::{Call, Sizes};
+use crate::session::{Input, Made, Session};
+use domain_model::{Call, FULL, Sizes};
 use std::time::{Duration, Instant};
 
 /// A failing session made short, with the place of the failure and what differs there.
@@ -174,8 +174,8 @@ impl Shrinker<'_> {
 fn move_cells(input: &mut Input, by: u32) -> Option<()> {
     match input {
         Input::Write { at, .. } => *at = at.checked_sub(64 * by as usize)?,
-        Input::Call { call, .. } => {
-            if let [_, Some(first), ..] = call.numbers_mut() {
+        Input::Call(made) => {
+            if let [_, Some(first), ..] = made.call.numbers_mut() {
                 *first = first.checked_sub(by)?;
             }
         }
@@ -210,6 +210,48 @@ fn simpler_call(call: &Call) -> Vec<Call> {
     list
 }
 
+/// Forms of a call that say less.
+fn simpler_made(made: &Made) -> Vec<Made> {
+    let mut list = Vec::new();
+    if made.every_cut.is_some() {
+        list.push(Made {
+            every_cut: None,
+            ..made.clone()
+        });
+    }
+    if made.budget != FULL {
+        list.push(Made {
+            budget: FULL,
+            openings: Vec::new(),
+            ..made.clone()
+        });
+        let lowered = [0, made.budget / 2, made.budget.saturating_sub(1)];
+        let lowered = lowered.into_iter().filter(|budget| *budget < made.budget);
+        list.extend(lowered.map(|budget| Made {
+            budget,
+            ..made.clone()
+        }));
+    }
+    list.extend(fewer(&made.openings).map(|openings| Made {
+        openings,
+        ..made.clone()
+    }));
+    list.extend(simpler_call(&made.call).into_iter().map(|call| Made {
+        call,
+        ..made.clone()
+    }));
+    list
+}
+
+/// The same list without one of its elements, each in turn.
+fn fewer<T: Clone>(all: &[T]) -> impl Iterator<Item = Vec<T>> {
+    (0..all.len()).map(|drop| {
+        let mut fewer = all.to_vec();
+        fewer.remove(drop);
+        fewer
+    })
+}
+
 /// Forms of an input that say less.
 fn simpler(input: &Input) -> Vec<Input> {
     let mut list = Vec::new();
@@ -234,58 +276,16 @@ fn simpler(input: &Input) -> Vec<Input> {
                 }));
             }
         }
-        Input::Call {
-            call,
-            budget,
-            openings,
-            every_cut,
-        } => {
-            let with =
-                |call: &Call, budget: u64, openings: &[u64], every_cut: Option<u64>| Input::Call {
-                    call: *call,
-                    budget,
-                    openings: openings.to_vec(),
-                    every_cut,
-                };
-            if every_cut.is_some() {
-                list.push(with(call, *budget, openings, None));
-            }
-            if *budget != u64::MAX {
-                list.push(with(call, u64::MAX, &[], *every_cut));
-                for lowered in [0, budget / 2, budget.saturating_sub(1)] {
-                    if lowered < *budget {
-                        list.push(with(call, lowered, openings, *every_cut));
-                    }
-                }
-            }
-            for drop in 0..openings.len() {
-                let mut fewer = openings.clone();
-                fewer.remove(drop);
-                list.push(with(call, *budget, &fewer, *every_cut));
-            }
-            list.extend(
-                simpler_call(call)
-                    .iter()
-                    .map(|c| with(c, *budget, openings, *every_cut)),
-            );
-        }
+        Input::Call(made) => list.extend(simpler_made(made).into_iter().map(Input::Call)),
         Input::Damaged { edits, then } => {
-            for drop in 0..edits.len() {
-                let mut fewer = edits.clone();
-                fewer.remove(drop);
-                list.push(Input::Damaged {
-                    edits: fewer,
-                    then: then.clone(),
-                });
-            }
-            for drop in 0..then.len() {
-                let mut fewer = then.clone();
-                fewer.remove(drop);
-                list.push(Input::Damaged {
-                    edits: edits.clone(),
-                    then: fewer,
-                });
-            }
+            list.extend(fewer(edits).map(|edits| Input::Damaged {
+                edits,
+                then: then.clone(),
+            }));
+            list.extend(fewer(then).map(|then| Input::Damaged {
+                edits: edits.clone(),
+                then,
+            }));
             for (at, (call, budget)) in then.iter().enumerate() {
                 let mut replace = |call: Call, budget: u64| {
                     let mut then = then.clone();
@@ -295,8 +295,8 @@ fn simpler(input: &Input) -> Vec<Input> {
                         then,
                     });
                 };
-                if *budget != u64::MAX {
-                    replace(*call, u64::MAX);
+                if *budget != FULL {
+                    replace(*call, FULL);
                 }
                 for simple in simpler_call(call) {
                     replace(simple, *budget);

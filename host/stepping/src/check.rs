@@ -1,12 +1,14 @@
 //! What is asked of one stepped call: its stores in the plan's order, and after each of them a store that opens.
 
-use crate::buffers::{Arena, Buffer, Image, Shape};
-use crate::calls::{Answer, Run, STOPPED, no_budget};
-use crate::plan::{Plan, plan};
 use crate::scenarios::{Scenario, prepare};
 use crate::state;
 use crate::trace::{Failure, Stored, Trace, Way, at, follow};
-use domain_model::{Call, Ended, Notebook, State};
+use domain_lend::Linked;
+use domain_lend::pages::Arena;
+use domain_model::{
+    Buffer, Buffers, Call, Ended, FULL, Model, Notebook, Reply, STOPPED, Sizes, State, Step, Store,
+    Verdict, plan, table,
+};
 
 /// What was tried, over all calls.
 #[derive(Default)]
@@ -22,32 +24,68 @@ pub struct Tally {
     pub notes: Vec<String>,
 }
 
+/// The stores of a call in their order, as document 01, "Steps and cuts", gives them.
+#[derive(Default)]
+pub struct Plan {
+    pub steps: Vec<Step>,
+    /// How many of them, from the first on, are bytes.
+    pub bytes: usize,
+    /// Words to replace.
+    pub words: usize,
+    /// From this many stores on, the call is found made; for a call without a table part there is no such number.
+    pub made_from: Option<usize>,
+}
+
+impl Plan {
+    /// The model's plan, with the places that the library took in `after`.
+    fn of(call: &Call, before: &Buffers, after: &Buffers, reply: &Reply) -> Result<Plan, String> {
+        let model = Model::default();
+        let decoded = before.decode(None);
+        let reading = table::reading(&decoded);
+        let verdict = model.verdict(before.lengths(), &reading, &before.memory, call);
+        let should = verdict.reply(call, decoded.as_ref().ok(), FULL);
+        if should != Some(*reply) {
+            return Err(format!("the call gives {reply:?}, the model {should:?}"));
+        }
+        let mut plan = Plan::default();
+        if let Verdict::Work(work) = verdict {
+            plan = Plan {
+                steps: plan::seen(model, before, call, &work, after)?,
+                bytes: work.byte_steps() as usize,
+                words: work.words as usize,
+                made_from: work.made_from().map(|steps| steps as usize),
+            }
+        }
+        let mut played = before.clone();
+        plan::play(&plan.steps, &mut played);
+        match after.differs(&played) {
+            None => Ok(plan),
+            Some(at) => Err(format!("after the steps of document 01 {at}")),
+        }
+    }
+}
+
 /// A call with everything that is known of it before it is stepped.
 pub struct Case {
     pub name: String,
     pub call: Call,
-    pub before: Image,
-    pub after: Image,
-    pub answer: Answer,
+    pub before: Buffers,
+    pub after: Buffers,
+    pub reply: Reply,
     pub plan: Plan,
     pub notebook: Notebook,
 }
 
 impl Case {
-    /// A scenario's call, after the calls before it.
-    pub fn new(scenario: &Scenario, shape: Shape) -> Result<Case, String> {
-        let (before, notebook) = prepare(scenario, shape)?;
-        let case = Case::of(
-            scenario.name.into(),
-            scenario.call,
-            before,
-            notebook,
-            Some((scenario.cells, scenario.pairs)),
-        )?;
-        if case.answer.number != scenario.number {
+    /// A scenario's call, after the calls before it. What document 01 counts for it was worked out by hand.
+    pub fn new(scenario: &Scenario, sizes: Sizes) -> Result<Case, String> {
+        let (before, notebook) = prepare(scenario, sizes)?;
+        let case = Case::of(scenario.name.into(), scenario.call, before, notebook)?;
+        let found = (case.reply.code, case.plan.bytes, case.plan.words);
+        let counted = (scenario.number, 64 * scenario.cells, scenario.pairs);
+        if found != counted {
             return Err(format!(
-                "the call gives {}, document 01 {}",
-                case.answer.number, scenario.number
+                "number, bytes and words are {found:?}, counted by hand {counted:?}"
             ));
         }
         Ok(case)
@@ -57,34 +95,27 @@ impl Case {
     pub fn of(
         name: String,
         call: Call,
-        mut before: Image,
+        mut before: Buffers,
         notebook: Notebook,
-        counts: Option<(usize, usize)>,
     ) -> Result<Case, String> {
         state::fill_what_means_nothing(&mut before);
         let mut after = before.clone();
-        let answer = call.on(&mut after, no_budget());
-        let plan = plan(call, &before, &after, answer, counts)?;
+        let reply = Linked.call(&mut after, &call, FULL);
+        let plan = Plan::of(&call, &before, &after, &reply)?;
         let mut played = before.clone();
-        let length = plan.stores.len();
+        let length = plan.steps.len();
         for budget in 0..=length {
             let mut stopped = before.clone();
-            let cut = call.on(&mut stopped, budget as u64);
-            let number = if budget < length {
-                STOPPED
-            } else {
-                answer.number
-            };
-            if (cut.number, cut.steps) != (number, budget as u64) {
+            let cut = Linked.call(&mut stopped, &call, budget as u64);
+            let number = if budget < length { STOPPED } else { reply.code };
+            if (cut.code, cut.steps) != (number, budget as u64) {
                 return Err(format!("with budget {budget} the call gives {cut:?}"));
             }
-            if stopped != played {
-                return Err(format!(
-                    "with budget {budget} the call leaves other buffers than the first {budget} steps"
-                ));
+            if let Some(at) = stopped.differs(&played) {
+                return Err(format!("with budget {budget}, after as many steps, {at}"));
             }
-            if budget < length {
-                plan.play(&mut played, budget..budget + 1);
+            if let Some(step) = plan.steps.get(budget) {
+                step.apply(&mut played);
             }
         }
         Ok(Case {
@@ -92,7 +123,7 @@ impl Case {
             call,
             before,
             after,
-            answer,
+            reply,
             plan,
             notebook,
         })
@@ -101,33 +132,38 @@ impl Case {
     /// Follows the call in a child.
     pub fn follow(&self, arena: &Arena, way: Way) -> Result<Trace, Failure> {
         arena.load(&self.before);
-        let call = self.call;
-        let budget = no_budget();
-        follow(arena, way, &|raw| unsafe { call.run(raw, budget) })
+        // SAFETY: the arena's buffers are the child's own while it runs.
+        follow(arena, way, &|lent, outs| unsafe {
+            domain_lend::run(lent, &self.call, FULL, outs)
+        })
     }
 
-    /// Asks everything of a trace whose stores were all seen.
+    /// Asks everything of a trace of the call whose stores were all seen.
     pub fn judge(&self, trace: &Trace, tally: &mut Tally) -> Result<(), String> {
-        if trace.answer != self.answer {
+        let reply = trace.told.reply(&self.call);
+        if reply != self.reply {
             return Err(format!(
-                "the stepped call gives {:?}, the call at full speed {:?}",
-                trace.answer, self.answer
+                "the stepped call gives {reply:?}, the call at full speed {:?}",
+                self.reply
             ));
         }
+        self.judge_stores(trace, tally)
+    }
+
+    /// Asks everything of the stores that were seen.
+    pub fn judge_stores(&self, trace: &Trace, tally: &mut Tally) -> Result<(), String> {
         let mut walk = Walk::new(self);
         for stored in &trace.stores {
             let made = walk.next(stored, tally)?;
-            self.reopen(&stored.image, made, tally).map_err(|wrong| {
+            self.reopen(&stored.left, made, tally).map_err(|wrong| {
                 format!("after {made} steps, by {}: {wrong}", at(stored.instruction))
             })?;
         }
-        if walk.made != self.plan.stores.len() {
-            let store = self.plan.stores[walk.made];
+        if let Some(step) = self.plan.steps.get(walk.made) {
             return Err(format!(
-                "the store {:?} (step {} of {}) is missing",
-                store,
+                "the store {step:?} (step {} of {}) is missing",
                 walk.made + 1,
-                self.plan.stores.len()
+                self.plan.steps.len()
             ));
         }
         tally.calls += 1;
@@ -137,25 +173,25 @@ impl Case {
     }
 
     /// Opens a copy of the buffers as the cut left them, and restores every live domain on further copies.
-    pub fn reopen(&self, cut: &Image, made: usize, tally: &mut Tally) -> Result<(), String> {
+    pub fn reopen(&self, cut: &Buffers, made: usize, tally: &mut Tally) -> Result<(), String> {
         tally.cuts += 1;
-        let length = self.plan.stores.len();
+        let length = self.plan.steps.len();
         let mut opened = cut.clone();
-        let answer = Call::Open.on(&mut opened, no_budget());
+        let reply = Linked.call(&mut opened, &Call::Open, FULL);
         if self.call == Call::Make && made < length {
-            if answer.number != 2 || opened != *cut {
-                return Err(format!("a cut make opens as {}", answer.number));
+            if reply.code != 2 || opened != *cut {
+                return Err(format!("a cut make opens as {}", reply.code));
             }
             return Ok(());
         }
         let found_made = self.plan.made_from.is_some_and(|from| made >= from);
         let steps = if found_made && made < length && self.call != Call::Make {
-            self.plan.opening
+            self.plan.words as u64 + 1
         } else {
             0
         };
-        if (answer.number, answer.steps) != (0, steps) {
-            return Err(format!("opening gives {answer:?}, not {steps} steps"));
+        if (reply.code, reply.steps) != (0, steps) {
+            return Err(format!("opening gives {reply:?}, not {steps} steps"));
         }
         let found = state::state(&opened)?;
         let wanted = if found_made {
@@ -178,20 +214,20 @@ impl Case {
             let memory = &opened.memory;
             note(&mut notebook, Call::Open, Ended::Done, steps, memory)?;
         } else {
-            let (steps, memory) = (self.answer.steps, &opened.memory);
+            let (steps, memory) = (self.reply.steps, &opened.memory);
             note(&mut notebook, self.call, Ended::Done, steps, memory)?;
         }
         check_restores(&opened, &found, &notebook).map(|restores| tally.restores += restores)
     }
 
-    fn check_memory(&self, opened: &Image, made: usize, found_made: bool) -> Result<(), String> {
+    fn check_memory(&self, opened: &Buffers, made: usize, found_made: bool) -> Result<(), String> {
         let put_back = match self.call {
             Call::Restore { handle } => state::put_back(&state::state(&self.before)?, handle),
             _ => Default::default(),
         };
         let whole = found_made || made >= self.plan.bytes;
         for (index, &byte) in opened.memory.iter().enumerate() {
-            let right = if !put_back.contains_key(&(index / 64)) {
+            let right = if !put_back.contains_key(&(index as u32 / 64)) {
                 byte == self.before.memory[index]
             } else if whole {
                 byte == self.after.memory[index]
@@ -207,11 +243,11 @@ impl Case {
 }
 
 /// The state that buffers stand for, pending pairs included.
-fn meant(image: &Image) -> Result<State, String> {
-    let mut opened = image.clone();
-    let answer = Call::Open.on(&mut opened, no_budget());
-    if answer.number != 0 {
-        return Err(format!("the uncut buffers open as {}", answer.number));
+fn meant(buffers: &Buffers) -> Result<State, String> {
+    let mut opened = buffers.clone();
+    let reply = Linked.call(&mut opened, &Call::Open, FULL);
+    if reply.code != 0 {
+        return Err(format!("the uncut buffers open as {}", reply.code));
     }
     state::state(&opened)
 }
@@ -227,7 +263,7 @@ pub fn note(
     // A call that was stopped had its steps as its budget.
     match notebook.call(&call, steps, ended, steps, memory)? {
         Some(count) if count.differ != 0 => Err(format!(
-            "the restore that {call:?} completes has {} wrong bytes",
+            "the restore that {call} completes has {} wrong bytes",
             count.differ
         )),
         _ => Ok(()),
@@ -235,7 +271,7 @@ pub fn note(
 }
 
 /// Restores each live domain on a copy: the bytes are those of the state found, and the notebook counts none that is wrong.
-pub fn check_restores(opened: &Image, found: &State, notebook: &Notebook) -> Result<u64, String> {
+pub fn check_restores(opened: &Buffers, found: &State, notebook: &Notebook) -> Result<u64, String> {
     let handles: Vec<u32> = found.domains.iter().map(|domain| domain.handle).collect();
     if handles != notebook.handles() {
         return Err(format!(
@@ -245,18 +281,18 @@ pub fn check_restores(opened: &Image, found: &State, notebook: &Notebook) -> Res
     }
     for (index, &handle) in handles.iter().enumerate() {
         let mut restored = opened.clone();
-        let answer = Call::Restore { handle }.on(&mut restored, no_budget());
-        if answer.number != 0 {
+        let reply = Linked.call(&mut restored, &Call::Restore { handle }, FULL);
+        if reply.code != 0 {
             return Err(format!(
                 "restore of {handle} on the opened copy gives {}",
-                answer.number
+                reply.code
             ));
         }
-        let mut memory = opened.memory.clone();
+        let mut wanted = opened.clone();
         for (cell, value) in state::put_back(found, handle) {
-            memory[64 * cell..64 * cell + 64].copy_from_slice(&value);
+            wanted.write_cell(cell, &value);
         }
-        if restored.memory != memory {
+        if restored.memory != wanted.memory {
             return Err(format!(
                 "restore of {handle} on the opened copy leaves other bytes than those held"
             ));
@@ -282,7 +318,7 @@ pub fn check_restores(opened: &Image, found: &State, notebook: &Notebook) -> Res
 /// The way along the plan.
 struct Walk<'a> {
     case: &'a Case,
-    last: Image,
+    last: Buffers,
     /// Steps made; while bytes are stored, the number of bytes stored.
     made: usize,
     bytes: Vec<bool>,
@@ -305,7 +341,7 @@ impl<'a> Walk<'a> {
             Some((buffer, byte)) => self.bytes(stored, buffer, byte, tally),
             None => Err("the place of the store is not known".into()),
         };
-        self.last.clone_from(&stored.image);
+        self.last.copy_from(&stored.left);
         result.map_err(|wrong| format!("{}: {wrong}", at(stored.instruction)))?;
         Ok(self.made)
     }
@@ -313,7 +349,7 @@ impl<'a> Walk<'a> {
     /// A table word: exactly the next one of the plan, whole, and nothing else.
     fn word(&mut self, stored: &Stored, byte: usize) -> Result<(), String> {
         let plan = &self.case.plan;
-        let Some(next) = plan.stores.get(self.made) else {
+        let Some(next) = plan.steps.get(self.made) else {
             return Err(format!("stores into word {} after the last step", byte / 4));
         };
         if next.buffer != Buffer::Table {
@@ -324,7 +360,7 @@ impl<'a> Walk<'a> {
                 plan.bytes
             ));
         }
-        if byte != 4 * next.index {
+        if byte != 4 * next.at {
             return Err(format!(
                 "stores at byte {byte} of the table, word {}; step {} is {next:?}",
                 byte / 4,
@@ -332,12 +368,12 @@ impl<'a> Walk<'a> {
             ));
         }
         let mut wanted = self.last.clone();
-        wanted.table[next.index] = next.value;
-        if stored.image != wanted {
+        next.apply(&mut wanted);
+        if stored.left != wanted {
             return Err(format!(
                 "step {} is {next:?}, the instruction changed {}",
                 self.made + 1,
-                changes(&self.last, &stored.image)
+                changes(&self.last, &stored.left)
             ));
         }
         self.made += 1;
@@ -358,30 +394,28 @@ impl<'a> Walk<'a> {
                 "stores at byte {start} of {buffer:?}, where no byte is planned"
             ));
         }
-        if self.last.table != stored.image.table {
+        if self.last.table != stored.left.table {
             return Err(format!(
                 "a store into {buffer:?} changed {}",
-                changes(&self.last, &stored.image)
+                changes(&self.last, &stored.left)
             ));
         }
         let mut first = None;
         let mut width = 0;
-        for (step, store) in plan.stores[..plan.bytes].iter().enumerate() {
-            let (old, new) = match store.buffer {
-                Buffer::Memory => (
-                    self.last.memory[store.index],
-                    stored.image.memory[store.index],
-                ),
-                _ => (
-                    self.last.bodies[store.index],
-                    stored.image.bodies[store.index],
-                ),
+        // What the planned bytes were before, to see that nothing else differs.
+        let mut masked = stored.left.clone();
+        for (step, store) in plan.steps[..plan.bytes].iter().enumerate() {
+            let (old, new) = (byte_at(&self.last, store), byte_at(&stored.left, store));
+            let old = Step {
+                value: old,
+                ..*store
             };
-            if old != new {
-                if self.bytes[step] || new as u32 != store.value {
+            old.apply(&mut masked);
+            if old.value != new {
+                if self.bytes[step] || new != store.value {
                     return Err(format!(
                         "byte {} of {:?} became {new}, step {} is {store:?}",
-                        store.index,
+                        store.at,
                         store.buffer,
                         step + 1
                     ));
@@ -392,14 +426,6 @@ impl<'a> Walk<'a> {
                 width += 1;
             }
         }
-        // Nothing but planned bytes may differ.
-        let mut masked = stored.image.clone();
-        for store in &plan.stores[..plan.bytes] {
-            match store.buffer {
-                Buffer::Memory => masked.memory[store.index] = self.last.memory[store.index],
-                _ => masked.bodies[store.index] = self.last.bodies[store.index],
-            }
-        }
         if masked != self.last {
             return Err(format!(
                 "a store of bytes also changed {}",
@@ -408,8 +434,8 @@ impl<'a> Walk<'a> {
         }
         match first {
             Some(first) => {
-                let store = plan.stores[first];
-                if (store.buffer, store.index) != (buffer, start) {
+                let store = plan.steps[first];
+                if (store.buffer, store.at) != (buffer, start) {
                     return Err(format!(
                         "a store at byte {start} of {buffer:?} changed {store:?} first"
                     ));
@@ -427,9 +453,9 @@ impl<'a> Walk<'a> {
                 Ok(())
             }
             // A copier may store the end of a stretch twice. The cases are filled so that the first store of a byte changes it.
-            None => match plan.stores[..plan.bytes]
+            None => match plan.steps[..plan.bytes]
                 .iter()
-                .position(|store| (store.buffer, store.index) == (buffer, start))
+                .position(|store| (store.buffer, store.at) == (buffer, start))
             {
                 Some(step) if self.bytes[step] => Ok(()),
                 _ => Err(format!(
@@ -440,41 +466,45 @@ impl<'a> Walk<'a> {
     }
 }
 
-fn changes(old: &Image, new: &Image) -> String {
-    let mut list = Vec::new();
-    for (index, (old, new)) in old.table.iter().zip(&new.table).enumerate() {
-        if old != new {
-            list.push(format!("word {index} ({old:#x} to {new:#x})"));
-        }
+/// The byte that a step is about.
+fn byte_at(buffers: &Buffers, step: &Step) -> u32 {
+    match step.buffer {
+        Buffer::Memory => buffers.memory[step.at].into(),
+        Buffer::Bodies => buffers.bodies[step.at].into(),
+        Buffer::Table => buffers.table[step.at],
     }
-    for (name, old, new) in [
-        ("memory", &old.memory, &new.memory),
-        ("body", &old.bodies, &new.bodies),
-    ] {
-        for (index, (old, new)) in old.iter().zip(new).enumerate() {
-            if old != new {
-                list.push(format!("{name} byte {index}"));
-            }
-        }
+}
+
+fn changes(old: &Buffers, new: &Buffers) -> String {
+    fn part<T: Eq>(name: &str, old: &[T], new: &[T]) -> Vec<String> {
+        let both = old.iter().zip(new).enumerate();
+        both.filter(|(_, (old, new))| old != new)
+            .map(|(index, _)| format!("{name} {index}"))
+            .collect()
     }
-    if list.is_empty() {
-        "nothing".into()
-    } else {
-        list.join(", ")
+    let list = [
+        part("word", &old.table, &new.table),
+        part("memory byte", &old.memory, &new.memory),
+        part("body byte", &old.bodies, &new.bodies),
+    ]
+    .concat();
+    match list.is_empty() {
+        true => "nothing".into(),
+        false => list.join(", "),
     }
 }
 
 /// Whether stepping every instruction showed the same buffers, one after another, as the guarded pages did.
-pub fn same_stores(before: &Image, guarded: &Trace, stepped: &Trace) -> Result<(), String> {
+pub fn same_stores(before: &Buffers, guarded: &Trace, stepped: &Trace) -> Result<(), String> {
     let mut last = before;
     let mut seen = stepped.stores.iter();
     for stored in &guarded.stores {
-        if stored.image == *last {
+        if stored.left == *last {
             continue;
         }
         match seen.next() {
-            Some(other)
-                if other.image == stored.image && other.instruction == stored.instruction => {}
+            Some(other) if other.left == stored.left && other.instruction == stored.instruction => {
+            }
             Some(other) => {
                 return Err(format!(
                     "{} and {} leave different buffers",
@@ -489,7 +519,7 @@ pub fn same_stores(before: &Image, guarded: &Trace, stepped: &Trace) -> Result<(
                 ));
             }
         }
-        last = &stored.image;
+        last = &stored.left;
     }
     match seen.next() {
         Some(other) => Err(format!(

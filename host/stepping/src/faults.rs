@@ -2,10 +2,10 @@
 //!
 //! A right plan is played by hand-written stores instead of the library, with one thing changed that a compiler could do to it.
 
-use crate::buffers::{Arena, Buffer};
-use crate::check::{Case, Tally};
-use crate::plan::{Plan, Store};
+use crate::check::{Case, Plan, Tally};
 use crate::trace::{Failure, Way, follow};
+use domain_lend::pages::Arena;
+use domain_model::{Buffer, Step};
 
 /// One store instruction.
 #[derive(Clone, Copy)]
@@ -16,19 +16,13 @@ struct Piece {
 }
 
 impl Piece {
-    fn of(arena: &Arena, store: Store) -> Piece {
-        let start = arena.stretches[store.buffer as usize].start;
-        match store.buffer {
-            Buffer::Table => Piece {
-                address: start + 4 * store.index,
-                width: 4,
-                value: store.value as u64,
-            },
-            _ => Piece {
-                address: start + store.index,
-                width: 1,
-                value: store.value as u64,
-            },
+    fn of(arena: &Arena, step: Step) -> Piece {
+        let start = arena.stretches[step.buffer as usize].start;
+        let width = if step.buffer == Buffer::Table { 4 } else { 1 };
+        Piece {
+            address: start + usize::from(width) * step.at,
+            width,
+            value: step.value.into(),
         }
     }
 
@@ -51,13 +45,13 @@ struct Unaligned(u64);
 
 /// The plan's stores, the bytes eight at a time as a compiler may make them, and the number of these wide stores.
 fn right_way(arena: &Arena, plan: &Plan) -> (Vec<Piece>, usize) {
-    let mut pieces: Vec<Piece> = plan.stores[..plan.bytes]
+    let mut pieces: Vec<Piece> = plan.steps[..plan.bytes]
         .chunks_exact(8)
         .map(|eight| {
             let value = eight
                 .iter()
                 .rev()
-                .fold(0, |value, store| value << 8 | store.value as u64);
+                .fold(0, |value, step| value << 8 | u64::from(step.value));
             Piece {
                 width: 8,
                 value,
@@ -67,9 +61,9 @@ fn right_way(arena: &Arena, plan: &Plan) -> (Vec<Piece>, usize) {
         .collect();
     let bytes = pieces.len();
     pieces.extend(
-        plan.stores[plan.bytes..]
+        plan.steps[plan.bytes..]
             .iter()
-            .map(|&store| Piece::of(arena, store)),
+            .map(|&step| Piece::of(arena, step)),
     );
     (pieces, bytes)
 }
@@ -152,14 +146,13 @@ fn wrong_ways(arena: &Arena, plan: &Plan) -> Vec<(String, Vec<Piece>)> {
 
 fn play(case: &Case, arena: &Arena, pieces: &[Piece]) -> Result<Result<(), String>, Failure> {
     arena.load(&case.before);
-    let answer = case.answer;
-    let trace = follow(arena, Way::Guarded, &|_| {
+    let trace = follow(arena, Way::Guarded, &|_, _| {
         for &piece in pieces {
             piece.play();
         }
-        answer
+        0
     })?;
-    Ok(case.judge(&trace, &mut Tally::default()))
+    Ok(case.judge_stores(&trace, &mut Tally::default()))
 }
 
 /// Plays the case's own plan, which has to be accepted, and every wrong way, which has to be found. Gives the number found.

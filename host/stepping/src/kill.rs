@@ -3,27 +3,27 @@
 //! A child writes down in shared pages what it is about to do, does it, and writes down what came of it. After its end this process
 //! feeds the notebook from that log, opens the store, and asks that the call in which the end fell is wholly made or not made.
 
-use crate::buffers::{Arena, Image, Raw, Shape};
-use crate::calls::{Answer, Run, no_budget};
 use crate::check::{check_restores, note};
-use crate::random::Random;
 use crate::state;
-use crate::sys::{self, Shared, Status};
-use domain_model::{Call, Ended, Notebook};
+use crate::sys::{self, Status};
+use domain_lend::pages::{Arena, Pages, READ_WRITE, Side};
+use domain_lend::{Lent, Linked, call};
+use domain_model::calls::{READ_ONLY, READ_WRITE as RW, VIA_PARENT};
+use domain_model::{Add, Buffers, Call, Ended, FULL, Lengths, Notebook, Reply, Rng, Sizes, Store};
 use std::sync::atomic::{AtomicU64, Ordering};
 use std::time::{Duration, Instant};
 
 /// Short calls, many to a child.
-pub const SMALL: Shape = Shape {
-    cells: 48,
-    entries: 96,
-    bodies: 96,
+pub const SMALL: Sizes = Sizes {
+    m: 48,
+    e: 96,
+    b: 96,
 };
 /// Calls of which the stores take some time, so that more ends fall between two of them.
-pub const LARGE: Shape = Shape {
-    cells: 1024,
-    entries: 2048,
-    bodies: 2048,
+pub const LARGE: Sizes = Sizes {
+    m: 1024,
+    e: 2048,
+    b: 2048,
 };
 
 /// Lines of the log; a child that has filled it waits for its end.
@@ -37,7 +37,7 @@ enum Act {
     Write {
         first: u32,
         count: u32,
-        byte: u32,
+        byte: u8,
     },
 }
 
@@ -60,30 +60,27 @@ enum Work {
 #[derive(Clone, Copy)]
 struct Line {
     act: Act,
-    answer: Answer,
+    reply: Reply,
 }
 
-/// The log in shared pages: the head, the lines, the buffers as they stood before the act of an even and of an odd number, and memory
-/// after each act.
+/// The log in shared pages: the head, the lines, memory after each act, and the buffers as they stood before the act of an even and of
+/// an odd number.
 struct Log {
-    pages: Shared,
-    shape: Shape,
+    pages: Pages,
+    lengths: Lengths,
+    stands: [Arena; 2],
 }
 
 impl Log {
     const LINES_AT: usize = 64;
-    const STANDS_AT: usize = Self::LINES_AT + LINES * size_of::<Line>().next_multiple_of(16);
+    const MEMORY_AT: usize = Self::LINES_AT + LINES * size_of::<Line>().next_multiple_of(16);
 
-    fn new(shape: Shape) -> Self {
-        let length = Self::STANDS_AT + 2 * Self::stand_len(shape) + LINES * shape.memory_len();
+    fn new(lengths: Lengths) -> Self {
         Log {
-            pages: Shared::new(length),
-            shape,
+            pages: Pages::new(Self::MEMORY_AT + LINES * lengths.memory, READ_WRITE),
+            lengths,
+            stands: [0, 1].map(|_| Arena::new(lengths, Side::After)),
         }
-    }
-
-    fn stand_len(shape: Shape) -> usize {
-        (shape.memory_len() + shape.bodies_len() + 4 * shape.table_len()).next_multiple_of(64)
     }
 
     fn head(&self) -> &Head {
@@ -91,49 +88,18 @@ impl Log {
     }
 
     fn line(&self, number: usize) -> *mut Line {
-        unsafe {
-            self.pages
-                .start()
-                .add(Self::LINES_AT + number * size_of::<Line>().next_multiple_of(16))
-                .cast()
-        }
+        let at = Self::LINES_AT + number * size_of::<Line>().next_multiple_of(16);
+        unsafe { self.pages.start().add(at).cast() }
     }
 
-    /// The buffers before an act, in the log's pages.
-    fn stand(&self, number: usize) -> Raw {
-        let at = Self::STANDS_AT + number % 2 * Self::stand_len(self.shape);
-        let (memory_len, bodies_len) = (self.shape.memory_len(), self.shape.bodies_len());
-        unsafe {
-            let memory = self.pages.start().add(at);
-            let bodies = memory.add(memory_len);
-            let table = bodies.add(bodies_len).cast();
-            Raw {
-                memory,
-                memory_len,
-                bodies,
-                bodies_len,
-                table,
-                table_len: self.shape.table_len(),
-            }
-        }
+    /// The buffers before an act.
+    fn stand(&self, number: usize) -> &Arena {
+        &self.stands[number % 2]
     }
 
     fn memory_after(&self, number: usize) -> *mut u8 {
-        let at =
-            Self::STANDS_AT + 2 * Self::stand_len(self.shape) + number * self.shape.memory_len();
+        let at = Self::MEMORY_AT + number * self.lengths.memory;
         unsafe { self.pages.start().add(at) }
-    }
-}
-
-/// Copies the buffers, whose lengths are the same.
-///
-/// # Safety
-/// The pointers reach as far as their lengths say.
-unsafe fn copy(from: Raw, to: Raw) {
-    unsafe {
-        core::ptr::copy_nonoverlapping(from.memory, to.memory, from.memory_len);
-        core::ptr::copy_nonoverlapping(from.bodies, to.bodies, from.bodies_len);
-        core::ptr::copy_nonoverlapping(from.table, to.table, from.table_len);
     }
 }
 
@@ -157,99 +123,76 @@ pub struct Ends {
     pub restores: u64,
 }
 
-fn choose(random: &mut Random, shape: Shape, handles: &[u32]) -> Act {
-    let cells = shape.cells as u64;
-    let any = match random.below(handles.len().max(1) as u64) as usize {
-        index if index < handles.len() => handles[index],
-        _ => 0,
+fn choose(random: &mut Rng, cells: u32, handles: &[u32]) -> Act {
+    let any = match handles.is_empty() {
+        true => 0,
+        false => *random.pick(handles),
     };
-    let first = random.below(cells) as u32;
-    let count = 1 + random.below((cells / 2).min(cells - first as u64)) as u32;
-    match random.below(400) {
-        0..=5 => Act::Call(Call::Make),
-        6..=49 => Act::Call(Call::Create),
-        50..=129 => Act::Call(Call::Add {
-            handle: 0,
-            first,
-            count,
-            kind: 0,
-            label: (random.below(4) > 0) as u32,
-        }),
-        130..=159 => Act::Call(Call::Add {
-            handle: 0,
-            first,
-            count: 1 + count / 4,
-            kind: 1,
-            label: (random.below(2) > 0) as u32,
-        }),
-        160..=174 => Act::Call(Call::Delete {
-            handle: any,
-            first,
-            count: 1 + count / 8,
-        }),
-        175..=199 => Act::Call(Call::Commit { handle: 0 }),
-        200..=249 => Act::Call(Call::Advance { handle: 0 }),
-        250..=299 => Act::Call(Call::Restore { handle: any }),
-        300..=309 => Act::Call(Call::Open),
-        _ => Act::Write {
-            first,
-            count: 1 + count / 4,
-            byte: random.below(256) as u32,
-        },
-    }
+    let first = random.below(cells.into()) as u32;
+    let count = random.between(1, (cells / 2).min(cells - first).into()) as u32;
+    Act::Call(match random.below(400) {
+        0..=5 => Call::Make,
+        6..=49 => Call::Create,
+        50..=129 => Call::copy(first, count, *random.pick(&[READ_ONLY, RW, RW, RW])),
+        130..=159 => Call::via_parent(first, 1 + count / 4, *random.pick(&[READ_ONLY, RW])),
+        160..=174 => Call::delete(any, first, 1 + count / 8),
+        175..=199 => Call::Commit { handle: 0 },
+        200..=249 => Call::Advance { handle: 0 },
+        250..=299 => Call::Restore { handle: any },
+        300..=309 => Call::Open,
+        _ => {
+            return Act::Write {
+                first,
+                count: 1 + count / 4,
+                byte: random.below(256) as u8,
+            };
+        }
+    })
 }
 
 /// The child's work. Allocates nothing; ends only by SIGKILL.
 fn work(arena: &Arena, log: &Log, work: Work) -> ! {
-    let raw = arena.raw();
-    let budget = no_budget();
-    let mut random = Random::new(0);
+    let lent = arena.lent();
+    let cells = (lent.memory_len / 64) as u32;
+    let mut random = Rng::new(0);
     let mut lines = 1;
     let mut timer = None;
     match work {
         Work::Session { seed } => {
-            random = Random::new(seed);
+            random = Rng::new(seed);
             lines = LINES;
         }
-        Work::One { call, .. } => {
+        Work::One { call: one, .. } => {
             timer = sys::EndTimer::new();
-            unsafe { call.run(raw, no_steps()) };
+            unsafe { call(lent, &one, 0) };
         }
     }
     for number in 0..lines {
         let act = match work {
-            Work::Session { .. } => choose(&mut random, arena.shape, live_handles(raw)),
+            Work::Session { .. } => choose(&mut random, cells, live_handles(lent)),
             Work::One { call, .. } => Act::Call(call),
         };
         let line = log.line(number);
-        unsafe {
-            copy(raw, log.stand(number));
-            (&raw mut (*line).act).write_volatile(act);
-        }
+        log.stand(number).load_from(arena);
+        unsafe { (&raw mut (*line).act).write_volatile(act) };
         log.head().begun.store(number as u64 + 1, Ordering::SeqCst);
         if let (Some(timer), Work::One { nanoseconds, .. }) = (&timer, work) {
             timer.start(nanoseconds);
         }
-        let answer = match act {
-            Act::Call(call) => unsafe { call.run(raw, budget) },
+        let reply = match act {
+            Act::Call(one) => unsafe { call(lent, &one, FULL) },
             Act::Write { first, count, byte } => {
-                unsafe {
-                    core::ptr::write_bytes(
-                        raw.memory.add(64 * first as usize),
-                        byte as u8,
-                        64 * count as usize,
-                    )
-                };
-                Answer::default()
+                let at = 64 * first as usize;
+                unsafe { core::ptr::write_bytes(lent.memory.add(at), byte, 64 * count as usize) };
+                Reply::default()
             }
         };
-        unsafe { (&raw mut (*line).answer).write_volatile(answer) };
+        unsafe { (&raw mut (*line).reply).write_volatile(reply) };
         log.head()
             .returned
             .store(number as u64 + 1, Ordering::SeqCst);
-        unsafe {
-            core::ptr::copy_nonoverlapping(raw.memory, log.memory_after(number), raw.memory_len)
-        };
+        let (memory, to) = (lent.memory, log.memory_after(number));
+        unsafe { core::ptr::copy_nonoverlapping(memory, to, lent.memory_len) };
         log.head().ended.store(number as u64 + 1, Ordering::SeqCst);
     }
     loop {
@@ -258,16 +201,13 @@ fn work(arena: &Arena, log: &Log, work: Work) -> ! {
 }
 
 /// The handles of the live domains, read from the table.
-fn live_handles(raw: Raw) -> &'static [u32] {
+fn live_handles(lent: Lent) -> &'static [u32] {
     // The arena's pages stay as long as the child lives.
-    let table = unsafe { core::slice::from_raw_parts(raw.table, raw.table_len) };
-    &table[8..8 + (table[4] as usize).min(8)]
+    handles_in(unsafe { core::slice::from_raw_parts(lent.table, lent.table_len) })
 }
 
-/// The budget 0 as a number of the run.
-fn no_steps() -> u64 {
-    let none = 0;
-    unsafe { core::ptr::read_volatile(&none) }
+fn handles_in(table: &[u32]) -> &[u32] {
+    &table[8..8 + (table[4] as usize).min(8)]
 }
 
 /// Feeds the notebook one act that ended.
@@ -277,16 +217,16 @@ fn feed(notebook: &mut Notebook, line: Line, memory: &[u8]) -> Result<(), String
             notebook.write(64 * first as usize, 64 * count as usize);
             Ok(())
         }
-        Act::Call(Call::Open) if line.answer != Answer::default() => {
-            Err(format!("an opening between calls gives {:?}", line.answer))
+        Act::Call(Call::Open) if line.reply != Reply::default() => {
+            Err(format!("an opening between calls gives {:?}", line.reply))
         }
         Act::Call(call) => {
-            let ended = if line.answer.number == 0 {
+            let ended = if line.reply.code == 0 {
                 Ended::Done
             } else {
                 Ended::Refused
             };
-            note(notebook, call, ended, line.answer.steps, memory)
+            note(notebook, call, ended, line.reply.steps, memory)
         }
     }
 }
@@ -311,7 +251,7 @@ enum Miss {
 struct Trial {
     arena: Arena,
     log: Log,
-    random: Random,
+    random: Rng,
     notebook: Notebook,
     /// Nanoseconds by which a timer's moment is moved.
     shift: f64,
@@ -320,21 +260,21 @@ struct Trial {
 }
 
 /// Ends `kills` children, one after another over the same store.
-pub fn run(shape: Shape, aim: Aim, kills: u64, seed: u64, ends: &mut Ends) -> Result<(), String> {
-    let mut image = Image::filled(shape, 0, 0);
-    Call::Make.on(&mut image, no_budget());
+pub fn run(sizes: Sizes, aim: Aim, kills: u64, seed: u64, ends: &mut Ends) -> Result<(), String> {
+    let mut buffers = Buffers::filled(sizes.lengths(), 0, 0);
+    Linked.call(&mut buffers, &Call::Make, FULL);
     let mut trial = Trial {
-        arena: Arena::new(shape),
-        log: Log::new(shape),
-        random: Random::new(seed),
+        arena: Arena::new(sizes.lengths(), Side::After),
+        log: Log::new(sizes.lengths()),
+        random: Rng::new(seed),
         notebook: Notebook::new(None),
         shift: 0.0,
         missed: None,
     };
-    trial.arena.load(&image);
+    trial.arena.load(&buffers);
     for number in 0..kills {
         let told =
-            |wrong: String| format!("child {number} of seed {seed}, {shape:?}, {aim:?}: {wrong}");
+            |wrong: String| format!("child {number} of seed {seed}, {sizes:?}, {aim:?}: {wrong}");
         match aim {
             Aim::Anywhere => trial.anywhere(ends),
             Aim::AtStores => trial.at_stores(ends),
@@ -353,71 +293,24 @@ impl Trial {
 
     /// Looks for a call with many stores, measures it on copies up to its first store and to its end, and ends the child in between.
     fn at_stores(&mut self, ends: &mut Ends) -> Result<(), String> {
-        // Half of them a call that stores no bytes: the table words of the others take but a small part of their time.
-        let words_only = self.random.below(2) == 0;
-        let call = loop {
-            let image = self.arena.image();
-            let live = image.table[4] as usize;
-            let act = choose(
-                &mut self.random,
-                self.arena.shape,
-                &image.table[8..8 + live],
-            );
-            let mut tried = image.clone();
-            match act {
-                Act::Call(call) => {
-                    let answer = call.on(&mut tried, no_budget());
-                    let no_bytes = matches!(
-                        call,
-                        Call::Make
-                            | Call::Commit { .. }
-                            | Call::Delete { .. }
-                            | Call::Add { kind: 1, .. }
-                    );
-                    if answer.number == 0
-                        && answer.steps > 500
-                        && (no_bytes || !words_only)
-                        && (call != Call::Make || self.random.below(4) == 0)
-                    {
-                        break call;
-                    }
-                    // Too small to aim at: made here, to get on.
-                    if call != Call::Make {
-                        feed(&mut self.notebook, Line { act, answer }, &tried.memory)?;
-                        self.arena.load(&tried);
-                    }
-                }
-                Act::Write { first, count, byte } => {
-                    let bytes = 64 * first as usize..64 * (first + count) as usize;
-                    tried.memory[bytes.clone()].fill(byte as u8);
-                    self.notebook.write(bytes.start, bytes.len());
-                    self.arena.load(&tried);
-                }
-            }
-        };
+        let call = self.call_to_aim_at()?;
         let measure = |budget: u64| {
             let mut times = [0.0; 3].map(|_| {
-                let mut copy = self.arena.image();
+                let mut copy = self.arena.buffers();
                 let start = Instant::now();
-                call.on(&mut copy, budget);
+                Linked.call(&mut copy, &call, budget);
                 start.elapsed().as_secs_f64()
             });
             times.sort_by(f64::total_cmp);
             times[1]
         };
-        let (first_store, end) = (measure(0), measure(no_budget()));
+        let (first_store, end) = (measure(0), measure(FULL));
         let part = self.random.below(1_000) as f64 / 1_000.0;
         let moment = (first_store + part * (end - first_store)) * 1e9 + self.shift;
+        let nanoseconds = moment.max(1.0) as u64;
         // A timer that did not go off is followed by an end from here.
         let wait = Duration::from_millis(20);
-        self.end_child(
-            Work::One {
-                call,
-                nanoseconds: moment.max(1.0) as u64,
-            },
-            wait,
-            ends,
-        )?;
+        self.end_child(Work::One { call, nanoseconds }, wait, ends)?;
         // Too early or too late by what the timer itself takes: aim better.
         match self.missed {
             Some(Miss::Late) => self.shift -= 1_000.0,
@@ -425,6 +318,38 @@ impl Trial {
             None => {}
         }
         Ok(())
+    }
+
+    /// A call that makes many stores in the store as it stands; acts that do not are made here, to get on.
+    fn call_to_aim_at(&mut self) -> Result<Call, String> {
+        // Half of them a call that stores no bytes: the table words of the others take but a small part of their time.
+        let words_only = self.random.below(2) == 0;
+        loop {
+            let mut tried = self.arena.buffers();
+            let cells = tried.sizes().m;
+            let act = choose(&mut self.random, cells, handles_in(&tried.table));
+            let mut reply = Reply::default();
+            match act {
+                Act::Call(call) => {
+                    reply = Linked.call(&mut tried, &call, FULL);
+                    let large = reply.code == 0 && reply.steps > 500;
+                    if large
+                        && (no_bytes(&call) || !words_only)
+                        && (call != Call::Make || self.random.below(4) == 0)
+                    {
+                        return Ok(call);
+                    }
+                    if call == Call::Make {
+                        continue;
+                    }
+                }
+                Act::Write { first, count, byte } => {
+                    tried.memory[64 * first as usize..][..64 * count as usize].fill(byte);
+                }
+            }
+            feed(&mut self.notebook, Line { act, reply }, &tried.memory)?;
+            self.arena.load(&tried);
+        }
     }
 
     /// Starts a child, waits from its first act on, ends it, and checks what it left.
@@ -468,7 +393,7 @@ impl Trial {
             &self.log.head().ended,
         ]
         .map(|count| count.load(Ordering::SeqCst) as usize);
-        let left = self.arena.image();
+        let left = self.arena.buffers();
         for number in 0..returned {
             let line = unsafe { self.log.line(number).read() };
             let after = unsafe {
@@ -484,32 +409,29 @@ impl Trial {
             ends.calls += matches!(line.act, Act::Call(_)) as u64;
         }
         let mut opened = left.clone();
-        let answer = Call::Open.on(&mut opened, no_budget());
+        let reply = Linked.call(&mut opened, &Call::Open, FULL);
         let cut = (begun > returned).then(|| unsafe { self.log.line(returned).read().act });
         self.missed = cut.is_none().then_some(Miss::Late);
         match cut {
             Some(Act::Call(call)) => {
                 ends.inside += 1;
-                let mut before = left.clone();
-                unsafe { copy(self.log.stand(returned), before.raw()) };
+                let before = self.log.stand(returned).buffers();
                 if left == before {
                     self.missed = Some(Miss::Early);
                 } else {
                     ends.between += 1;
                 }
-                inside(
+                let cut = Cut {
                     call,
-                    &before,
-                    &left,
-                    &mut opened,
-                    answer,
-                    &mut self.notebook,
-                    ends,
-                )
-                .map_err(|wrong| format!("inside {call:?}: {wrong}"))?;
+                    before,
+                    left,
+                    reply,
+                };
+                cut.check(&mut opened, &mut self.notebook, ends)
+                    .map_err(|wrong| format!("inside {call}: {wrong}"))?;
             }
-            _ if answer != Answer::default() => {
-                return Err(format!("outside of calls, opening gives {answer:?}"));
+            _ if reply != Reply::default() => {
+                return Err(format!("outside of calls, opening gives {reply:?}"));
             }
             Some(Act::Write { first, count, .. }) => self
                 .notebook
@@ -522,71 +444,90 @@ impl Trial {
     }
 }
 
-/// The end fell inside a call: it is found wholly made or not made.
-fn inside(
+/// Calls that store table words alone.
+fn no_bytes(call: &Call) -> bool {
+    matches!(
+        call,
+        Call::Make
+            | Call::Commit { .. }
+            | Call::Delete { .. }
+            | Call::Add(Add {
+                kind: VIA_PARENT,
+                ..
+            })
+    )
+}
+
+/// An end that fell inside a call: the buffers before the call and as the end left them, and what opening told.
+struct Cut {
     call: Call,
-    before: &Image,
-    left: &Image,
-    opened: &mut Image,
-    answer: Answer,
-    notebook: &mut Notebook,
-    ends: &mut Ends,
-) -> Result<(), String> {
-    if call == Call::Make && answer.number == 2 {
-        if opened != left {
-            return Err("a refused opening stored something".into());
+    before: Buffers,
+    left: Buffers,
+    reply: Reply,
+}
+
+impl Cut {
+    /// The call is found wholly made or not made.
+    fn check(
+        &self,
+        opened: &mut Buffers,
+        notebook: &mut Notebook,
+        ends: &mut Ends,
+    ) -> Result<(), String> {
+        let (call, reply) = (self.call, self.reply);
+        if call == Call::Make && reply.code == 2 {
+            if *opened != self.left {
+                return Err("a refused opening stored something".into());
+            }
+            ends.no_store += 1;
+            Linked.call(opened, &Call::Make, FULL);
+            return note(notebook, call, Ended::Done, 0, &opened.memory);
         }
-        ends.no_store += 1;
-        Call::Make.on(opened, no_budget());
-        return note(notebook, call, Ended::Done, 0, &opened.memory);
-    }
-    if answer.number != 0 {
-        return Err(format!("opening gives {answer:?}"));
-    }
-    let mut after = before.clone();
-    let whole = call.on(&mut after, no_budget());
-    let (old, new, found) = (
-        state::state(before)?,
-        state::state(&after)?,
-        state::state(opened)?,
-    );
-    if found != old && found != new {
-        return Err("opening finds neither what stood before nor the call made".into());
-    }
-    let made = found != old;
-    if answer.steps > 0 && !made && old != new {
-        return Err("opening took steps and the call is not made".into());
-    }
-    let put_back = match call {
-        Call::Restore { handle } if whole.number == 0 => state::put_back(&old, handle),
-        _ => Default::default(),
-    };
-    for (byte, &value) in opened.memory.iter().enumerate() {
-        let (old, new) = (before.memory[byte], after.memory[byte]);
-        let right = match put_back.contains_key(&(byte / 64)) {
-            false => value == old,
-            true => value == new || !made && value == old,
+        if reply.code != 0 {
+            return Err(format!("opening gives {reply:?}"));
+        }
+        let mut after = self.before.clone();
+        let whole = Linked.call(&mut after, &call, FULL);
+        let old = state::state(&self.before)?;
+        let (new, found) = (state::state(&after)?, state::state(opened)?);
+        if found != old && found != new {
+            return Err("opening finds neither what stood before nor the call made".into());
+        }
+        let made = found != old;
+        if reply.steps > 0 && !made && old != new {
+            return Err("opening took steps and the call is not made".into());
+        }
+        let put_back = match call {
+            Call::Restore { handle } if whole.code == 0 => state::put_back(&old, handle),
+            _ => Default::default(),
         };
-        if !right {
-            return Err(format!(
-                "memory byte {byte} is {value}, before {old}, after {new}"
-            ));
+        for (byte, &value) in opened.memory.iter().enumerate() {
+            let (old, new) = (self.before.memory[byte], after.memory[byte]);
+            let right = match put_back.contains_key(&(byte as u32 / 64)) {
+                false => value == old,
+                true => value == new || !made && value == old,
+            };
+            if !right {
+                return Err(format!(
+                    "memory byte {byte} is {value}, before {old}, after {new}"
+                ));
+            }
         }
+        ends.mixed += (opened.memory != self.before.memory && opened.memory != after.memory) as u64;
+        ends.made += made as u64;
+        ends.not_made += !made as u64;
+        ends.carried_out += (reply.steps > 0) as u64;
+        if whole.code != 0 || call == Call::Open {
+            return Ok(());
+        }
+        if made && reply.steps == 0 {
+            // Ended between the last store and the return: done.
+            return note(notebook, call, Ended::Done, 0, &opened.memory);
+        }
+        // A make that was found not made has stored nothing.
+        let steps = if call == Call::Make { 0 } else { 1 };
+        note(notebook, call, Ended::Stopped, steps, &self.left.memory)?;
+        let (steps, memory) = (reply.steps, &opened.memory);
+        note(notebook, Call::Open, Ended::Done, steps, memory)
     }
-    ends.mixed += (opened.memory != before.memory && opened.memory != after.memory) as u64;
-    ends.made += made as u64;
-    ends.not_made += !made as u64;
-    ends.carried_out += (answer.steps > 0) as u64;
-    if whole.number != 0 || call == Call::Open {
-        return Ok(());
-    }
-    if made && answer.steps == 0 {
-        // Ended between the last store and the return: done.
-        return note(notebook, call, Ended::Done, 0, &opened.memory);
-    }
-    // A make that was found not made has stored nothing.
-    let steps = if call == Call::Make { 0 } else { 1 };
-    note(notebook, call, Ended::Stopped, steps, &left.memory)?;
-    let (steps, memory) = (answer.steps, &opened.memory);
-    note(notebook, Call::Open, Ended::Done, steps, memory)
 }

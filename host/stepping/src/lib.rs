@@ -13,13 +13,9 @@
 //! about a loss of power, where caches write back lines in an order of their own.
 #![cfg(all(target_os = "linux", target_arch = "x86_64"))]
 
-pub mod buffers;
-pub mod calls;
 pub mod check;
 pub mod faults;
 pub mod kill;
-pub mod plan;
-pub mod random;
 pub mod scenarios;
 pub mod state;
 pub mod sys;

@@ -1,10 +1,8 @@
 //! The calls that are stepped, each with the calls and writes before it and with what document 01 counts for it.
 
-use crate::buffers::{Image, Shape};
-use crate::calls::{Run, STOPPED, no_budget};
 use crate::check::{Case, note};
-use crate::random::Random;
-use domain_model::{Call, Ended, Notebook};
+use domain_lend::Linked;
+use domain_model::{Buffers, Call, Ended, FULL, Notebook, Rng, STOPPED, Sizes, Store, plan};
 
 /// What happens before the call that is stepped.
 #[derive(Clone, Copy)]
@@ -14,7 +12,7 @@ pub enum Act {
     /// A call, or an opening, stopped after this many steps.
     Cut(Call, u64),
     /// A program write of a whole cell.
-    Write { cell: usize, version: usize },
+    Write { cell: u32, version: u32 },
 }
 
 pub struct Scenario {
@@ -30,39 +28,23 @@ pub struct Scenario {
 }
 
 /// Small enough that every store can be looked at, with room for an advance.
-pub const SHAPE: Shape = Shape {
-    cells: 4,
-    entries: 6,
-    bodies: 6,
-};
+pub const SMALL: Sizes = Sizes { m: 4, e: 6, b: 6 };
 
 /// What a program write puts into a cell: two versions differ in every byte, and none has the byte 255, with which what means nothing
 /// is filled, so that a store shows in every byte it covers.
-pub fn contents(cell: usize, version: usize) -> [u8; 64] {
-    std::array::from_fn(|byte| ((37 * version + 61 * cell + 3 * byte) % 251) as u8)
+pub fn contents(cell: u32, version: u32) -> [u8; 64] {
+    std::array::from_fn(|byte| ((37 * version + 61 * cell + 3 * byte as u32) % 251) as u8)
 }
 
 fn copy(first: u32, count: u32, label: u32) -> Act {
-    Act::Done(Call::Add {
-        handle: 0,
-        first,
-        count,
-        kind: 0,
-        label,
-    })
+    Act::Done(Call::copy(first, count, label))
 }
 
 fn via_parent(first: u32, count: u32, label: u32) -> Act {
-    Act::Done(Call::Add {
-        handle: 0,
-        first,
-        count,
-        kind: 1,
-        label,
-    })
+    Act::Done(Call::via_parent(first, count, label))
 }
 
-fn write(cells: std::ops::Range<usize>, version: usize) -> Vec<Act> {
+fn write(cells: std::ops::Range<u32>, version: u32) -> Vec<Act> {
     cells.map(|cell| Act::Write { cell, version }).collect()
 }
 
@@ -96,14 +78,14 @@ pub fn scenarios() -> Vec<Scenario> {
     add("create inside", one(), Create, 0, 0, 3);
 
     add("add by copy, one label raised", [made(), vec![CREATE, copy(1, 1, 0)], write(0..4, 2)].concat(),
-        Add { handle: 0, first: 0, count: 3, kind: 0, label: 1 }, 0, 2, 6);
+        Call::copy(0, 3, 1), 0, 2, 6);
     add("add by copy inside", [one(), vec![CREATE], write(0..2, 2)].concat(),
-        Add { handle: 2, first: 0, count: 4, kind: 0, label: 0 }, 0, 4, 8);
-    add("add via parent", then(one(), CREATE), Add { handle: 0, first: 0, count: 2, kind: 1, label: 1 }, 0, 0, 4);
-    add("add of held cells", one_written(), Add { handle: 0, first: 0, count: 2, kind: 0, label: 1 }, 0, 0, 0);
+        Call::copy(0, 4, 0).on(2), 0, 4, 8);
+    add("add via parent", then(one(), CREATE), Call::via_parent(0, 2, 1), 0, 0, 4);
+    add("add of held cells", one_written(), Call::copy(0, 2, 1), 0, 0, 0);
 
-    add("delete", one_written(), Delete { handle: 0, first: 0, count: 2 }, 0, 0, 4);
-    add("delete from the outer", two(), Delete { handle: 1, first: 0, count: 1 }, 0, 0, 2);
+    add("delete", one_written(), Call::delete(0, 0, 2), 0, 0, 4);
+    add("delete from the outer", two(), Call::delete(1, 0, 1), 0, 0, 2);
 
     add("commit into the outer", two(), Commit { handle: 0 }, 0, 0, 8);
     add("commit the last", one_written(), Commit { handle: 1 }, 0, 0, 6);
@@ -128,67 +110,70 @@ pub fn scenarios() -> Vec<Scenario> {
 
     add("list", two(), List, 0, 0, 0);
     add("look", three(), Look { handle: 1, cell: 1 }, 0, 0, 0);
-    add("add past the memory", one(), Add { handle: 0, first: 3, count: 2, kind: 0, label: 1 }, 8, 0, 0);
+    add("add past the memory", one(), Call::copy(3, 2, 1), 8, 0, 0);
     add("commit the outer", two(), Commit { handle: 1 }, 6, 0, 0);
     add("restore a dead handle", two(), Restore { handle: 9 }, 5, 0, 0);
     all
 }
 
 /// The buffers and the notebook as they stand before the call. The buffers are what stood in them before the first make, any bytes.
-pub fn prepare(scenario: &Scenario, shape: Shape) -> Result<(Image, Notebook), String> {
-    let mut image = Image::filled(shape, 0xA5, 0xA5A5_A5A5);
+pub fn prepare(scenario: &Scenario, sizes: Sizes) -> Result<(Buffers, Notebook), String> {
+    let mut buffers = Buffers::filled(sizes.lengths(), 0xA5, 0xA5A5_A5A5);
     let mut notebook = Notebook::new(None);
     for act in &scenario.before {
         match *act {
             Act::Done(call) => {
-                let answer = call.on(&mut image, no_budget());
-                if answer.number != 0 {
-                    return Err(format!("{call:?}, made before, gives {}", answer.number));
+                let reply = Linked.call(&mut buffers, &call, FULL);
+                if reply.code != 0 {
+                    return Err(format!("{call}, made before, gives {}", reply.code));
                 }
-                let (steps, memory) = (answer.steps, &image.memory);
+                let (steps, memory) = (reply.steps, &buffers.memory);
                 note(&mut notebook, call, Ended::Done, steps, memory)?;
             }
             Act::Cut(call, steps) => {
-                let answer = call.on(&mut image, steps);
-                if (answer.number, answer.steps) != (STOPPED, steps) {
+                let reply = Linked.call(&mut buffers, &call, steps);
+                if (reply.code, reply.steps) != (STOPPED, steps) {
                     return Err(format!(
-                        "{call:?}, to be stopped after {steps} steps, gives {answer:?}"
+                        "{call}, to be stopped after {steps} steps, gives {reply:?}"
                     ));
                 }
-                note(&mut notebook, call, Ended::Stopped, steps, &image.memory)?;
+                note(&mut notebook, call, Ended::Stopped, steps, &buffers.memory)?;
             }
-            Act::Write { cell, version } => {
-                image.memory[64 * cell..64 * cell + 64].copy_from_slice(&contents(cell, version));
-                notebook.write(64 * cell, 64);
-            }
+            Act::Write { cell, version } => write_cell(&mut buffers, &mut notebook, cell, version),
         }
     }
-    Ok((image, notebook))
+    Ok((buffers, notebook))
+}
+
+/// A program write of a whole cell.
+fn write_cell(buffers: &mut Buffers, notebook: &mut Notebook, cell: u32, version: u32) {
+    buffers.write_cell(cell, &contents(cell, version));
+    notebook.write(64 * cell as usize, 64);
 }
 
 /// Room for calls of many cells: a compiler may have another code for long loops than for short ones.
-pub const LONG: Shape = Shape {
-    cells: 40,
-    entries: 80,
-    bodies: 80,
+pub const LONG: Sizes = Sizes {
+    m: 40,
+    e: 80,
+    b: 80,
 };
 
 /// A session at random: each call that stores something is a case, and some are left cut, so that an opening comes next.
 pub struct Session {
-    random: Random,
-    image: Image,
+    random: Rng,
+    buffers: Buffers,
     notebook: Notebook,
-    version: usize,
+    version: u32,
     cut: bool,
 }
 
 impl Session {
-    pub fn new(shape: Shape, seed: u64) -> Self {
-        let mut image = Image::filled(shape, 0, 0);
-        Call::Make.on(&mut image, no_budget());
+    pub fn new(sizes: Sizes, seed: u64) -> Self {
+        let mut buffers = Buffers::filled(sizes.lengths(), 0, 0);
+        Linked.call(&mut buffers, &Call::Make, FULL);
         Session {
-            random: Random::new(seed),
-            image,
+            random: Rng::new(seed),
+            buffers,
             notebook: Notebook::new(None),
             version: 0,
             cut: false,
@@ -201,28 +186,23 @@ impl Session {
             let call = if self.cut { Call::Open } else { self.choose() };
             if let Call::Restore { .. } = call {
                 // Fresh bytes in every cell, so that every byte put back shows.
-                self.write(0..self.image.shape().cells);
+                self.write(0..self.buffers.sizes().m);
             }
-            let mut tried = self.image.clone();
-            let answer = call.on(&mut tried, no_budget());
-            if answer.number == 0 && answer.steps > 0 {
-                return Case::of(
-                    format!("{call:?}"),
-                    call,
-                    self.image.clone(),
-                    self.notebook.clone(),
-                    None,
-                );
+            let mut tried = self.buffers.clone();
+            let reply = Linked.call(&mut tried, &call, FULL);
+            if reply.code == 0 && reply.steps > 0 {
+                let (before, notebook) = (self.buffers.clone(), self.notebook.clone());
+                return Case::of(call.to_string(), call, before, notebook);
             }
             if self.cut {
-                return Err(format!("the opening after a cut gives {answer:?}"));
+                return Err(format!("the opening after a cut gives {reply:?}"));
             }
         }
     }
 
     /// Goes on from where the case ended, or from a cut inside it that an opening completes.
     pub fn go_on(&mut self, case: &Case) -> Result<(), String> {
-        let length = case.plan.stores.len();
+        let length = case.plan.steps.len();
         let mut ended = Ended::Done;
         let mut steps = length;
         if case.call != Call::Open
@@ -234,57 +214,39 @@ impl Session {
             steps = from + self.random.below((length - from) as u64) as usize;
         }
         self.cut = ended == Ended::Stopped;
-        self.image = case.before.clone();
-        case.plan.play(&mut self.image, 0..steps);
-        let (steps, memory) = (steps as u64, &self.image.memory);
+        self.buffers = case.before.clone();
+        plan::play(&case.plan.steps[..steps], &mut self.buffers);
+        let (steps, memory) = (steps as u64, &self.buffers.memory);
         note(&mut self.notebook, case.call, ended, steps, memory)
     }
 
-    fn write(&mut self, cells: std::ops::Range<usize>) {
+    fn write(&mut self, cells: std::ops::Range<u32>) {
         self.version = (self.version + 1) % 251;
         for cell in cells {
-            self.image.memory[64 * cell..64 * cell + 64]
-                .copy_from_slice(&contents(cell, self.version));
-            self.notebook.write(64 * cell, 64);
+            write_cell(&mut self.buffers, &mut self.notebook, cell, self.version);
         }
     }
 
     fn choose(&mut self) -> Call {
         let handles = self.notebook.handles();
-        let any = handles
-            .get(self.random.below(handles.len().max(1) as u64) as usize)
-            .copied()
-            .unwrap_or(0);
-        let cells = self.image.shape().cells as u64;
+        let any = match handles.is_empty() {
+            true => 0,
+            false => *self.random.pick(&handles),
+        };
+        let cells = u64::from(self.buffers.sizes().m);
         let first = self.random.below(cells) as u32;
-        let count = 1 + self.random.below(cells - first as u64) as u32;
+        let count = self.random.between(1, cells - u64::from(first)) as u32;
         let label = self.random.below(2) as u32;
         if self.random.below(3) == 0 {
-            let cell = self.random.below(cells) as usize;
+            let cell = self.random.below(cells) as u32;
             self.write(cell..cell + 1);
         }
         match self.random.below(20) {
             0 if handles.len() > 2 => Call::Make,
             0..=4 => Call::Create,
-            5..=8 => Call::Add {
-                handle: 0,
-                first,
-                count,
-                kind: 0,
-                label,
-            },
-            9..=12 => Call::Add {
-                handle: 0,
-                first,
-                count,
-                kind: 1,
-                label,
-            },
-            13 => Call::Delete {
-                handle: any,
-                first,
-                count: 1,
-            },
+            5..=8 => Call::copy(first, count, label),
+            9..=12 => Call::via_parent(first, count, label),
+            13 => Call::delete(any, first, 1),
             14..=15 => Call::Commit { handle: 0 },
             16..=17 => Call::Advance { handle: 0 },
             _ => Call::Restore { handle: any },

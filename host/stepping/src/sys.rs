@@ -2,12 +2,6 @@
 
 use core::ffi::{c_int, c_long, c_void};
 
-pub const PROT_NONE: c_int = 0;
-pub const PROT_READ: c_int = 1;
-pub const PROT_WRITE: c_int = 2;
-pub const MAP_SHARED: c_int = 0x01;
-pub const MAP_ANONYMOUS: c_int = 0x20;
-
 pub const SIGKILL: c_int = 9;
 pub const SIGSEGV: c_int = 11;
 pub const SIGSTOP: c_int = 19;
@@ -33,16 +27,6 @@ unsafe extern "C" {
     pub fn raise(signal: c_int) -> c_int;
     pub fn kill(pid: c_int, signal: c_int) -> c_int;
     pub fn _exit(status: c_int) -> !;
-    pub fn mmap(
-        address: *mut c_void,
-        length: usize,
-        protection: c_int,
-        flags: c_int,
-        file: c_int,
-        offset: c_long,
-    ) -> *mut c_void;
-    pub fn mprotect(address: *mut c_void, length: usize, protection: c_int) -> c_int;
-    pub fn munmap(address: *mut c_void, length: usize) -> c_int;
     pub fn pause() -> c_int;
     pub fn alarm(seconds: core::ffi::c_uint) -> core::ffi::c_uint;
     fn syscall(number: c_long, ...) -> c_long;
@@ -119,45 +103,6 @@ pub fn wait(pid: c_int) -> Status {
         Status::Exited(status >> 8 & 0xFF)
     } else {
         Status::Killed(status & 0x7F)
-    }
-}
-
-pub const PAGE: usize = 4096;
-
-/// Pages shared with every child that is forked later.
-pub struct Shared {
-    start: *mut u8,
-    length: usize,
-}
-
-impl Shared {
-    pub fn new(length: usize) -> Self {
-        let length = length.div_ceil(PAGE) * PAGE;
-        let start = unsafe {
-            mmap(
-                core::ptr::null_mut(),
-                length,
-                PROT_READ | PROT_WRITE,
-                MAP_SHARED | MAP_ANONYMOUS,
-                -1,
-                0,
-            )
-        };
-        assert!(start as isize != -1, "no shared pages to be had");
-        Shared {
-            start: start as *mut u8,
-            length,
-        }
-    }
-
-    pub fn start(&self) -> *mut u8 {
-        self.start
-    }
-}
-
-impl Drop for Shared {
-    fn drop(&mut self) {
-        unsafe { munmap(self.start as *mut c_void, self.length) };
     }
 }
 

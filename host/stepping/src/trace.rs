@@ -8,10 +8,11 @@
 //! one. Since a call clears scratch arrays before its first store, which may be one step for each byte, `Stepped` lets the child run on
 //! guarded pages up to that store.
 
-use crate::buffers::{Arena, Buffer, Image, Raw, Stretch};
-use crate::calls::Answer;
 use crate::sys::{self, Registers, SignalInfo, Status};
 use core::ffi::{c_int, c_long, c_void};
+use domain_lend::pages::{Arena, Pages, READ, READ_WRITE, Side, Stretch};
+use domain_lend::{Lent, Outs};
+use domain_model::{Buffer, Buffers, Call, Reply, Sizes};
 
 /// How the child is followed.
 #[derive(Clone, Copy, PartialEq, Eq, Debug)]
@@ -31,7 +32,7 @@ pub struct Stored {
     /// The buffer and the byte at which the store began; none when every instruction was stepped.
     pub place: Option<(Buffer, usize)>,
     /// The buffers after it.
-    pub image: Image,
+    pub left: Buffers,
 }
 
 /// What was seen of one call.
@@ -39,7 +40,26 @@ pub struct Trace {
     pub stores: Vec<Stored>,
     /// The instructions stepped one by one.
     pub instructions: u64,
-    pub answer: Answer,
+    pub told: Told,
+}
+
+/// What the child leaves in a shared page: the number, and the out parameters as the call set them.
+pub struct Told {
+    code: u32,
+    outs: Outs,
+}
+
+impl Told {
+    fn nothing() -> Told {
+        Told {
+            code: u32::MAX,
+            outs: Outs::new(),
+        }
+    }
+
+    pub fn reply(&self, call: &Call) -> Reply {
+        self.outs.reply(call, self.code)
+    }
 }
 
 /// Why there is no trace.
@@ -139,15 +159,16 @@ impl Child {
 }
 
 /// Follows one call on the arena's buffers. `call` runs in the child: it must allocate nothing.
-pub fn follow(arena: &Arena, way: Way, call: &dyn Fn(Raw) -> Answer) -> Result<Trace, Failure> {
-    let raw = arena.raw();
-    unsafe {
-        arena.answer().write_volatile(Answer {
-            number: u32::MAX,
-            handle: 0,
-            steps: 0,
-        })
-    };
+pub fn follow(
+    arena: &Arena,
+    way: Way,
+    call: &dyn Fn(Lent, &mut Outs) -> u32,
+) -> Result<Trace, Failure> {
+    let lent = arena.lent();
+    let page = Pages::new(size_of::<Told>(), READ_WRITE);
+    let told: *mut Told = page.start().cast();
+    // SAFETY: the page is large enough, and this process's own until it forks.
+    unsafe { told.write_volatile(Told::nothing()) };
     let pid = unsafe { sys::fork() };
     if pid == 0 {
         unsafe {
@@ -161,22 +182,15 @@ pub fn follow(arena: &Arena, way: Way, call: &dyn Fn(Raw) -> Answer) -> Result<T
                 sys::_exit(REFUSED);
             }
             if way != Way::Whole {
-                for stretch in arena.stretches {
-                    if sys::mprotect(
-                        stretch.pages as *mut c_void,
-                        stretch.pages_len,
-                        sys::PROT_READ,
-                    ) != 0
-                    {
-                        sys::_exit(1);
-                    }
+                if !arena.stretches.iter().all(|part| part.allow(READ)) {
+                    sys::_exit(1);
                 }
             }
             // A call that never ends is stopped by a signal, which the tracer reports.
             sys::alarm(300);
             sys::raise(sys::SIGSTOP);
-            let answer = call(raw);
-            arena.answer().write_volatile(answer);
+            let code = call(lent, &mut (*told).outs);
+            (&raw mut (*told).code).write_volatile(code);
             sys::_exit(0);
         }
     }
@@ -209,21 +223,22 @@ pub fn follow(arena: &Arena, way: Way, call: &dyn Fn(Raw) -> Answer) -> Result<T
     let mut trace = Trace {
         stores: Vec::new(),
         instructions: 0,
-        answer: Answer::default(),
+        told: Told::nothing(),
     };
     match way {
         Way::Guarded => while guarded(arena, &mut child, &mut trace)? {},
         Way::Stepped => {
             if to_store(arena, &mut child)?.is_some() {
                 for stretch in arena.stretches {
-                    child.protect(stretch, sys::PROT_READ | sys::PROT_WRITE)?;
+                    child.protect(stretch, READ_WRITE)?;
                 }
                 stepped(arena, &mut child, &mut trace)?
             }
         }
         Way::Whole => stepped(arena, &mut child, &mut trace)?,
     }
-    trace.answer = unsafe { arena.answer().read_volatile() };
+    // SAFETY: the child has ended; outs and number are plain numbers.
+    trace.told = unsafe { told.read_volatile() };
     Ok(trace)
 }
 
@@ -251,7 +266,7 @@ fn guarded(arena: &Arena, child: &mut Child, trace: &mut Trace) -> Result<bool, 
     let Some((instruction, stretch, byte)) = to_store(arena, child)? else {
         return Ok(false);
     };
-    child.protect(stretch, sys::PROT_READ | sys::PROT_WRITE)?;
+    child.protect(stretch, READ_WRITE)?;
     match child.go(sys::PTRACE_SINGLESTEP)? {
         Status::Stopped(sys::SIGTRAP) => {}
         status => {
@@ -265,15 +280,15 @@ fn guarded(arena: &Arena, child: &mut Child, trace: &mut Trace) -> Result<bool, 
     trace.stores.push(Stored {
         instruction,
         place: Some((stretch.buffer, byte)),
-        image: arena.image(),
+        left: arena.buffers(),
     });
-    child.protect(stretch, sys::PROT_READ)?;
+    child.protect(stretch, READ)?;
     Ok(true)
 }
 
 /// Every instruction to the end.
 fn stepped(arena: &Arena, child: &mut Child, trace: &mut Trace) -> Result<(), Failure> {
-    let mut last = arena.image();
+    let mut last = arena.buffers();
     loop {
         let instruction = child.registers()?.rip;
         match child.go(sys::PTRACE_SINGLESTEP)? {
@@ -291,7 +306,7 @@ fn stepped(arena: &Arena, child: &mut Child, trace: &mut Trace) -> Result<(), Fa
             trace.stores.push(Stored {
                 instruction,
                 place: None,
-                image: last.clone(),
+                left: last.clone(),
             });
         }
     }
@@ -311,17 +326,14 @@ pub fn at(instruction: u64) -> String {
 
 /// Whether this machine lets a child be traced and its pages be guarded.
 pub fn allowed() -> Result<(), String> {
-    let arena = Arena::new(crate::buffers::Shape {
-        cells: 1,
-        entries: 1,
-        bodies: 1,
-    });
-    let store_one = |raw: Raw| {
-        unsafe { raw.table.write_volatile(1) };
-        Answer::default()
+    let lengths = Sizes { m: 1, e: 1, b: 1 }.lengths();
+    let arena = Arena::new(lengths, Side::After);
+    let store_one = |lent: Lent, _: &mut Outs| {
+        unsafe { lent.table.write_volatile(1) };
+        0
     };
     for way in [Way::Guarded, Way::Stepped, Way::Whole] {
-        arena.load(&Image::filled(arena.shape, 0, 0));
+        arena.load(&Buffers::filled(lengths, 0, 0));
         match follow(&arena, way, &store_one) {
             Ok(trace) if trace.stores.len() == 1 => {}
             Ok(trace) => {

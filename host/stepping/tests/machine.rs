@@ -16,11 +16,12 @@ fn main() {
 
 #[cfg(all(target_os = "linux", target_arch = "x86_64"))]
 mod machine {
-    use domain_stepping::buffers::{Arena, Shape};
+    use domain_lend::pages::{Arena, Side};
+    use domain_model::Sizes;
     use domain_stepping::check::{Case, Tally, same_stores};
     use domain_stepping::faults;
     use domain_stepping::kill;
-    use domain_stepping::scenarios::{LONG, SHAPE, Session, scenarios};
+    use domain_stepping::scenarios::{LONG, SMALL, Session, scenarios};
     use domain_stepping::trace::{Failure, Way, allowed};
     use std::mem::discriminant;
     use std::process::exit;
@@ -53,7 +54,7 @@ mod machine {
     /// Steps every scenario, and plays the wrong orders.
     fn stepped() -> u32 {
         let start = Instant::now();
-        let arena = Arena::new(SHAPE);
+        let arena = Arena::new(SMALL.lengths(), Side::After);
         let mut tally = Tally::default();
         let mut wrong = 0;
         let mut found = 0;
@@ -68,7 +69,7 @@ mod machine {
             "call", "bytes", "words", "stores", "instructions"
         );
         for scenario in scenarios() {
-            let result = Case::new(&scenario, SHAPE).and_then(|case| {
+            let result = Case::new(&scenario, SMALL).and_then(|case| {
                 let told = |failure: Failure| format!("{failure:?}");
                 let trace = case.follow(&arena, Way::Guarded).map_err(told)?;
                 case.judge(&trace, &mut tally)?;
@@ -76,7 +77,7 @@ mod machine {
                 same_stores(&case.before, &trace, &stepped)?;
                 let instructions = trace.instructions + stepped.instructions;
                 tally.instructions += stepped.instructions;
-                let (bytes, words) = (case.plan.bytes, case.plan.stores.len() - case.plan.bytes);
+                let (bytes, words) = (case.plan.bytes, case.plan.steps.len() - case.plan.bytes);
                 println!(
                     "{:<32} {bytes:>6} {words:>6} {:>8} {instructions:>13}",
                     scenario.name,
@@ -94,8 +95,8 @@ mod machine {
                 wrong += 1;
             }
         }
-        for shape in [SHAPE, LONG] {
-            if let Err(why) = session(shape, &mut tally) {
+        for sizes in [SMALL, LONG] {
+            if let Err(why) = session(sizes, &mut tally) {
                 println!("WRONG {why}");
                 wrong += 1;
             }
@@ -121,13 +122,13 @@ mod machine {
     }
 
     /// A session at random, every call of it stepped.
-    fn session(shape: Shape, tally: &mut Tally) -> Result<(), String> {
+    fn session(sizes: Sizes, tally: &mut Tally) -> Result<(), String> {
         let start = Instant::now();
         let (stores, cuts) = (tally.stores, tally.cuts);
-        let arena = Arena::new(shape);
+        let arena = Arena::new(sizes.lengths(), Side::After);
         let seed = number("DOMAIN_SEED", 1);
         let calls = number("DOMAIN_CALLS", 150);
-        let mut session = Session::new(shape, seed);
+        let mut session = Session::new(sizes, seed);
         let mut next = || {
             let case = session.next_case()?;
             let told = |wrong: String| format!("{}: {wrong}", case.name);
@@ -138,11 +139,11 @@ mod machine {
             session.go_on(&case)
         };
         for call in 0..calls {
-            next().map_err(|why| format!("call {call} of seed {seed}, {shape:?}: {why}"))?;
+            next().map_err(|why| format!("call {call} of seed {seed}, {sizes:?}: {why}"))?;
         }
         println!(
             "a session of {calls} calls with {} cells: {} stores, {} cuts opened; {:.1} s",
-            shape.cells,
+            sizes.m,
             tally.stores - stores,
             tally.cuts - cuts,
             start.elapsed().as_secs_f64()

@@ -2,11 +2,11 @@
 //! numbers. Nothing is decided here.
 //!
 //! SAFETY, for every call below: a slice's pointer and length name exactly its elements, aligned
-//! and not null; a `&mut` slice overlaps nothing else, and a buffer lent as `&` is only read, so
+//! and not null; `&mut self` borrows all three slices uniquely, and a call on `&self` only reads, so
 //! nothing writes while the call runs; the out parameters are locals of their own. The library
 //! takes any contents and any numbers: that it ends and stays inside its buffers is proved.
 
-use crate::ffi;
+use crate::ffi::Lent;
 
 /// What a call without further answers gives: its number, and the steps that it made.
 #[derive(Clone, Copy)]
@@ -15,65 +15,11 @@ pub(crate) struct Answer {
     pub(crate) steps: u64,
 }
 
-pub(crate) fn make(memory: &[u8], bodies: &[u8], table: &mut [u32], budget: u64) -> Answer {
-    let mut steps = 0;
-    // SAFETY: as said at the top of this file.
-    let number = unsafe {
-        ffi::ds_make(
-            memory.as_ptr(),
-            memory.len(),
-            bodies.as_ptr(),
-            bodies.len(),
-            table.as_mut_ptr(),
-            table.len(),
-            budget,
-            &mut steps,
-        )
-    };
-    Answer { number, steps }
-}
-
-pub(crate) fn open(memory: &[u8], bodies: &[u8], table: &mut [u32], budget: u64) -> Answer {
-    let mut steps = 0;
-    // SAFETY: as said at the top of this file.
-    let number = unsafe {
-        ffi::ds_open(
-            memory.as_ptr(),
-            memory.len(),
-            bodies.as_ptr(),
-            bodies.len(),
-            table.as_mut_ptr(),
-            table.len(),
-            budget,
-            &mut steps,
-        )
-    };
-    Answer { number, steps }
-}
-
-pub(crate) fn create(
-    memory: &[u8],
-    bodies: &[u8],
-    table: &mut [u32],
-    budget: u64,
-) -> (Answer, u32) {
-    let mut steps = 0;
-    let mut handle = 0;
-    // SAFETY: as said at the top of this file.
-    let number = unsafe {
-        ffi::ds_create(
-            memory.as_ptr(),
-            memory.len(),
-            bodies.as_ptr(),
-            bodies.len(),
-            table.as_mut_ptr(),
-            table.len(),
-            budget,
-            &mut steps,
-            &mut handle,
-        )
-    };
-    (Answer { number, steps }, handle)
+/// The lent buffers.
+pub(crate) struct Slices<'a> {
+    pub(crate) memory: &'a mut [u8],
+    pub(crate) bodies: &'a mut [u8],
+    pub(crate) table: &'a mut [u32],
 }
 
 /// The arguments of an add, besides buffers and budget.
@@ -86,183 +32,83 @@ pub(crate) struct Add {
     pub(crate) label: u32,
 }
 
-pub(crate) fn add(
-    memory: &[u8],
-    bodies: &mut [u8],
-    table: &mut [u32],
-    add: Add,
-    budget: u64,
-) -> Answer {
+fn counted(call: impl FnOnce(&mut u64) -> u32) -> Answer {
     let mut steps = 0;
-    // SAFETY: as said at the top of this file.
-    let number = unsafe {
-        ffi::ds_add(
-            memory.as_ptr(),
-            memory.len(),
-            bodies.as_mut_ptr(),
-            bodies.len(),
-            table.as_mut_ptr(),
-            table.len(),
-            add.handle,
-            add.first,
-            add.count,
-            add.kind,
-            add.label,
-            budget,
-            &mut steps,
-        )
-    };
+    let number = call(&mut steps);
     Answer { number, steps }
 }
 
-pub(crate) fn delete(
-    memory: &[u8],
-    bodies: &[u8],
-    table: &mut [u32],
-    handle: u32,
-    first: u32,
-    count: u32,
-    budget: u64,
-) -> Answer {
-    let mut steps = 0;
-    // SAFETY: as said at the top of this file.
-    let number = unsafe {
-        ffi::ds_delete(
-            memory.as_ptr(),
-            memory.len(),
-            bodies.as_ptr(),
-            bodies.len(),
-            table.as_mut_ptr(),
-            table.len(),
+// The unsafe blocks are safe for the reasons at the top of this file.
+impl Slices<'_> {
+    fn lent(&mut self) -> Lent {
+        Lent::new(self.memory, self.bodies, self.table)
+    }
+
+    /// For a call that only reads: nothing is stored through these pointers.
+    fn lent_to_read(&self) -> Lent {
+        let (memory, bodies, table) = (
+            &raw const *self.memory,
+            &raw const *self.bodies,
+            &raw const *self.table,
+        );
+        Lent::new(memory.cast_mut(), bodies.cast_mut(), table.cast_mut())
+    }
+
+    pub(crate) fn make(&mut self, budget: u64) -> Answer {
+        counted(|steps| unsafe { self.lent().make(budget, steps) })
+    }
+
+    pub(crate) fn open(&mut self, budget: u64) -> Answer {
+        counted(|steps| unsafe { self.lent().open(budget, steps) })
+    }
+
+    pub(crate) fn create(&mut self, budget: u64) -> (Answer, u32) {
+        let mut handle = 0;
+        let answer = counted(|steps| unsafe { self.lent().create(budget, steps, &mut handle) });
+        (answer, handle)
+    }
+
+    pub(crate) fn add(&mut self, add: Add, budget: u64) -> Answer {
+        let Add {
             handle,
             first,
             count,
-            budget,
-            &mut steps,
-        )
-    };
-    Answer { number, steps }
-}
+            kind,
+            label,
+        } = add;
+        let lent = self.lent();
+        counted(|steps| unsafe { lent.add(handle, first, count, kind, label, budget, steps) })
+    }
 
-pub(crate) fn commit(
-    memory: &[u8],
-    bodies: &[u8],
-    table: &mut [u32],
-    handle: u32,
-    budget: u64,
-) -> Answer {
-    let mut steps = 0;
-    // SAFETY: as said at the top of this file.
-    let number = unsafe {
-        ffi::ds_commit(
-            memory.as_ptr(),
-            memory.len(),
-            bodies.as_ptr(),
-            bodies.len(),
-            table.as_mut_ptr(),
-            table.len(),
-            handle,
-            budget,
-            &mut steps,
-        )
-    };
-    Answer { number, steps }
-}
+    pub(crate) fn delete(&mut self, handle: u32, first: u32, count: u32, budget: u64) -> Answer {
+        counted(|steps| unsafe { self.lent().delete(handle, first, count, budget, steps) })
+    }
 
-pub(crate) fn advance(
-    memory: &[u8],
-    bodies: &mut [u8],
-    table: &mut [u32],
-    handle: u32,
-    budget: u64,
-) -> Answer {
-    let mut steps = 0;
-    // SAFETY: as said at the top of this file.
-    let number = unsafe {
-        ffi::ds_advance(
-            memory.as_ptr(),
-            memory.len(),
-            bodies.as_mut_ptr(),
-            bodies.len(),
-            table.as_mut_ptr(),
-            table.len(),
-            handle,
-            budget,
-            &mut steps,
-        )
-    };
-    Answer { number, steps }
-}
+    pub(crate) fn commit(&mut self, handle: u32, budget: u64) -> Answer {
+        counted(|steps| unsafe { self.lent().commit(handle, budget, steps) })
+    }
 
-pub(crate) fn restore(
-    memory: &mut [u8],
-    bodies: &[u8],
-    table: &mut [u32],
-    handle: u32,
-    budget: u64,
-) -> Answer {
-    let mut steps = 0;
-    // SAFETY: as said at the top of this file.
-    let number = unsafe {
-        ffi::ds_restore(
-            memory.as_mut_ptr(),
-            memory.len(),
-            bodies.as_ptr(),
-            bodies.len(),
-            table.as_mut_ptr(),
-            table.len(),
-            handle,
-            budget,
-            &mut steps,
-        )
-    };
-    Answer { number, steps }
-}
+    pub(crate) fn advance(&mut self, handle: u32, budget: u64) -> Answer {
+        counted(|steps| unsafe { self.lent().advance(handle, budget, steps) })
+    }
 
-/// The number, the eight handle words, and how many of them are live.
-pub(crate) fn list(memory: &[u8], bodies: &[u8], table: &[u32]) -> (u32, [u32; 8], u32) {
-    let mut handles = [0; 8];
-    let mut count = 0;
-    // SAFETY: as said at the top of this file; `handles` has the eight words that the call sets.
-    let number = unsafe {
-        ffi::ds_list(
-            memory.as_ptr(),
-            memory.len(),
-            bodies.as_ptr(),
-            bodies.len(),
-            table.as_ptr(),
-            table.len(),
-            handles.as_mut_ptr(),
-            &mut count,
-        )
-    };
-    (number, handles, count)
-}
+    pub(crate) fn restore(&mut self, handle: u32, budget: u64) -> Answer {
+        counted(|steps| unsafe { self.lent().restore(handle, budget, steps) })
+    }
 
-/// The number, the place (memory or bodies) and the offset in it.
-pub(crate) fn look(
-    memory: &[u8],
-    bodies: &[u8],
-    table: &[u32],
-    handle: u32,
-    cell: u32,
-) -> (u32, u32, u64) {
-    let mut place = 0;
-    let mut offset = 0;
-    // SAFETY: as said at the top of this file.
-    let number = unsafe {
-        ffi::ds_look(
-            memory.as_ptr(),
-            memory.len(),
-            bodies.as_ptr(),
-            bodies.len(),
-            table.as_ptr(),
-            table.len(),
-            handle,
-            cell,
-            &mut place,
-            &mut offset,
-        )
-    };
-    (number, place, offset)
+    /// The number, the eight handle words, and how many of them are live.
+    pub(crate) fn list(&self) -> (u32, [u32; 8], u32) {
+        let (mut handles, mut count) = ([0; 8], 0);
+        let lent = self.lent_to_read();
+        let number = unsafe { lent.list(handles.as_mut_ptr(), &mut count) };
+        (number, handles, count)
+    }
+
+    /// The number, the place (memory or bodies) and the offset in it.
+    pub(crate) fn look(&self, handle: u32, cell: u32) -> (u32, u32, u64) {
+        let (mut place, mut offset) = (0, 0);
+        let lent = self.lent_to_read();
+        let number = unsafe { lent.look(handle, cell, &mut place, &mut offset) };
+        (number, place, offset)
+    }
 }

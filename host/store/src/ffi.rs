@@ -3,15 +3,19 @@
 //! These are for tests and for programs that need the raw numbers. Everything else goes through
 //! [`Store`](crate::Store), which cannot be called wrongly. Every function returns [`DONE`],
 //! [`STOPPED`] or the number of a [`Refusal`](crate::Refusal), and sets its out parameters in every
-//! case, to 0 where there is nothing to tell.
+//! case, to 0 where there is nothing to tell. [`Lent`] has each of them as a method, with the
+//! buffers named once.
 //!
 //! # What a caller owes
 //!
 //! No proof can see these, so they are the safety conditions of every function here:
 //!
-//! - each pointer is aligned, not null, and points to as many elements as the length beside it says
-//!   (lengths count elements, not bytes), and an out parameter points to one value (`handles` of
-//!   [`ds_list`] to eight);
+//! - each pointer is aligned and points to as many elements as the length beside it says (lengths
+//!   count elements, not bytes), and an out parameter points to one value (`handles` of [`ds_list`]
+//!   to eight);
+//! - no pointer is null, save that of a buffer of length 0: such a call is refused as
+//!   [`Lengths`](crate::Refusal::Lengths) and does not look at it. Out parameters are stored to by
+//!   every call, so none of them is ever null;
 //! - buffers and out parameters do not overlap;
 //! - nothing else reads or writes them while the call runs, so only one call at a time is made on a
 //!   store.
@@ -51,144 +55,198 @@ pub const IN_MEMORY: u32 = 1;
 /// What [`ds_look`] puts into `place` for a part of bodies.
 pub const IN_BODIES: u32 = 2;
 
-unsafe extern "C" {
+/// The lent buffers as every C function takes them first: a pointer and a length in elements each.
+#[derive(Clone, Copy, Debug)]
+pub struct Lent {
+    /// Memory's first byte.
+    pub memory: *mut u8,
+    /// Memory's bytes.
+    pub memory_len: usize,
+    /// The first byte of bodies.
+    pub bodies: *mut u8,
+    /// The bytes of bodies.
+    pub bodies_len: usize,
+    /// The table's first word.
+    pub table: *mut u32,
+    /// The table's words.
+    pub table_len: usize,
+}
+
+impl Lent {
+    /// These parts of memory, as pointers and lengths.
+    ///
+    /// ```
+    /// use domain_store::ffi::{DONE, Lent};
+    ///
+    /// let (mut memory, mut bodies, mut table) = ([0_u8; 64], [0_u8; 64], [0_u32; 42]);
+    /// let lent = Lent::new(&mut memory, &mut bodies, &mut table);
+    /// let mut steps = 0;
+    /// // SAFETY: three arrays that do not overlap and that nothing else uses.
+    /// assert_eq!(unsafe { lent.make(u64::MAX, &mut steps) }, DONE);
+    /// ```
+    pub fn new(memory: *mut [u8], bodies: *mut [u8], table: *mut [u32]) -> Lent {
+        Lent {
+            memory: memory.cast(),
+            memory_len: memory.len(),
+            bodies: bodies.cast(),
+            bodies_len: bodies.len(),
+            table: table.cast(),
+            table_len: table.len(),
+        }
+    }
+}
+
+/// Declares each C function, and the method of [`Lent`] that calls it. `const` and `mut` say whether
+/// the call stores into memory, bodies and table.
+macro_rules! functions {
+    ($($(#[$doc:meta])* $function:ident, $method:ident: $memory:tt $bodies:tt $table:tt ($($argument:ident: $type:ty),*);)*) => {
+        unsafe extern "C" {
+            $(
+                $(#[$doc])*
+                pub fn $function(
+                    memory: *$memory u8,
+                    memory_len: usize,
+                    bodies: *$bodies u8,
+                    bodies_len: usize,
+                    table: *$table u32,
+                    table_len: usize,
+                    $($argument: $type),*
+                ) -> u32;
+            )*
+        }
+
+        impl Lent {
+            $(
+                $(#[$doc])*
+                ///
+                /// # Safety
+                ///
+                /// As the [module](self) says of every function.
+                #[allow(clippy::too_many_arguments)]
+                pub unsafe fn $method(self, $($argument: $type),*) -> u32 {
+                    // SAFETY: the caller answers for the pointers.
+                    unsafe {
+                        $function(
+                            self.memory,
+                            self.memory_len,
+                            self.bodies,
+                            self.bodies_len,
+                            self.table,
+                            self.table_len,
+                            $($argument),*
+                        )
+                    }
+                }
+            )*
+        }
+
+        /// Each function with its parameters, to be held beside the header.
+        #[cfg(test)]
+        const DECLARED: &[(&str, [&str; 3], &[(&str, &str)])] = &[$((
+            stringify!($function),
+            [stringify!($memory), stringify!($bodies), stringify!($table)],
+            &[$((stringify!($argument), stringify!($type))),*],
+        )),*];
+    };
+}
+
+functions! {
     /// Makes a fresh store: no domains, next handle 1. Stores into the table.
-    pub fn ds_make(
-        memory: *const u8,
-        memory_len: usize,
-        bodies: *const u8,
-        bodies_len: usize,
-        table: *mut u32,
-        table_len: usize,
-        budget: u64,
-        steps: *mut u64,
-    ) -> u32;
+    ds_make, make: const const mut (budget: u64, steps: *mut u64);
 
     /// Opens a store: finishes what a stopped call left pending. Stores into the table.
-    pub fn ds_open(
-        memory: *const u8,
-        memory_len: usize,
-        bodies: *const u8,
-        bodies_len: usize,
-        table: *mut u32,
-        table_len: usize,
-        budget: u64,
-        steps: *mut u64,
-    ) -> u32;
+    ds_open, open: const const mut (budget: u64, steps: *mut u64);
 
     /// Creates a domain inside the innermost one. Stores into the table; `handle` is 0 unless the
     /// call is done.
-    pub fn ds_create(
-        memory: *const u8,
-        memory_len: usize,
-        bodies: *const u8,
-        bodies_len: usize,
-        table: *mut u32,
-        table_len: usize,
-        budget: u64,
-        steps: *mut u64,
-        handle: *mut u32,
-    ) -> u32;
+    ds_create, create: const const mut (budget: u64, steps: *mut u64, handle: *mut u32);
 
     /// Holds cells in the innermost domain. `kind` is 0 for a copy, 1 for via parent; `label` is 0
     /// for read-only, 1 for read-write. Stores into bodies and the table.
-    pub fn ds_add(
-        memory: *const u8,
-        memory_len: usize,
-        bodies: *mut u8,
-        bodies_len: usize,
-        table: *mut u32,
-        table_len: usize,
-        handle: u32,
-        first: u32,
-        count: u32,
-        kind: u32,
-        label: u32,
-        budget: u64,
-        steps: *mut u64,
-    ) -> u32;
+    ds_add, add: const mut mut (
+        handle: u32, first: u32, count: u32, kind: u32, label: u32, budget: u64, steps: *mut u64
+    );
 
     /// Frees cells that a domain holds. Stores into the table.
-    pub fn ds_delete(
-        memory: *const u8,
-        memory_len: usize,
-        bodies: *const u8,
-        bodies_len: usize,
-        table: *mut u32,
-        table_len: usize,
-        handle: u32,
-        first: u32,
-        count: u32,
-        budget: u64,
-        steps: *mut u64,
-    ) -> u32;
+    ds_delete, delete: const const mut (
+        handle: u32, first: u32, count: u32, budget: u64, steps: *mut u64
+    );
 
     /// Ends the innermost domain and hands its cells to its parent. Stores into the table.
-    pub fn ds_commit(
-        memory: *const u8,
-        memory_len: usize,
-        bodies: *const u8,
-        bodies_len: usize,
-        table: *mut u32,
-        table_len: usize,
-        handle: u32,
-        budget: u64,
-        steps: *mut u64,
-    ) -> u32;
+    ds_commit, commit: const const mut (handle: u32, budget: u64, steps: *mut u64);
 
     /// Moves the innermost domain's checkpoint to now. Stores into bodies and the table.
-    pub fn ds_advance(
-        memory: *const u8,
-        memory_len: usize,
-        bodies: *mut u8,
-        bodies_len: usize,
-        table: *mut u32,
-        table_len: usize,
-        handle: u32,
-        budget: u64,
-        steps: *mut u64,
-    ) -> u32;
+    ds_advance, advance: const mut mut (handle: u32, budget: u64, steps: *mut u64);
 
     /// Puts memory back to a domain's checkpoint and ends the domains inside it. Stores into memory
     /// and the table.
-    pub fn ds_restore(
-        memory: *mut u8,
-        memory_len: usize,
-        bodies: *const u8,
-        bodies_len: usize,
-        table: *mut u32,
-        table_len: usize,
-        handle: u32,
-        budget: u64,
-        steps: *mut u64,
-    ) -> u32;
+    ds_restore, restore: mut const mut (handle: u32, budget: u64, steps: *mut u64);
 
     /// Tells the live domains, outermost first: their number in `count`, their handles in the eight
     /// words at `handles`. Stores nothing.
-    pub fn ds_list(
-        memory: *const u8,
-        memory_len: usize,
-        bodies: *const u8,
-        bodies_len: usize,
-        table: *const u32,
-        table_len: usize,
-        handles: *mut u32,
-        count: *mut u32,
-    ) -> u32;
+    ds_list, list: const const const (handles: *mut u32, count: *mut u32);
 
     /// Tells where the 64 bytes stand that a restore would leave in a cell: `place` is
     /// [`IN_MEMORY`], [`IN_BODIES`] or 0 when refused, and `offset` counts bytes from the start of
     /// that buffer. Stores nothing.
-    pub fn ds_look(
-        memory: *const u8,
-        memory_len: usize,
-        bodies: *const u8,
-        bodies_len: usize,
-        table: *const u32,
-        table_len: usize,
-        handle: u32,
-        cell: u32,
-        place: *mut u32,
-        offset: *mut u64,
-    ) -> u32;
+    ds_look, look: const const const (handle: u32, cell: u32, place: *mut u32, offset: *mut u64);
+}
+
+#[cfg(test)]
+mod tests {
+    use super::DECLARED;
+
+    /// A parameter of C as Rust writes it: name and type.
+    fn in_rust(parameter: &str) -> (String, String) {
+        let (constant, rest) = match parameter.trim().strip_prefix("const ") {
+            Some(rest) => ("*const", rest),
+            None => ("*mut", parameter.trim()),
+        };
+        let (kind, name) = rest.split_once(' ').expect("a type and a name");
+        let kind = match kind {
+            "uint8_t" => "u8",
+            "uint32_t" => "u32",
+            "uint64_t" => "u64",
+            "size_t" => "usize",
+            other => panic!("the type {other}"),
+        };
+        let bare = name.trim_start_matches('*').trim_end_matches("[8]");
+        let kind = match bare == name {
+            true => kind.to_string(),
+            false => format!("{constant} {kind}"),
+        };
+        (bare.to_string(), kind)
+    }
+
+    #[test]
+    fn every_function_is_declared_as_in_the_header() {
+        let header = include_str!("../../../include/domain_store.h");
+        let in_header: Vec<(String, Vec<(String, String)>)> = header
+            .split("\nuint32_t ")
+            .skip(1)
+            .map(|text| {
+                let (name, text) = text.split_once('(').expect("parameters");
+                let (parameters, _) = text.split_once(')').expect("their end");
+                (name.into(), parameters.split(',').map(in_rust).collect())
+            })
+            .collect();
+        let here: Vec<(String, Vec<(String, String)>)> = DECLARED
+            .iter()
+            .map(|(name, [memory, bodies, table], others)| {
+                let buffers = [
+                    ("memory", format!("*{memory} u8")),
+                    ("memory_len", "usize".into()),
+                    ("bodies", format!("*{bodies} u8")),
+                    ("bodies_len", "usize".into()),
+                    ("table", format!("*{table} u32")),
+                    ("table_len", "usize".into()),
+                ];
+                let others = others.iter().map(|(name, kind)| (*name, kind.to_string()));
+                let all = buffers.into_iter().chain(others);
+                let all = all.map(|(name, kind)| (name.to_string(), kind)).collect();
+                (name.to_string(), all)
+            })
+            .collect();
+        assert_eq!(here, in_header);
+    }
 }

@@ -3,7 +3,7 @@
 use std::fmt;
 use std::ops::Range;
 
-use crate::call::{self, Answer};
+use crate::call::{Add, Answer, Slices};
 use crate::{CELL, Domain, Handle, Handles, Kind, Label, Outcome, Refusal, ffi};
 
 /// The budget of a call that must not be stopped: no call needs so many steps. It goes over the C
@@ -46,9 +46,7 @@ const UNSTOPPED: u64 = u64::MAX;
 /// # Ok::<(), Box<dyn std::error::Error>>(())
 /// ```
 pub struct Store<'a> {
-    memory: &'a mut [u8],
-    bodies: &'a mut [u8],
-    table: &'a mut [u32],
+    lent: Slices<'a>,
 }
 
 /// Where the bytes stand that [`Store::look`] shows.
@@ -96,11 +94,12 @@ impl<'a> Store<'a> {
     /// assert_eq!(store.open(), Err(Refusal::Lengths));
     /// ```
     pub fn new(memory: &'a mut [u8], bodies: &'a mut [u8], table: &'a mut [u32]) -> Store<'a> {
-        Store {
+        let lent = Slices {
             memory,
             bodies,
             table,
-        }
+        };
+        Store { lent }
     }
 
     /// Gives the buffers back: memory, bodies, table.
@@ -115,14 +114,14 @@ impl<'a> Store<'a> {
     /// # Ok::<(), Box<dyn std::error::Error>>(())
     /// ```
     pub fn into_buffers(self) -> (&'a mut [u8], &'a mut [u8], &'a mut [u32]) {
-        (self.memory, self.bodies, self.table)
+        (self.lent.memory, self.lent.bodies, self.lent.table)
     }
 
     // ---- memory between calls
 
     /// The working memory.
     pub fn memory(&self) -> &[u8] {
-        self.memory
+        self.lent.memory
     }
 
     /// The working memory, for the program to write between calls.
@@ -140,7 +139,7 @@ impl<'a> Store<'a> {
     /// # Ok::<(), Box<dyn std::error::Error>>(())
     /// ```
     pub fn memory_mut(&mut self) -> &mut [u8] {
-        self.memory
+        self.lent.memory
     }
 
     /// The 64 bytes of a cell of memory.
@@ -160,7 +159,7 @@ impl<'a> Store<'a> {
     /// ```
     pub fn cell(&self, cell: u32) -> &[u8; CELL] {
         let first = cell as usize * CELL;
-        as_cell(&self.memory[first..first + CELL])
+        as_cell(&self.lent.memory[first..first + CELL])
     }
 
     /// The 64 bytes of a cell of memory, to be written. [`memory_mut`](Store::memory_mut) says
@@ -171,19 +170,19 @@ impl<'a> Store<'a> {
     /// Where memory has no such cell, as an index into a slice does.
     pub fn cell_mut(&mut self, cell: u32) -> &mut [u8; CELL] {
         let first = cell as usize * CELL;
-        (&mut self.memory[first..first + CELL])
+        (&mut self.lent.memory[first..first + CELL])
             .try_into()
             .expect("the part has 64 bytes")
     }
 
     /// The bodies, which are the kept bytes. Only the calls write them.
     pub fn bodies(&self) -> &[u8] {
-        self.bodies
+        self.lent.bodies
     }
 
     /// The table's words. Only the calls write them.
     pub fn table(&self) -> &[u32] {
-        self.table
+        self.lent.table
     }
 
     // ---- make and open
@@ -223,7 +222,7 @@ impl<'a> Store<'a> {
     /// # Ok::<(), Box<dyn std::error::Error>>(())
     /// ```
     pub fn make_with_budget(&mut self, budget: u64) -> Result<Outcome, Refusal> {
-        outcome(call::make(self.memory, self.bodies, self.table, budget))
+        outcome(self.lent.make(budget))
     }
 
     /// Opens a store: if a stopped call left changes pending, they are put in place. It is the
@@ -257,7 +256,7 @@ impl<'a> Store<'a> {
     /// As [`open`](Store::open), with a budget. A stopped opening is followed by another, as often
     /// as it takes.
     pub fn open_with_budget(&mut self, budget: u64) -> Result<Outcome, Refusal> {
-        outcome(call::open(self.memory, self.bodies, self.table, budget))
+        outcome(self.lent.open(budget))
     }
 
     // ---- domains
@@ -297,7 +296,7 @@ impl<'a> Store<'a> {
     /// As [`create`](Store::create), with a budget. A stopped create tells no handle:
     /// [`list`](Store::list) does, after the opening, if the domain is there.
     pub fn create_with_budget(&mut self, budget: u64) -> Result<Outcome<Handle>, Refusal> {
-        let (answer, handle) = call::create(self.memory, self.bodies, self.table, budget);
+        let (answer, handle) = self.lent.create(budget);
         Ok(match outcome(answer)? {
             Outcome::Done { steps, .. } => Outcome::Done {
                 steps,
@@ -362,14 +361,14 @@ impl<'a> Store<'a> {
         budget: u64,
     ) -> Result<Outcome, Refusal> {
         let (first, count) = first_and_count(cells);
-        let add = call::Add {
+        let add = Add {
             handle: domain.into().number(),
             first,
             count,
             kind: kind.number(),
             label: label.number(),
         };
-        outcome(call::add(self.memory, self.bodies, self.table, add, budget))
+        outcome(self.lent.add(add, budget))
     }
 
     /// Frees cells that a domain holds, in that domain only. A restore of it leaves them alone from
@@ -410,15 +409,8 @@ impl<'a> Store<'a> {
         budget: u64,
     ) -> Result<Outcome, Refusal> {
         let (first, count) = first_and_count(cells);
-        outcome(call::delete(
-            self.memory,
-            self.bodies,
-            self.table,
-            domain.into().number(),
-            first,
-            count,
-            budget,
-        ))
+        let handle = domain.into().number();
+        outcome(self.lent.delete(handle, first, count, budget))
     }
 
     /// Ends the innermost domain, which `domain` has to name, and keeps what the program wrote. Its
@@ -460,13 +452,7 @@ impl<'a> Store<'a> {
         domain: impl Into<Domain>,
         budget: u64,
     ) -> Result<Outcome, Refusal> {
-        outcome(call::commit(
-            self.memory,
-            self.bodies,
-            self.table,
-            domain.into().number(),
-            budget,
-        ))
+        outcome(self.lent.commit(domain.into().number(), budget))
     }
 
     /// Moves the checkpoint of the innermost domain, which `domain` has to name, to now: each of
@@ -525,13 +511,7 @@ impl<'a> Store<'a> {
         domain: impl Into<Domain>,
         budget: u64,
     ) -> Result<Outcome, Refusal> {
-        outcome(call::advance(
-            self.memory,
-            self.bodies,
-            self.table,
-            domain.into().number(),
-            budget,
-        ))
+        outcome(self.lent.advance(domain.into().number(), budget))
     }
 
     /// Goes back to the checkpoint of a domain: each cell that the domain or one inside it holds
@@ -593,13 +573,7 @@ impl<'a> Store<'a> {
         domain: impl Into<Domain>,
         budget: u64,
     ) -> Result<Outcome, Refusal> {
-        outcome(call::restore(
-            self.memory,
-            self.bodies,
-            self.table,
-            domain.into().number(),
-            budget,
-        ))
+        outcome(self.lent.restore(domain.into().number(), budget))
     }
 
     // ---- readings
@@ -611,7 +585,7 @@ impl<'a> Store<'a> {
     /// Those of every call: [`Lengths`](Refusal::Lengths), [`NoStore`](Refusal::NoStore),
     /// [`Pending`](Refusal::Pending), [`Corrupt`](Refusal::Corrupt).
     pub fn list(&self) -> Result<Handles, Refusal> {
-        let (number, words, live) = call::list(self.memory, self.bodies, self.table);
+        let (number, words, live) = self.lent.list();
         match number {
             ffi::DONE => Ok(Handles::from_words(words, live)),
             number => Err(refusal(number)),
@@ -642,21 +616,15 @@ impl<'a> Store<'a> {
     /// ```
     pub fn look(&self, domain: impl Into<Domain>, cell: u32) -> Result<&[u8; CELL], Refusal> {
         Ok(match self.look_place(domain, cell)? {
-            Place::Memory { offset } => as_cell(&self.memory[offset..offset + CELL]),
-            Place::Bodies { offset } => as_cell(&self.bodies[offset..offset + CELL]),
+            Place::Memory { offset } => as_cell(&self.lent.memory[offset..offset + CELL]),
+            Place::Bodies { offset } => as_cell(&self.lent.bodies[offset..offset + CELL]),
         })
     }
 
     /// Where the bytes stand that [`look`](Store::look) shows, with the same refusals. It also
     /// tells whether the cell is held at all.
     pub fn look_place(&self, domain: impl Into<Domain>, cell: u32) -> Result<Place, Refusal> {
-        let (number, place, offset) = call::look(
-            self.memory,
-            self.bodies,
-            self.table,
-            domain.into().number(),
-            cell,
-        );
+        let (number, place, offset) = self.lent.look(domain.into().number(), cell);
         if number != ffi::DONE {
             return Err(refusal(number));
         }
@@ -675,9 +643,9 @@ impl<'a> Store<'a> {
 impl fmt::Debug for Store<'_> {
     fn fmt(&self, f: &mut fmt::Formatter<'_>) -> fmt::Result {
         f.debug_struct("Store")
-            .field("memory_len", &self.memory.len())
-            .field("bodies_len", &self.bodies.len())
-            .field("table_len", &self.table.len())
+            .field("memory_len", &self.lent.memory.len())
+            .field("bodies_len", &self.lent.bodies.len())
+            .field("table_len", &self.lent.table.len())
             .finish()
     }
 }

@@ -2,7 +2,7 @@
 //! safe interface.
 
 use domain_store::{
-    Buffers, Domain, Handle, Innermost, Kind, Label, Outcome, Place, Refusal, Store, ffi,
+    Buffers, Domain, Handle, Innermost, Kind, Label, Outcome, Place, Refusal, Store, ffi::Lent,
 };
 
 fn fresh() -> Buffers {
@@ -390,123 +390,26 @@ fn the_largest_store_works() {
 
 #[test]
 fn the_raw_functions_set_their_out_parameters() {
-    let (memory, bodies, mut table) = ([0_u8; 64], [0_u8; 64], [5_u32; 42]);
+    let (mut memory, mut bodies, mut table) = ([0_u8; 64], [0_u8; 64], [5_u32; 42]);
+    let lent = Lent::new(&mut memory, &mut bodies, &mut table);
     let (mut steps, mut handle, mut handles, mut count) = (77, 77, [77; 8], 77);
+    let (mut place, mut offset) = (77, 77);
     // SAFETY: the arrays are as long as is said, and nothing overlaps.
     unsafe {
-        let t = table.as_mut_ptr();
-        assert_eq!(
-            ffi::ds_create(
-                memory.as_ptr(),
-                64,
-                bodies.as_ptr(),
-                64,
-                t,
-                42,
-                u64::MAX,
-                &mut steps,
-                &mut handle
-            ),
-            2
-        );
+        assert_eq!(lent.create(u64::MAX, &mut steps, &mut handle), 2);
         assert_eq!((steps, handle), (0, 0));
-        assert_eq!(
-            ffi::ds_list(
-                memory.as_ptr(),
-                64,
-                bodies.as_ptr(),
-                64,
-                t,
-                42,
-                handles.as_mut_ptr(),
-                &mut count
-            ),
-            2
-        );
+        assert_eq!(lent.list(handles.as_mut_ptr(), &mut count), 2);
         assert_eq!((handles, count), ([0; 8], 0));
-        let (mut place, mut offset) = (77, 77);
-        assert_eq!(
-            ffi::ds_look(
-                memory.as_ptr(),
-                64,
-                bodies.as_ptr(),
-                64,
-                t,
-                42,
-                0,
-                0,
-                &mut place,
-                &mut offset
-            ),
-            2
-        );
+        assert_eq!(lent.look(0, 0, &mut place, &mut offset), 2);
         assert_eq!((place, offset), (0, 0));
-        // Kind and label reach question 7 only from here.
-        assert_eq!(
-            ffi::ds_make(
-                memory.as_ptr(),
-                64,
-                bodies.as_ptr(),
-                64,
-                t,
-                42,
-                u64::MAX,
-                &mut steps
-            ),
-            0
-        );
+        assert_eq!(lent.make(u64::MAX, &mut steps), 0);
         assert_eq!(steps, 19);
-        assert_eq!(
-            ffi::ds_create(
-                memory.as_ptr(),
-                64,
-                bodies.as_ptr(),
-                64,
-                t,
-                42,
-                u64::MAX,
-                &mut steps,
-                &mut handle
-            ),
-            0
-        );
-        let mut kept = [0_u8; 64];
-        assert_eq!(
-            ffi::ds_add(
-                memory.as_ptr(),
-                64,
-                kept.as_mut_ptr(),
-                64,
-                t,
-                42,
-                handle,
-                0,
-                1,
-                2,
-                0,
-                u64::MAX,
-                &mut steps
-            ),
-            7
-        );
-        assert_eq!(steps, 0);
-        assert_eq!(
-            ffi::ds_add(
-                memory.as_ptr(),
-                64,
-                kept.as_mut_ptr(),
-                64,
-                t,
-                42,
-                handle,
-                0,
-                1,
-                0,
-                2,
-                u64::MAX,
-                &mut steps
-            ),
-            7
-        );
+        assert_eq!(lent.create(u64::MAX, &mut steps, &mut handle), 0);
+        // Kind and label reach question 7 only from here.
+        for (kind, label) in [(2, 0), (0, 2)] {
+            steps = 77;
+            let number = lent.add(handle, 0, 1, kind, label, u64::MAX, &mut steps);
+            assert_eq!((number, steps), (7, 0));
+        }
     }
 }

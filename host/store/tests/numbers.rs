@@ -176,23 +176,8 @@ fn by_number(buffers: &mut Buffers) -> Option<Refusal> {
     let (memory, bodies, table) = buffers.store().into_buffers();
     let mut steps = 0;
     // SAFETY: three slices with their lengths, and an out parameter of its own.
-    let number = unsafe {
-        ffi::ds_add(
-            memory.as_ptr(),
-            memory.len(),
-            bodies.as_mut_ptr(),
-            bodies.len(),
-            table.as_mut_ptr(),
-            table.len(),
-            0,
-            0,
-            1,
-            2,
-            0,
-            u64::MAX,
-            &mut steps,
-        )
-    };
+    let number =
+        unsafe { ffi::Lent::new(memory, bodies, table).add(0, 0, 1, 2, 0, u64::MAX, &mut steps) };
     Refusal::from_number(number)
 }
 

@@ -2,36 +2,18 @@
 //! each: refused or made as the model says.
 
 use crate::{agreed, fail, library};
-use domain_model::{Call, Model, Sizes};
-use domain_sessions::buffers::Buffers;
+use domain_model::{Buffers, Call, FULL, Model, Sizes};
 use domain_sessions::check::{Checker, Line, Mismatch};
 
 fn every_bit(checker: &mut Checker, line: &Line) -> Result<(), Mismatch> {
-    let calls = [
-        Call::Open,
-        Call::Create,
-        Call::Add {
-            handle: 0,
-            first: 1,
-            count: 1,
-            kind: 0,
-            label: 1,
-        },
-        Call::Delete {
-            handle: 1,
-            first: 0,
-            count: 1,
-        },
-        Call::Commit { handle: 0 },
-        Call::Advance { handle: 0 },
-        Call::Restore { handle: 1 },
-        Call::List,
-        Call::Look { handle: 2, cell: 0 },
-    ];
-    for word in 0..line.buffers.table.get().len() {
+    // All but make, which asks nothing of a table: once about the outer domain and a cell that both
+    // hold, once about the inner one and a cell that nobody holds.
+    let (outer, inner) = (Call::one_of_each(1, 0), Call::one_of_each(2, 1));
+    let calls = [&outer[1..], &inner[1..]].concat();
+    for word in 0..line.buffers.table.len() {
         for bit in 0..32 {
             let mut flipped = line.buffers.clone();
-            flipped.table.get_mut()[word] ^= 1 << bit;
+            flipped.table[word] ^= 1 << bit;
             let flipped = Line::new(flipped, checker.model);
             checker.tally.damaged += 1;
             for call in &calls {
@@ -40,7 +22,7 @@ fn every_bit(checker: &mut Checker, line: &Line) -> Result<(), Mismatch> {
                     what: m.what,
                 };
                 checker
-                    .call(&mut flipped.clone(), call, u64::MAX)
+                    .call(&mut flipped.clone(), call, FULL)
                     .map_err(told)?;
             }
         }
@@ -56,30 +38,23 @@ fn every_bit_of_a_small_table() {
         Buffers::any(Sizes { m: 3, e: 4, b: 3 }.lengths(), 8),
         checker.model,
     );
-    let add = |first, kind, label| Call::Add {
-        handle: 0,
-        first,
-        count: 1,
-        kind,
-        label,
-    };
     let mut played = || -> Result<(), Mismatch> {
         for call in [
             Call::Make,
             Call::Create,
-            add(0, 0, 1),
+            Call::copy(0, 1, 1),
             Call::Create,
-            add(0, 1, 1),
-            add(2, 0, 0),
+            Call::via_parent(0, 1, 1),
+            Call::copy(2, 1, 0),
         ] {
-            checker.call(&mut line, &call, u64::MAX)?;
+            checker.call(&mut line, &call, FULL)?;
         }
         every_bit(&mut checker, &line)?;
         // A restore cut when its pairs are stored: two domains, three entries, all kinds of named
         // words.
         let mut pending = line.clone();
         checker.call(&mut pending, &Call::Restore { handle: 1 }, 128 + 2 * 6 + 3)?;
-        assert!(pending.buffers.table.get()[6] != 0);
+        assert!(pending.buffers.table[6] != 0);
         every_bit(&mut checker, &pending)
     };
     if let Err(m) = played() {

@@ -1,12 +1,12 @@
 //! Document 01's edges on the lent buffers, and fixed cases at both ends of the sizes.
 
 use crate::{agreed, fail, library};
+use domain_model::calls::REFUSALS;
 use domain_model::edges::{Line as Edge, scripts};
-use domain_model::{Call, Lengths, Model, Sizes};
-use domain_sessions::buffers::Buffers;
+use domain_model::{Buffers, Call, FULL, Lengths, Model, Sizes, Store};
+use domain_sessions::StandIn;
 use domain_sessions::check::{Checker, Line};
-use domain_sessions::session::{Input, Session};
-use domain_sessions::store::{StandIn, Store};
+use domain_sessions::session::{Input, Made, Session};
 
 /// The stand-in goes first, to show that a script itself is right; the account is the library's.
 fn both(script: impl Fn(&mut Checker)) {
@@ -24,15 +24,13 @@ fn both(script: impl Fn(&mut Checker)) {
 
 fn made(checker: &mut Checker, sizes: Sizes) -> Line {
     let mut line = Line::new(Buffers::any(sizes.lengths(), 5), checker.model);
-    line.buffers.memory.get_mut().fill(0);
+    line.buffers.memory.fill(0);
     done(checker, &mut line, &Call::Make);
     line
 }
 
 fn done(checker: &mut Checker, line: &mut Line, call: &Call) {
-    let reply = checker
-        .call(line, call, u64::MAX)
-        .unwrap_or_else(|m| fail(m));
+    let reply = checker.call(line, call, FULL).unwrap_or_else(|m| fail(m));
     assert_eq!(reply.code, 0, "{call}");
 }
 
@@ -44,37 +42,35 @@ fn every_edge() {
             let mut line = made(checker, script.sizes);
             for edge in &script.lines {
                 match edge {
-                    Edge::Fill(cell, byte) => {
-                        line.buffers.memory.get_mut()[64 * *cell as usize..][..64].fill(*byte)
-                    }
-                    Edge::Call(call, answer) => {
+                    Edge::Fill(cell, byte) => line.buffers.write_cell(*cell, &[*byte; 64]),
+                    Edge::Answers(call, answer) => {
                         checker
                             .every_cut(&line, call, 3)
                             .unwrap_or_else(|m| panic!("{name}: {}: {}", m.call, m.what));
                         let reply = checker
-                            .call(&mut line, call, u64::MAX)
+                            .call(&mut line, call, FULL)
                             .unwrap_or_else(|m| panic!("{name}: {}: {}", m.call, m.what));
                         assert_eq!(reply.code, *answer, "{name}: {call}");
                     }
                     Edge::CreateGives(handle) => {
                         let reply = checker
-                            .call(&mut line, &Call::Create, u64::MAX)
+                            .call(&mut line, &Call::Create, FULL)
                             .unwrap_or_else(|m| panic!("{name}: {}: {}", m.call, m.what));
                         assert_eq!((reply.code, reply.handle), (0, *handle), "{name}");
                     }
                     Edge::See(cell, byte) => assert_eq!(
-                        line.buffers.memory.get()[64 * *cell as usize..][..64],
+                        line.buffers.memory[64 * *cell as usize..][..64],
                         [*byte; 64],
                         "{name}"
                     ),
                     Edge::Live(n) => {
                         let reply = checker
-                            .call(&mut line, &Call::List, u64::MAX)
+                            .call(&mut line, &Call::List, FULL)
                             .unwrap_or_else(|m| panic!("{name}: {}", m.what));
                         assert_eq!(reply.count as usize, *n, "{name}");
                     }
                     Edge::Set(word, value) => {
-                        line.buffers.table.get_mut()[*word] = *value;
+                        line.buffers.table[*word] = *value;
                         line = Line::new(line.buffers.clone(), checker.model);
                     }
                 }
@@ -86,28 +82,7 @@ fn every_edge() {
 /// Every call on every length that is nearly right.
 #[test]
 fn lengths() {
-    let calls = [
-        Call::Make,
-        Call::Open,
-        Call::Create,
-        Call::Add {
-            handle: 0,
-            first: 0,
-            count: 1,
-            kind: 0,
-            label: 1,
-        },
-        Call::Delete {
-            handle: 0,
-            first: 0,
-            count: 1,
-        },
-        Call::Commit { handle: 0 },
-        Call::Advance { handle: 0 },
-        Call::Restore { handle: 0 },
-        Call::List,
-        Call::Look { handle: 0, cell: 0 },
-    ];
+    let calls = Call::one_of_each(0, 0);
     both(|checker| {
         let line = made(checker, Sizes { m: 2, e: 1, b: 1 });
         let right = line.buffers.lengths();
@@ -132,7 +107,7 @@ fn lengths() {
             for call in &calls[..few] {
                 let mut other = Line::new(line.buffers.resized(lengths), checker.model);
                 let reply = checker
-                    .call(&mut other, call, u64::MAX)
+                    .call(&mut other, call, FULL)
                     .unwrap_or_else(|m| panic!("{lengths:?}: {}: {}", m.call, m.what));
                 if lengths.sizes().is_none() {
                     assert_eq!(reply.code, 1, "{lengths:?}: {call}");
@@ -145,31 +120,20 @@ fn lengths() {
 /// The largest store: nearly all entries and bodies in use, some calls cut at their joints.
 #[test]
 fn the_largest_store() {
-    let cut = |call| Input::Call {
-        call,
-        budget: u64::MAX,
-        openings: vec![],
-        every_cut: Some(11),
+    let plain = |call| Input::Call(Made::with_budget(call, FULL));
+    let cut = |call| {
+        Input::Call(Made {
+            every_cut: Some(11),
+            ..Made::with_budget(call, FULL)
+        })
     };
-    let plain = |call| Input::Call {
-        call,
-        budget: u64::MAX,
-        openings: vec![],
-        every_cut: None,
+    let stopped = |call, budget| {
+        Input::Call(Made {
+            openings: vec![3, 700],
+            ..Made::with_budget(call, budget)
+        })
     };
-    let stopped = |call, budget| Input::Call {
-        call,
-        budget,
-        openings: vec![3, 700],
-        every_cut: None,
-    };
-    let add = |first, count, kind, label| Call::Add {
-        handle: 0,
-        first,
-        count,
-        kind,
-        label,
-    };
+    let add = Call::add;
     let write = |at: usize, byte| Input::Write {
         at,
         bytes: vec![byte; 5000],
@@ -197,11 +161,7 @@ fn the_largest_store() {
             write(64 * 65_100 + 3, 9),
             plain(Call::Advance { handle: 2 }),
             plain(Call::Advance { handle: 2 }),
-            plain(Call::Delete {
-                handle: 2,
-                first: 1000,
-                count: 560,
-            }),
+            plain(Call::delete(2, 1000, 560)),
             stopped(Call::Advance { handle: 2 }, 64 * 500 + 2 * 1000 + 1),
             cut(Call::Advance { handle: 2 }),
             write(64 * 65_300 + 40, 8),
@@ -230,7 +190,7 @@ fn the_largest_store() {
     );
     // One add past memory, three without a free entry, one advance without free bodies; all else
     // was done or stopped.
-    let refused: Vec<(u32, u64)> = (1..=17)
+    let refused: Vec<(u32, u64)> = REFUSALS
         .map(|n| (n, checker.tally.answered(n)))
         .filter(|(_, times)| *times > 0)
         .collect();
@@ -253,28 +213,12 @@ fn the_smallest_store() {
         let mut line = made(checker, Sizes { m: 1, e: 1, b: 1 });
         for call in [
             Call::Create,
-            Call::Add {
-                handle: 1,
-                first: 0,
-                count: 1,
-                kind: 0,
-                label: 0,
-            },
-            Call::Add {
-                handle: 1,
-                first: 0,
-                count: 1,
-                kind: 1,
-                label: 1,
-            },
+            Call::copy(0, 1, 0).on(1),
+            Call::via_parent(0, 1, 1).on(1),
             Call::Create,
             Call::Restore { handle: 2 },
             Call::Commit { handle: 2 },
-            Call::Delete {
-                handle: 1,
-                first: 0,
-                count: 1,
-            },
+            Call::delete(1, 0, 1),
             Call::Advance { handle: 1 },
             Call::Restore { handle: 1 },
             Call::Commit { handle: 1 },

@@ -2,9 +2,9 @@
 //! sessions.
 
 use crate::library;
-use domain_model::Fault;
+use domain_model::{Fault, Store};
+use domain_sessions::StandIn;
 use domain_sessions::run::{Failure, Plan, run};
-use domain_sessions::store::{StandIn, Store};
 use std::time::Duration;
 
 /// How an error was found: after so many sessions and calls, at this difference. None if it was

@@ -9,17 +9,17 @@ mod small;
 #[cfg(all(feature = "linked", target_os = "linux"))]
 mod walls;
 
+use domain_model::Store;
 use domain_sessions::check::{Mismatch, Tally};
 use domain_sessions::run::short;
-use domain_sessions::store::Store;
 use std::sync::Mutex;
 
 /// The linked library; without it, the stand-in.
 fn library() -> Box<dyn Store> {
     #[cfg(feature = "linked")]
-    return Box::new(domain_sessions::store::Linked);
+    return Box::new(domain_lend::Linked);
     #[cfg(not(feature = "linked"))]
-    return Box::new(domain_sessions::store::StandIn { fault: None });
+    return Box::new(domain_sessions::StandIn { fault: None });
 }
 
 fn fail(m: Mismatch) -> ! {

@@ -2,10 +2,9 @@
 //! each of them.
 
 use crate::found;
-use domain_model::Call;
-use domain_sessions::buffers::Buffers;
+use domain_model::{Buffers, Call, Reply, STOPPED, Store};
+use domain_sessions::StandIn;
 use domain_sessions::run::{Plan, run};
-use domain_sessions::store::{Reply, STOPPED, StandIn, Store};
 use std::time::Duration;
 
 /// What is done after a call.
@@ -52,60 +51,60 @@ fn each_small_thing_is_seen() {
     let list: [(&str, Meddle); 16] = [
         ("one byte past memory", |b, c, _| {
             if matches!(c, Call::Restore { .. }) {
-                past(b.memory.get_mut(), |v| v ^ 1)
+                past(&mut b.memory, |v| v ^ 1)
             }
         }),
         ("one byte before memory", |b, c, _| {
             if matches!(c, Call::Restore { .. }) {
-                before(b.memory.get_mut(), |v| v ^ 1)
+                before(&mut b.memory, |v| v ^ 1)
             }
         }),
         ("one byte past the bodies", |b, c, _| {
             if matches!(c, Call::Advance { .. }) {
-                past(b.bodies.get_mut(), |v| v ^ 1)
+                past(&mut b.bodies, |v| v ^ 1)
             }
         }),
         ("one byte before the bodies", |b, c, _| {
             if matches!(c, Call::Advance { .. }) {
-                before(b.bodies.get_mut(), |v| v ^ 1)
+                before(&mut b.bodies, |v| v ^ 1)
             }
         }),
         ("one word past the table", |b, c, _| {
             if *c == Call::Make {
-                past(b.table.get_mut(), |v| v ^ 1)
+                past(&mut b.table, |v| v ^ 1)
             }
         }),
         ("one word before the table", |b, c, _| {
             if *c == Call::Open {
-                before(b.table.get_mut(), |v| v ^ 1)
+                before(&mut b.table, |v| v ^ 1)
             }
         }),
         ("a spare pair in a refused call", |b, _, r| {
-            let last = b.table.get().len() - 1;
+            let last = b.table.len() - 1;
             if r.code == 17 {
-                flip(b.table.get_mut(), last, |v| v ^ 1);
+                flip(&mut b.table, last, |v| v ^ 1);
             }
         }),
         ("a body byte in a refused call", |b, _, r| {
             if r.code == 12 {
-                flip(b.bodies.get_mut(), 0, |v| v ^ 1)
+                flip(&mut b.bodies, 0, |v| v ^ 1)
             }
         }),
         ("a memory byte in a look", |b, c, _| {
             if matches!(c, Call::Look { .. }) {
-                flip(b.memory.get_mut(), 63, |v| v ^ 1)
+                flip(&mut b.memory, 63, |v| v ^ 1)
             }
         }),
         ("a spare pair in a stopped opening", |b, c, r| {
-            let last = b.table.get().len() - 1;
+            let last = b.table.len() - 1;
             if *c == Call::Open && r.code == STOPPED {
-                flip(b.table.get_mut(), last, |v| v ^ 1);
+                flip(&mut b.table, last, |v| v ^ 1);
             }
         }),
         ("a body byte in a delete", |b, c, r| {
-            let last = b.bodies.get().len() - 1;
+            let last = b.bodies.len() - 1;
             if matches!(c, Call::Delete { .. }) && r.code == 0 {
-                flip(b.bodies.get_mut(), last, |v| v ^ 1);
+                flip(&mut b.bodies, last, |v| v ^ 1);
             }
         }),
         ("a stopped create that tells a handle", |_, c, r| {

@@ -1,9 +1,10 @@
 //! Random sessions with fixed seeds: no difference, and deep enough to mean something.
 
 use crate::{agreed, library};
+use domain_model::{Store, calls::REFUSALS};
+use domain_sessions::StandIn;
 use domain_sessions::check::Tally;
 use domain_sessions::run::{Plan, long, run};
-use domain_sessions::store::{StandIn, Store};
 
 fn no_difference(store: &dyn Store, seed: u64, sessions: u64) -> Tally {
     let (tally, failure) = run(store, Plan::sessions(seed, sessions));
@@ -20,7 +21,7 @@ fn the_store_and_the_model_agree() {
     agreed(&tally);
     println!("{}", long(&tally));
     // A run that never gets to a question says nothing about it.
-    for number in (1..=17).filter(|n| *n != 10) {
+    for number in REFUSALS.filter(|n| *n != 10) {
         assert!(
             tally.answered(number) >= 20,
             "answer {number} came {} times",

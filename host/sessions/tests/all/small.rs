@@ -4,11 +4,9 @@
 //! handles only are looked at once.
 
 use crate::{agreed, library};
-use domain_model::{Call, Holding, Kept, Model, Notebook, Sizes};
-use domain_sessions::buffers::Buffers;
+use domain_model::{Buffers, Call, FULL, Holding, Kept, Model, Notebook, Sizes, Store};
 use domain_sessions::check::{Checker, Line, Mismatch};
 use domain_sessions::run::short;
-use domain_sessions::store::Store;
 use std::collections::{BTreeSet, VecDeque};
 
 type Key = (Vec<Vec<(u32, bool, Option<u8>)>>, Vec<u8>);
@@ -31,7 +29,7 @@ fn key(line: &Line) -> Key {
         .collect();
     (
         domains,
-        line.buffers.memory.get().chunks(64).map(|c| c[0]).collect(),
+        line.buffers.memory.chunks(64).map(|c| c[0]).collect(),
     )
 }
 
@@ -42,8 +40,8 @@ fn walk(
 ) -> Result<(usize, Checker<'_>), Mismatch> {
     let mut checker = Checker::new(store, Model::default());
     let mut line = Line::new(Buffers::any(sizes.lengths(), 5), checker.model);
-    line.buffers.memory.get_mut().fill(0);
-    checker.call(&mut line, &Call::Make, u64::MAX)?;
+    line.buffers.memory.fill(0);
+    checker.call(&mut line, &Call::Make, FULL)?;
     line.notebook = Some(Notebook::new(None));
     let mut seen: BTreeSet<Key> = BTreeSet::from([key(&line)]);
     let mut waiting = VecDeque::from([line]);
@@ -61,23 +59,13 @@ fn walk(
             .collect();
         for (first, count) in &ranges {
             for (kind, label) in [(0, 0), (0, 1), (1, 0), (1, 1)] {
-                calls.push(Call::Add {
-                    handle: 0,
-                    first: *first,
-                    count: *count,
-                    kind,
-                    label,
-                });
+                calls.push(Call::add(*first, *count, kind, label));
             }
         }
         for handle in live.iter().map(|d| d.handle).chain([0, 1000]) {
             calls.push(Call::Restore { handle });
             for (first, count) in &ranges {
-                calls.push(Call::Delete {
-                    handle,
-                    first: *first,
-                    count: *count,
-                });
+                calls.push(Call::delete(handle, *first, *count));
                 calls.push(Call::Look {
                     handle,
                     cell: *first,
@@ -90,16 +78,17 @@ fn walk(
             }
             checker.every_cut(&line, &call, seen.len() as u64)?;
             let mut after = line.clone();
-            checker.call(&mut after, &call, u64::MAX)?;
+            checker.call(&mut after, &call, FULL)?;
             if seen.insert(key(&after)) {
                 waiting.push_back(after);
             }
         }
         // The program writes one of two bytes.
-        for (cell, byte) in (0..sizes.m as usize).flat_map(|cell| [(cell, 0), (cell, 1)]) {
+        for (cell, byte) in (0..sizes.m).flat_map(|cell| [(cell, 0), (cell, 1)]) {
             let mut after = line.clone();
-            after.buffers.memory.get_mut()[64 * cell..64 * cell + 64].fill(byte);
-            after.notebook.as_mut().expect("kept").write(64 * cell, 64);
+            after.buffers.write_cell(cell, &[byte; 64]);
+            let notebook = after.notebook.as_mut().expect("kept");
+            notebook.write(64 * cell as usize, 64);
             if seen.insert(key(&after)) {
                 waiting.push_back(after);
             }

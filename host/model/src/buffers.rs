@@ -1,11 +1,21 @@
 //! The three lent buffers, each with guard elements on both sides: a store outside a buffer is seen
 //! at once.
 
+use crate::calls::{Lengths, Sizes};
 use crate::rng::Rng;
-use domain_model::{Broken, Decoded, Fault, Lengths, table};
+use std::fmt::LowerHex;
+use std::ops::{Deref, DerefMut};
+
+/// Which of the lent buffers.
+#[derive(Clone, Copy, PartialEq, Eq, Debug)]
+pub enum Buffer {
+    Memory,
+    Bodies,
+    Table,
+}
 
 /// A value with a pattern that guards are filled with.
-pub trait Pattern: Copy + Eq {
+pub trait Pattern: Copy + Eq + Default + LowerHex {
     fn pattern(at: usize) -> Self;
 }
 
@@ -27,11 +37,12 @@ impl Pattern for u64 {
     }
 }
 
-/// Guard elements on each side: more than a cell, so that a store one cell off is seen too.
-const GUARD: usize = 80;
+/// Guard elements on each side: more than a cell, so that a store one cell off is seen too, and a
+/// multiple of 64, so that a buffer that is not shifted stands where an allocation would.
+const GUARD: usize = 128;
 
-/// A run of elements with guards around it.
-#[derive(Clone, PartialEq, Eq)]
+/// A run of elements with guards around it. It is a slice of the elements in every respect.
+#[derive(Clone)]
 pub struct Guarded<T> {
     all: Vec<T>,
     from: usize,
@@ -49,19 +60,15 @@ impl<T: Pattern> Guarded<T> {
         Guarded { all, from, len }
     }
 
-    pub fn get(&self) -> &[T] {
-        &self.all[self.from..self.from + self.len]
-    }
-
-    pub fn get_mut(&mut self) -> &mut [T] {
-        &mut self.all[self.from..self.from + self.len]
+    /// These elements in a buffer of another length: cut off, or followed by zeros.
+    fn resized(&self, len: usize) -> Guarded<T> {
+        Guarded::new(len, 0, |at| self.get(at).copied().unwrap_or_default())
     }
 
     /// Where the first guard element that lost its value lies, counted from the buffer's start.
-    pub fn strayed(&self) -> Option<isize> {
-        let outside = (0..self.from).chain(self.from + self.len..self.all.len());
+    fn strayed(&self) -> Option<isize> {
+        let mut outside = (0..self.from).chain(self.from + self.len..self.all.len());
         outside
-            .into_iter()
             .find(|at| self.all[*at] != T::pattern(*at))
             .map(|at| at as isize - self.from as isize)
     }
@@ -72,7 +79,42 @@ impl<T: Pattern> Guarded<T> {
         self.all.clear();
         self.all.extend_from_slice(&other.all);
     }
+
+    /// The first element that is not as it should be, in words.
+    fn differs(&self, name: &str, should: &Guarded<T>) -> Option<String> {
+        if self.len != should.len {
+            return Some(format!("{name} has another length"));
+        }
+        let at = self.iter().zip(&**should).position(|(a, b)| a != b)?;
+        Some(format!(
+            "{name}[{at}] is 0x{:x} and should be 0x{:x}",
+            self[at], should[at]
+        ))
+    }
 }
+
+impl<T> Deref for Guarded<T> {
+    type Target = [T];
+
+    fn deref(&self) -> &[T] {
+        &self.all[self.from..self.from + self.len]
+    }
+}
+
+impl<T> DerefMut for Guarded<T> {
+    fn deref_mut(&mut self) -> &mut [T] {
+        &mut self.all[self.from..self.from + self.len]
+    }
+}
+
+/// The elements count; the guards have a question of their own.
+impl<T: Eq> PartialEq for Guarded<T> {
+    fn eq(&self, other: &Guarded<T>) -> bool {
+        **self == **other
+    }
+}
+
+impl<T: Eq> Eq for Guarded<T> {}
 
 /// Memory, bodies and table.
 #[derive(Clone, PartialEq, Eq)]
@@ -83,6 +125,15 @@ pub struct Buffers {
 }
 
 impl Buffers {
+    /// Buffers in which all bytes are the same, and all words.
+    pub fn filled(lengths: Lengths, byte: u8, word: u32) -> Buffers {
+        Buffers {
+            memory: Guarded::new(lengths.memory, 0, |_| byte),
+            bodies: Guarded::new(lengths.bodies, 0, |_| byte),
+            table: Guarded::new(lengths.table, 0, |_| word),
+        }
+    }
+
     /// Buffers of these lengths with any contents: what a program lends before make.
     pub fn any(lengths: Lengths, seed: u64) -> Buffers {
         let mut rng = Rng::new(seed);
@@ -90,30 +141,20 @@ impl Buffers {
         // Contents that differ from byte to byte, yet with many zeros: both kinds of leftover are
         // met in practice.
         let zeros = rng.chance(300);
-        let byte = |rng: &mut Rng| if zeros { 0 } else { rng.draw() as u8 };
-        let memory = Guarded::new(lengths.memory, shift.0, |_| byte(&mut rng));
-        let bodies = Guarded::new(lengths.bodies, shift.1, |_| byte(&mut rng));
-        let table = Guarded::new(
-            lengths.table,
-            0,
-            |_| if zeros { 0 } else { rng.draw() as u32 },
-        );
+        let mut draw = |_| if zeros { 0 } else { rng.draw() };
         Buffers {
-            memory,
-            bodies,
-            table,
+            memory: Guarded::new(lengths.memory, shift.0, |at| draw(at) as u8),
+            bodies: Guarded::new(lengths.bodies, shift.1, |at| draw(at) as u8),
+            table: Guarded::new(lengths.table, 0, |at| draw(at) as u32),
         }
     }
 
     /// These contents in buffers of other lengths: cut off, or followed by zeros.
     pub fn resized(&self, lengths: Lengths) -> Buffers {
-        fn part<T: Copy + Default>(from: &[T]) -> impl FnMut(usize) -> T + '_ {
-            |at| from.get(at).copied().unwrap_or_default()
-        }
         Buffers {
-            memory: Guarded::new(lengths.memory, 0, part(self.memory.get())),
-            bodies: Guarded::new(lengths.bodies, 0, part(self.bodies.get())),
-            table: Guarded::new(lengths.table, 0, part(self.table.get())),
+            memory: self.memory.resized(lengths.memory),
+            bodies: self.bodies.resized(lengths.bodies),
+            table: self.table.resized(lengths.table),
         }
     }
 
@@ -125,6 +166,12 @@ impl Buffers {
         }
     }
 
+    /// The sizes of a store in these buffers; only for buffers whose lengths are known to be
+    /// allowed.
+    pub fn sizes(&self) -> Sizes {
+        self.lengths().sizes().expect("allowed lengths")
+    }
+
     /// Takes over the contents of other buffers without new allocations: this is done for every
     /// cut.
     pub fn copy_from(&mut self, other: &Buffers) {
@@ -133,8 +180,9 @@ impl Buffers {
         self.table.copy_from(&other.table);
     }
 
-    pub fn decode(&self, fault: Option<Fault>) -> Result<Decoded, Broken> {
-        table::decode(self.memory.len, self.bodies.get(), self.table.get(), fault)
+    /// The program writes a cell.
+    pub fn write_cell(&mut self, cell: u32, bytes: &[u8; 64]) {
+        self.memory[64 * cell as usize..][..64].copy_from_slice(bytes);
     }
 
     /// The first guard element that lost its value, in words.
@@ -152,28 +200,9 @@ impl Buffers {
     /// The first place where two sets of buffers differ, in words: `self` is what is there, `other`
     /// what should be.
     pub fn differs(&self, other: &Buffers) -> Option<String> {
-        if self == other {
-            return None;
-        }
-        fn first<T: Pattern + std::fmt::LowerHex>(
-            name: &str,
-            is: &Guarded<T>,
-            should: &Guarded<T>,
-        ) -> Option<String> {
-            let at = is
-                .get()
-                .iter()
-                .zip(should.get())
-                .position(|(a, b)| a != b)?;
-            Some(format!(
-                "{name}[{at}] is 0x{:x} and should be 0x{:x}",
-                is.get()[at],
-                should.get()[at]
-            ))
-        }
-        first("memory", &self.memory, &other.memory)
-            .or_else(|| first("bodies", &self.bodies, &other.bodies))
-            .or_else(|| first("table", &self.table, &other.table))
-            .or_else(|| Some("guards differ".into()))
+        self.memory
+            .differs("memory", &other.memory)
+            .or_else(|| self.bodies.differs("bodies", &other.bodies))
+            .or_else(|| self.table.differs("table", &other.table))
     }
 }
