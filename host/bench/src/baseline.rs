@@ -483,9 +483,11 @@ fn put_in_place(
     stores.word(table, 6, 0)
 }
 
-/// The answer and the steps of a call that was not refused.
+/// The answer and the steps of a call that was not refused. The calls are functions of their own in the machine code too: in one frame all of
+/// their rooms would stand side by side, and a frame is touched page by page.
 type Answer = (u32, u64);
 
+#[inline(never)]
 fn make(lent: Slices, budget: u64) -> Result<Answer, u32> {
     let shape = shape(&lent)?;
     let mut stores = Stores::new(budget);
@@ -505,6 +507,7 @@ fn make(lent: Slices, budget: u64) -> Result<Answer, u32> {
     Ok(stores.answer(end))
 }
 
+#[inline(never)]
 fn open(lent: Slices, budget: u64) -> Result<Answer, u32> {
     let shape = header(&lent)?;
     let table = lent.table;
@@ -523,6 +526,7 @@ fn open(lent: Slices, budget: u64) -> Result<Answer, u32> {
 }
 
 /// The answer, the steps and the new handle (0 unless done).
+#[inline(never)]
 fn create(lent: Slices, budget: u64) -> Result<(Answer, u32), u32> {
     let mut marks_room = room();
     let shape = check(&lent, &mut Marks::new(&mut marks_room))?;
@@ -547,6 +551,7 @@ fn create(lent: Slices, budget: u64) -> Result<(Answer, u32), u32> {
     Ok((answer, if answer.0 == 0 { handle } else { 0 }))
 }
 
+#[inline(never)]
 fn add(lent: Slices, add: Add, budget: u64) -> Result<Answer, u32> {
     let Add {
         handle,
@@ -568,7 +573,12 @@ fn add(lent: Slices, add: Add, budget: u64) -> Result<Answer, u32> {
         return Err(7);
     }
     let range = range(first, count, shape.cells)?;
-    let fresh = || range.clone().filter(|&cell| !marks.holds(depth, cell));
+    let holders = &*marks.holders;
+    let fresh = || {
+        range
+            .clone()
+            .filter(move |&cell| holders[cell] >> (depth - 1) & 1 == 0)
+    };
     let new = fresh().count();
     if kind == 1 && new > 0 {
         if depth == 1 || fresh().any(|cell| !marks.holds(depth - 1, cell)) {
@@ -623,6 +633,7 @@ fn add(lent: Slices, add: Add, budget: u64) -> Result<Answer, u32> {
     Ok(stores.answer(end))
 }
 
+#[inline(never)]
 fn delete(lent: Slices, handle: u32, first: u32, count: u32, budget: u64) -> Result<Answer, u32> {
     let mut marks_room = room();
     let mut marks = Marks::new(&mut marks_room);
@@ -654,6 +665,7 @@ fn delete(lent: Slices, handle: u32, first: u32, count: u32, budget: u64) -> Res
     Ok(stores.answer(end))
 }
 
+#[inline(never)]
 fn commit(lent: Slices, handle: u32, budget: u64) -> Result<Answer, u32> {
     let mut marks_room = room();
     let mut marks = Marks::new(&mut marks_room);
@@ -700,6 +712,7 @@ fn commit(lent: Slices, handle: u32, budget: u64) -> Result<Answer, u32> {
     Ok(stores.answer(end))
 }
 
+#[inline(never)]
 fn advance(lent: Slices, handle: u32, budget: u64) -> Result<Answer, u32> {
     let mut marks_room = room();
     let mut marks = Marks::new(&mut marks_room);
@@ -754,6 +767,7 @@ fn advance(lent: Slices, handle: u32, budget: u64) -> Result<Answer, u32> {
     Ok(stores.answer(end))
 }
 
+#[inline(never)]
 fn restore(lent: Slices, handle: u32, budget: u64) -> Result<Answer, u32> {
     let mut marks_room = room();
     let mut marks = Marks::new(&mut marks_room);
@@ -807,6 +821,7 @@ fn restore(lent: Slices, handle: u32, budget: u64) -> Result<Answer, u32> {
 }
 
 /// The handles outermost first, and their number.
+#[inline(never)]
 fn list(lent: &Slices) -> Result<([u32; 8], u32), u32> {
     let mut marks_room = room();
     check(lent, &mut Marks::new(&mut marks_room))?;
@@ -816,6 +831,7 @@ fn list(lent: &Slices) -> Result<([u32; 8], u32), u32> {
 }
 
 /// Where a looked-for cell stands: the place (1 memory, 2 bodies) and the offset of its 64 bytes.
+#[inline(never)]
 fn look(lent: &Slices, handle: u32, cell: u32) -> Result<(u32, u64), u32> {
     let mut marks_room = room();
     let shape = check(lent, &mut Marks::new(&mut marks_room))?;
