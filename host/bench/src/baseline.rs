@@ -84,6 +84,9 @@ impl<T: Copy> DerefMut for Front<'_, T> {
     }
 }
 
+/// Room for the marks of the largest store.
+type MarksRoom = [MaybeUninit<u8>; MAX_CELLS + MAX_PLACES];
+
 /// What the pass over the table found out, for the later questions.
 struct Marks<'a> {
     /// For each cell, bit d - 1 tells that depth d holds it.
@@ -95,7 +98,7 @@ struct Marks<'a> {
 }
 
 impl<'a> Marks<'a> {
-    fn new(room: &'a mut [MaybeUninit<u8>; MAX_CELLS + MAX_PLACES]) -> Self {
+    fn new(room: &'a mut MarksRoom) -> Self {
         let (cells, bodies) = room.split_at_mut(MAX_CELLS);
         Marks {
             holders: Front::new(cells),
@@ -256,13 +259,14 @@ fn check_pending(table: &[u32], shape: Shape, marks: &mut Marks) -> bool {
 }
 
 /// Questions 1 to 4, as every call but make and open is put them.
-fn check(lent: &Slices, marks: &mut Marks) -> Result<Shape, u32> {
+fn check<'a>(lent: &Slices, room: &'a mut MarksRoom) -> Result<(Shape, Marks<'a>), u32> {
     let shape = header(lent)?;
     if lent.table[6] != 0 {
         return Err(3);
     }
-    if check_words(lent.table, shape, marks) {
-        Ok(shape)
+    let mut marks = Marks::new(room);
+    if check_words(lent.table, shape, &mut marks) {
+        Ok((shape, marks))
     } else {
         Err(4)
     }
@@ -529,7 +533,7 @@ fn open(lent: Slices, budget: u64) -> Result<Answer, u32> {
 #[inline(never)]
 fn create(lent: Slices, budget: u64) -> Result<(Answer, u32), u32> {
     let mut marks_room = room();
-    let shape = check(&lent, &mut Marks::new(&mut marks_room))?;
+    let (shape, _) = check(&lent, &mut marks_room)?;
     let table = lent.table;
     let live = table[4] as usize;
     let handle = table[5];
@@ -553,26 +557,15 @@ fn create(lent: Slices, budget: u64) -> Result<(Answer, u32), u32> {
 
 #[inline(never)]
 fn add(lent: Slices, add: Add, budget: u64) -> Result<Answer, u32> {
-    let Add {
-        handle,
-        first,
-        count,
-        kind,
-        label,
-    } = add;
+    let (kind, label) = (add.kind, add.label);
     let mut marks_room = room();
-    let mut marks = Marks::new(&mut marks_room);
-    let shape = check(&lent, &mut marks)?;
-    let Slices {
-        memory,
-        bodies,
-        table,
-    } = lent;
-    let depth = innermost(table, handle)?;
+    let (shape, marks) = check(&lent, &mut marks_room)?;
+    let (memory, bodies, table) = (lent.memory, lent.bodies, lent.table);
+    let depth = innermost(table, add.handle)?;
     if kind > 1 || label > 1 {
         return Err(7);
     }
-    let range = range(first, count, shape.cells)?;
+    let range = range(add.first, add.count, shape.cells)?;
     let holders = &*marks.holders;
     let fresh = || {
         range
@@ -636,8 +629,7 @@ fn add(lent: Slices, add: Add, budget: u64) -> Result<Answer, u32> {
 #[inline(never)]
 fn delete(lent: Slices, handle: u32, first: u32, count: u32, budget: u64) -> Result<Answer, u32> {
     let mut marks_room = room();
-    let mut marks = Marks::new(&mut marks_room);
-    let shape = check(&lent, &mut marks)?;
+    let (shape, marks) = check(&lent, &mut marks_room)?;
     let table = lent.table;
     let depth = depth_of_handle(table, handle)?;
     let range = range(first, count, shape.cells)?;
@@ -668,8 +660,7 @@ fn delete(lent: Slices, handle: u32, first: u32, count: u32, budget: u64) -> Res
 #[inline(never)]
 fn commit(lent: Slices, handle: u32, budget: u64) -> Result<Answer, u32> {
     let mut marks_room = room();
-    let mut marks = Marks::new(&mut marks_room);
-    let shape = check(&lent, &mut marks)?;
+    let (shape, marks) = check(&lent, &mut marks_room)?;
     let table = lent.table;
     let depth = innermost(table, handle)?;
     // The cells that the innermost domain holds read-write: they raise the label further out.
@@ -715,13 +706,8 @@ fn commit(lent: Slices, handle: u32, budget: u64) -> Result<Answer, u32> {
 #[inline(never)]
 fn advance(lent: Slices, handle: u32, budget: u64) -> Result<Answer, u32> {
     let mut marks_room = room();
-    let mut marks = Marks::new(&mut marks_room);
-    let shape = check(&lent, &mut marks)?;
-    let Slices {
-        memory,
-        bodies,
-        table,
-    } = lent;
+    let (shape, marks) = check(&lent, &mut marks_room)?;
+    let (memory, bodies, table) = (lent.memory, lent.bodies, lent.table);
     let depth = innermost(table, handle)?;
     // Cell and place of each read-write entry of the innermost domain, to be taken in order of cell.
     let mut found_room = room::<u32, MAX_PLACES>();
@@ -770,13 +756,8 @@ fn advance(lent: Slices, handle: u32, budget: u64) -> Result<Answer, u32> {
 #[inline(never)]
 fn restore(lent: Slices, handle: u32, budget: u64) -> Result<Answer, u32> {
     let mut marks_room = room();
-    let mut marks = Marks::new(&mut marks_room);
-    let shape = check(&lent, &mut marks)?;
-    let Slices {
-        memory,
-        bodies,
-        table,
-    } = lent;
+    let (shape, marks) = check(&lent, &mut marks_room)?;
+    let (memory, bodies, table) = (lent.memory, lent.bodies, lent.table);
     let depth = depth_of_handle(table, handle)?;
     let live = table[4] as usize;
     let mut stores = Stores::new(budget);
@@ -824,7 +805,7 @@ fn restore(lent: Slices, handle: u32, budget: u64) -> Result<Answer, u32> {
 #[inline(never)]
 fn list(lent: &Slices) -> Result<([u32; 8], u32), u32> {
     let mut marks_room = room();
-    check(lent, &mut Marks::new(&mut marks_room))?;
+    check(lent, &mut marks_room)?;
     let mut handles = [0; 8];
     handles.copy_from_slice(&lent.table[8..16]);
     Ok((handles, lent.table[4]))
@@ -834,7 +815,7 @@ fn list(lent: &Slices) -> Result<([u32; 8], u32), u32> {
 #[inline(never)]
 fn look(lent: &Slices, handle: u32, cell: u32) -> Result<(u32, u64), u32> {
     let mut marks_room = room();
-    let shape = check(lent, &mut Marks::new(&mut marks_room))?;
+    let (shape, _) = check(lent, &mut marks_room)?;
     let table = &*lent.table;
     let depth = depth_of_handle(table, handle)?;
     range(cell, 1, shape.cells)?;

@@ -11,7 +11,7 @@ pub mod pages;
 pub use domain_store::ffi::Lent;
 pub use outs::Outs;
 
-use domain_model::{Add, Buffers, Call, Reply, Store};
+use domain_model::{Buffers, Call, Reply, Store};
 
 /// The buffers as C takes them.
 pub fn lent(buffers: &mut Buffers) -> Lent {
@@ -34,13 +34,7 @@ pub unsafe fn run(lent: Lent, call: &Call, budget: u64, outs: &mut Outs) -> u32 
             Call::Make => lent.make(budget, steps),
             Call::Open => lent.open(budget, steps),
             Call::Create => lent.create(budget, steps, outs.handle.at()),
-            Call::Add(Add {
-                handle,
-                first,
-                count,
-                kind,
-                label,
-            }) => lent.add(handle, first, count, kind, label, budget, steps),
+            Call::Add(a) => lent.add(a.handle, a.first, a.count, a.kind, a.label, budget, steps),
             Call::Delete {
                 handle,
                 first,

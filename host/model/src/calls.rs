@@ -501,24 +501,17 @@ impl Model {
     }
 
     fn add(&self, sizes: Sizes, state: &State, memory: &[u8], add: Add) -> Result<Verdict, u32> {
-        let Add {
-            handle,
-            first,
-            count,
-            kind,
-            label,
-        } = add;
-        let named = state.find(handle).ok_or(5u32)?;
+        let named = state.find(add.handle).ok_or(5u32)?;
         if named + 1 != state.domains.len() {
             return Err(6);
         }
-        if kind > 1 || label > 1 {
+        if add.kind > 1 || add.label > 1 {
             return Err(7);
         }
-        let range = self.range(sizes, first, count)?;
+        let range = self.range(sizes, add.first, add.count)?;
         let domain = &state.domains[named];
         let new: Vec<u32> = range.clone().filter(|c| !domain.holds(*c)).collect();
-        if kind == VIA_PARENT && !new.is_empty() {
+        if add.kind == VIA_PARENT && !new.is_empty() {
             let outer = named.checked_sub(1).ok_or(11u32)?;
             let holds = |c: u32| state.domains[outer].holds(c);
             let equal = |c: u32| state.value(outer, c) == Some(cell_of(memory, c));
@@ -540,7 +533,7 @@ impl Model {
             }
         }
         let no_16 = state.entries() + new.len() as u64 > sizes.e as u64;
-        let no_17 = kind == COPY && state.copies() + new.len() as u64 > sizes.b as u64;
+        let no_17 = add.kind == COPY && state.copies() + new.len() as u64 > sizes.b as u64;
         if self.has(Fault::BodiesBeforeEntries) && no_17 {
             return Err(17);
         }
@@ -556,7 +549,7 @@ impl Model {
         for c in range {
             match cells.get_mut(&c) {
                 None => {
-                    let kept = if kind == COPY {
+                    let kept = if add.kind == COPY {
                         work.taken.push((c, cell_of(memory, c)));
                         Kept::Copy(cell_of(memory, c))
                     } else {
@@ -565,25 +558,25 @@ impl Model {
                     cells.insert(
                         c,
                         Holding {
-                            read_write: label == READ_WRITE,
+                            read_write: add.label == READ_WRITE,
                             kept,
                         },
                     );
                     work.words += 2;
                 }
                 Some(held) => {
-                    if label == READ_WRITE && !held.read_write {
+                    if add.label == READ_WRITE && !held.read_write {
                         held.read_write = true;
                         if !self.has(Fault::RaiseWithoutSteps) {
                             work.words += 2;
                         }
                     }
-                    if self.has(Fault::LabelGoesBack) && label == READ_ONLY && held.read_write {
+                    if self.has(Fault::LabelGoesBack) && add.label == READ_ONLY && held.read_write {
                         held.read_write = false;
                         work.words += 2;
                     }
                     if self.has(Fault::AddTakesNewValue)
-                        && kind == COPY
+                        && add.kind == COPY
                         && matches!(held.kept, Kept::Copy(_))
                     {
                         held.kept = Kept::Copy(cell_of(memory, c));

@@ -68,16 +68,11 @@ impl Slices<'_> {
         (answer, handle)
     }
 
-    pub(crate) fn add(&mut self, add: Add, budget: u64) -> Answer {
-        let Add {
-            handle,
-            first,
-            count,
-            kind,
-            label,
-        } = add;
+    pub(crate) fn add(&mut self, a: Add, budget: u64) -> Answer {
         let lent = self.lent();
-        counted(|steps| unsafe { lent.add(handle, first, count, kind, label, budget, steps) })
+        counted(|steps| unsafe {
+            lent.add(a.handle, a.first, a.count, a.kind, a.label, budget, steps)
+        })
     }
 
     pub(crate) fn delete(&mut self, handle: u32, first: u32, count: u32, budget: u64) -> Answer {

@@ -81,8 +81,9 @@
 //! writes through [`Store::memory_mut`] may change a buffer of a store: for slices Rust sees to
 //! that, for a mapped file the program does.
 //!
-//! A call takes no heap, and stack for its marks: up to 360 KB in an advance (measured), less in the
-//! others. A thread of Rust has 2 MiB where nothing else is asked for.
+//! A call takes no heap. Stack of a call at the largest sizes, measured: make 5 KB; open, create,
+//! list, look, add, delete, commit, restore 104 KB; advance 120 KB. A thread of Rust has 2 MiB where
+//! nothing else is asked for.
 
 #![deny(missing_docs)]
 #![deny(unsafe_code)]
