@@ -1,68 +1,88 @@
 //! Document 01's edges on the model alone: states and memory, no buffers.
 
 use domain_model::edges::{Line, scripts};
-use domain_model::{Call, Lengths, Model, Reading, State, Verdict};
+use domain_model::{Call, Lengths, Model, Reading, Sizes, State, Verdict, Work};
 
-fn play(
-    model: Model,
-    reading: &mut Reading,
+/// A store that is nothing but its meaning.
+struct Meant {
     lengths: Lengths,
-    memory: &mut [u8],
-    call: &Call,
-) -> (u32, u32) {
-    match model.verdict(lengths, reading, memory, call) {
-        Verdict::Refused(number) => (number, 0),
-        Verdict::Work(work) => {
-            work.memory_after(memory, work.need);
-            *reading = work.reading_after(reading, work.need);
-            (0, work.handle)
+    reading: Reading,
+    memory: Vec<u8>,
+}
+
+impl Meant {
+    /// A fresh store, with memory of one byte.
+    fn fresh(sizes: Sizes, byte: u8) -> Meant {
+        let lengths = sizes.lengths();
+        Meant {
+            lengths,
+            reading: Reading::Store {
+                state: State::fresh(),
+                pending: 0,
+            },
+            memory: vec![byte; lengths.memory],
         }
-        _ => (0, 0),
+    }
+
+    fn state(&mut self) -> &mut State {
+        match &mut self.reading {
+            Reading::Store { state, .. } => state,
+            other => panic!("{other:?}"),
+        }
+    }
+
+    fn verdict(&self, call: &Call) -> Verdict {
+        Model::default().verdict(self.lengths, &self.reading, &self.memory, call)
+    }
+
+    /// What a call has to do that is not refused.
+    fn work(&self, call: &Call) -> Work {
+        match self.verdict(call) {
+            Verdict::Work(work) => work,
+            other => panic!("{call}: {other:?}"),
+        }
+    }
+
+    fn carry_out(&mut self, work: &Work) {
+        work.memory_after(&mut self.memory, work.need);
+        self.reading = work.reading_after(&self.reading, work.need);
+    }
+
+    /// The call's number and the handle that it gives.
+    fn play(&mut self, call: &Call) -> (u32, u32) {
+        match self.verdict(call) {
+            Verdict::Refused(number) => (number, 0),
+            Verdict::Work(work) => {
+                self.carry_out(&work);
+                (0, work.handle)
+            }
+            _ => (0, 0),
+        }
     }
 }
 
 #[test]
 fn every_edge() {
     for script in scripts() {
-        let lengths = script.sizes.lengths();
-        let mut memory = vec![0; lengths.memory];
-        let mut reading = Reading::Store {
-            state: State::fresh(),
-            pending: 0,
-        };
+        let name = script.name;
+        let mut meant = Meant::fresh(script.sizes, 0);
+        let bytes = |cell: &u32| 64 * *cell as usize..64 * *cell as usize + 64;
         for line in &script.lines {
-            let name = script.name;
             match line {
-                Line::Fill(cell, byte) => memory[64 * *cell as usize..][..64].fill(*byte),
+                Line::Fill(cell, byte) => meant.memory[bytes(cell)].fill(*byte),
                 Line::Answers(call, answer) => {
-                    let told = play(Model::default(), &mut reading, lengths, &mut memory, call).0;
-                    assert_eq!(told, *answer, "{name}: {call}");
+                    assert_eq!(meant.play(call).0, *answer, "{name}: {call}");
                 }
                 Line::CreateGives(handle) => {
-                    let told = play(
-                        Model::default(),
-                        &mut reading,
-                        lengths,
-                        &mut memory,
-                        &Call::Create,
-                    );
-                    assert_eq!(told, (0, *handle), "{name}");
+                    assert_eq!(meant.play(&Call::Create), (0, *handle), "{name}");
                 }
                 Line::See(cell, byte) => {
-                    assert_eq!(memory[64 * *cell as usize..][..64], [*byte; 64], "{name}")
+                    assert_eq!(meant.memory[bytes(cell)], [*byte; 64], "{name}")
                 }
-                Line::Live(n) => {
-                    let Reading::Store { state, .. } = &reading else {
-                        panic!("{name}")
-                    };
-                    assert_eq!(state.domains.len(), *n, "{name}");
-                }
+                Line::Live(n) => assert_eq!(meant.state().domains.len(), *n, "{name}"),
                 Line::Set(word, value) => {
                     assert_eq!(*word, 5, "the scripts set the next handle only");
-                    let Reading::Store { state, .. } = &mut reading else {
-                        panic!("{name}")
-                    };
-                    state.next = *value;
+                    meant.state().next = *value;
                 }
             }
         }
@@ -102,14 +122,7 @@ fn lengths_of_tables() {
 /// Step counts worked out by hand from document 01.
 #[test]
 fn steps_by_hand() {
-    let sizes = domain_model::Sizes { m: 4, e: 8, b: 8 };
-    let lengths = sizes.lengths();
-    let mut memory = vec![0; lengths.memory];
-    let mut reading = Reading::Store {
-        state: State::fresh(),
-        pending: 0,
-    };
-    let model = Model::default();
+    let mut meant = Meant::fresh(Sizes { m: 4, e: 8, b: 8 }, 0);
     let add = Call::add;
     let list: [(Call, u64); 16] = [
         (Call::Make, 33),                         // 2 x 8 + 17
@@ -130,35 +143,21 @@ fn steps_by_hand() {
         (Call::delete(1, 0, 3), 20),             // p = 6
     ];
     for (call, need) in list {
-        let Verdict::Work(work) = model.verdict(lengths, &reading, &memory, &call) else {
-            panic!("{call} is refused")
-        };
+        let work = meant.work(&call);
         assert_eq!(work.need, need, "{call}");
-        work.memory_after(&mut memory, work.need);
-        reading = work.reading_after(&reading, work.need);
+        meant.carry_out(&work);
     }
 }
 
 /// What each cut of a restore leaves.
 #[test]
 fn cuts_of_a_restore() {
-    let sizes = domain_model::Sizes { m: 2, e: 4, b: 4 };
-    let lengths = sizes.lengths();
-    let mut memory = vec![7; lengths.memory];
-    let mut reading = Reading::Store {
-        state: State::fresh(),
-        pending: 0,
-    };
-    let model = Model::default();
+    let mut meant = Meant::fresh(Sizes { m: 2, e: 4, b: 4 }, 7);
     for call in [Call::Create, Call::Create, Call::copy(1, 1, 1)] {
-        assert_eq!(play(model, &mut reading, lengths, &mut memory, &call).0, 0);
+        assert_eq!(meant.play(&call).0, 0);
     }
-    memory.fill(9);
-    let Verdict::Work(work) =
-        model.verdict(lengths, &reading, &memory, &Call::Restore { handle: 1 })
-    else {
-        panic!()
-    };
+    meant.memory.fill(9);
+    let work = meant.work(&Call::Restore { handle: 1 });
     // One cell; one domain and one entry end: p = 4.
     assert_eq!((work.byte_steps(), work.words, work.need), (64, 4, 78));
     let live = |r: &Reading| match r {
@@ -166,7 +165,7 @@ fn cuts_of_a_restore() {
         _ => panic!(),
     };
     for k in 0..=78 {
-        let mut mixed = memory.clone();
+        let mut mixed = meant.memory.clone();
         work.memory_after(&mut mixed, k);
         let stored = k.min(64) as usize;
         assert!(mixed[..64].iter().all(|b| *b == 9));
@@ -181,7 +180,7 @@ fn cuts_of_a_restore() {
             _ => (1, 0),
         };
         assert_eq!(
-            live(&work.reading_after(&reading, k)),
+            live(&work.reading_after(&meant.reading, k)),
             expected,
             "after {k} steps"
         );

@@ -15,6 +15,19 @@ fn sized(m: u32, e: u32, b: u32) -> Buffers {
     buffers
 }
 
+/// A new domain that holds cell 0, which has this byte.
+fn hold(store: &mut Store, byte: u8, kind: Kind, label: Label) -> Handle {
+    store.cell_mut(0).fill(byte);
+    let domain = store.create().unwrap();
+    store.add(domain, 0..1, kind, label).unwrap();
+    domain
+}
+
+/// The same by a copy, read-write.
+fn copy(store: &mut Store, byte: u8) -> Handle {
+    hold(store, byte, Kind::Copy, Label::ReadWrite)
+}
+
 fn is_filled(store: &Store, cell: u32, byte: u8) -> bool {
     store.cell(cell).iter().all(|found| *found == byte)
 }
@@ -23,12 +36,7 @@ fn is_filled(store: &Store, cell: u32, byte: u8) -> bool {
 fn a_copy_comes_back() {
     let mut buffers = fresh();
     let mut store = buffers.store();
-    store.cell_mut(0).fill(7);
-    let one = store.create().unwrap();
-    assert_eq!(
-        store.add(one, 0..1, Kind::Copy, Label::ReadWrite),
-        Ok(64 + 3 * 2 + 2)
-    );
+    let one = copy(&mut store, 7);
     store.cell_mut(0).fill(9);
     // Nobody inside ends, so a restore stores the bytes alone.
     assert_eq!(store.restore(one), Ok(64));
@@ -40,8 +48,7 @@ fn an_advance_needs_the_cell_in_the_parent() {
     let mut buffers = fresh();
     let mut store = buffers.store();
     store.create().unwrap();
-    let two = store.create().unwrap();
-    store.add(two, 0..1, Kind::Copy, Label::ReadWrite).unwrap();
+    let two = copy(&mut store, 7);
     assert_eq!(store.advance(two), Err(Refusal::ParentLacksReadWrite));
 }
 
@@ -49,11 +56,8 @@ fn an_advance_needs_the_cell_in_the_parent() {
 fn a_commit_raises_the_label() {
     let mut buffers = fresh();
     let mut store = buffers.store();
-    store.cell_mut(0).fill(7);
-    let one = store.create().unwrap();
-    store.add(one, 0..1, Kind::Copy, Label::ReadOnly).unwrap();
-    let two = store.create().unwrap();
-    store.add(two, 0..1, Kind::Copy, Label::ReadWrite).unwrap();
+    let one = hold(&mut store, 7, Kind::Copy, Label::ReadOnly);
+    let two = copy(&mut store, 7);
     store.cell_mut(0).fill(9);
     store.commit(two).unwrap();
     store.advance(one).unwrap();
@@ -66,28 +70,21 @@ fn a_commit_raises_the_label() {
 fn via_parent_needs_the_parents_bytes() {
     let mut buffers = fresh();
     let mut store = buffers.store();
-    store.cell_mut(0).fill(7);
-    let one = store.create().unwrap();
-    store.add(one, 0..1, Kind::Copy, Label::ReadWrite).unwrap();
+    copy(&mut store, 7);
     store.cell_mut(0).fill(9);
     let two = store.create().unwrap();
-    assert_eq!(
-        store.add(two, 0..1, Kind::ViaParent, Label::ReadWrite),
-        Err(Refusal::MemoryDiffers)
-    );
+    let added = store.add(two, 0..1, Kind::ViaParent, Label::ReadWrite);
+    assert_eq!(added, Err(Refusal::MemoryDiffers));
+    let added = store.add(two, 0..2, Kind::ViaParent, Label::ReadWrite);
+    assert_eq!(added, Err(Refusal::ParentLacksCell));
 }
 
 #[test]
 fn a_second_add_keeps_the_first_value() {
     let mut buffers = fresh();
     let mut store = buffers.store();
-    store.cell_mut(0).fill(7);
-    let one = store.create().unwrap();
-    store.add(one, 0..1, Kind::Copy, Label::ReadWrite).unwrap();
-    let two = store.create().unwrap();
-    store
-        .add(two, 0..1, Kind::ViaParent, Label::ReadWrite)
-        .unwrap();
+    copy(&mut store, 7);
+    let two = hold(&mut store, 7, Kind::ViaParent, Label::ReadWrite);
     store.cell_mut(0).fill(9);
     assert_eq!(store.add(two, 0..1, Kind::Copy, Label::ReadWrite), Ok(0));
     store.restore(two).unwrap();
@@ -98,12 +95,8 @@ fn a_second_add_keeps_the_first_value() {
 fn the_oldest_value_wins() {
     let mut buffers = fresh();
     let mut store = buffers.store();
-    store.cell_mut(0).fill(7);
-    let one = store.create().unwrap();
-    store.add(one, 0..1, Kind::Copy, Label::ReadWrite).unwrap();
-    store.cell_mut(0).fill(9);
-    let two = store.create().unwrap();
-    store.add(two, 0..1, Kind::Copy, Label::ReadWrite).unwrap();
+    let one = copy(&mut store, 7);
+    let two = copy(&mut store, 9);
     store.restore(one).unwrap();
     assert!(is_filled(&store, 0, 7));
     assert_eq!(*store.list().unwrap(), [one]);
@@ -114,12 +107,8 @@ fn the_oldest_value_wins() {
 fn a_cell_that_the_child_relies_on_stays() {
     let mut buffers = fresh();
     let mut store = buffers.store();
-    let one = store.create().unwrap();
-    store.add(one, 0..1, Kind::Copy, Label::ReadWrite).unwrap();
-    let two = store.create().unwrap();
-    store
-        .add(two, 0..1, Kind::ViaParent, Label::ReadOnly)
-        .unwrap();
+    let one = copy(&mut store, 7);
+    let two = hold(&mut store, 7, Kind::ViaParent, Label::ReadOnly);
     assert_eq!(store.delete(one, 0..1), Err(Refusal::ChildRelies));
     store.delete(two, 0..1).unwrap();
     store.delete(one, 0..1).unwrap();
@@ -128,25 +117,29 @@ fn a_cell_that_the_child_relies_on_stays() {
 
 #[test]
 fn room_is_counted() {
-    let mut buffers = sized(4, 8, 1);
-    let mut store = buffers.store();
-    let one = store.create().unwrap();
-    store.add(one, 0..1, Kind::Copy, Label::ReadWrite).unwrap();
-    assert_eq!(store.advance(one), Err(Refusal::NoFreeBody));
-    let mut buffers = sized(4, 8, 2);
-    let mut store = buffers.store();
-    let one = store.create().unwrap();
-    store.add(one, 0..1, Kind::Copy, Label::ReadWrite).unwrap();
-    assert_eq!(store.advance(one), Ok(72));
+    for (bodies, advanced) in [(1, Err(Refusal::NoFreeBody)), (2, Ok(72))] {
+        let mut buffers = sized(4, 8, bodies);
+        let mut store = buffers.store();
+        let one = copy(&mut store, 7);
+        assert_eq!(store.advance(one), advanced);
+    }
     let mut buffers = sized(4, 1, 8);
     let mut store = buffers.store();
+    let one = copy(&mut store, 7);
+    let mut add = |cells| store.add(one, cells, Kind::Copy, Label::ReadWrite);
+    assert_eq!(add(0..2), Err(Refusal::NoFreeEntry));
+    assert_eq!(add(0..1), Ok(0));
+}
+
+#[test]
+fn steps_are_told() {
+    let mut buffers = fresh();
+    let mut store = buffers.store();
     let one = store.create().unwrap();
-    store.add(one, 0..1, Kind::Copy, Label::ReadWrite).unwrap();
-    assert_eq!(
-        store.add(one, 0..2, Kind::Copy, Label::ReadWrite),
-        Err(Refusal::NoFreeEntry)
-    );
-    assert_eq!(store.add(one, 0..1, Kind::Copy, Label::ReadWrite), Ok(0));
+    let added = store.add(one, 0..2, Kind::Copy, Label::ReadWrite);
+    assert_eq!(added, Ok(2 * 64 + 3 * 4 + 2));
+    assert_eq!(store.delete(one, 0..1), Ok(3 * 2 + 2));
+    assert_eq!(store.commit(one), Ok(3 * 4 + 2));
 }
 
 #[test]
@@ -241,9 +234,7 @@ fn every_cut_of_an_advance_is_old_or_new() {
     for budget in 0..=72 {
         let mut buffers = fresh();
         let mut store = buffers.store();
-        store.cell_mut(0).fill(7);
-        let one = store.create().unwrap();
-        store.add(one, 0..1, Kind::Copy, Label::ReadWrite).unwrap();
+        let one = copy(&mut store, 7);
         store.cell_mut(0).fill(9);
         let outcome = store.advance_with_budget(one, budget).unwrap();
         if budget < 72 {
