@@ -181,10 +181,9 @@ pub fn follow(
             {
                 sys::_exit(REFUSED);
             }
-            if way != Way::Whole {
-                if !arena.stretches.iter().all(|part| part.allow(READ)) {
-                    sys::_exit(1);
-                }
+            let guarded = way != Way::Whole;
+            if guarded && !arena.stretches.iter().all(|part| part.allow(READ)) {
+                sys::_exit(1);
             }
             // A call that never ends is stopped by a signal, which the tracer reports.
             sys::alarm(300);

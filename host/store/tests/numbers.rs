@@ -134,7 +134,7 @@ fn provoked(number: u32) -> Option<Refusal> {
         }
         5 => store.look(Handle::new(3).unwrap(), 4).err(),
         6 => store.commit(one).err(),
-        7 => return by_number(&mut buffers),
+        7 => by_number(&mut buffers),
         8 => store.add(two, 3..5, copy, rw).err(),
         9 => {
             (2..8).for_each(|_| assert!(store.create().is_ok()));
