@@ -61,6 +61,7 @@ suite() { # name command..
 
 suite header header
 suite store cargo test --offline -p domain_store
+suite stack cargo test --offline -p domain_lend
 suite model cargo test --offline -p domain_model
 suite sessions cargo test --offline -p domain_sessions -- --nocapture
 suite bench cargo test --offline -p domain_bench

@@ -7,7 +7,8 @@ use std::fmt;
 /// the value that it had before.
 ///
 /// A call puts its questions in the order of these numbers and is refused by the first that is
-/// answered by no. The text of a refusal says what was wrong and what to do about it.
+/// answered by no. The text of a refusal says what was wrong and what to do about it. The header has
+/// them by the same names: `NoStore` is `DS_REFUSED_NO_STORE` in C.
 ///
 /// ```
 /// use domain_store::{Buffers, Refusal};

@@ -240,6 +240,11 @@ fn every_call_uses_the_stack_that_is_stated() {
             ));
         }
     }
+    text += &format!(
+        "stack: {} calls use what header, README and crate's page state, at most {} KB\n",
+        largest.len() - wrong.len(),
+        largest.values().copied().max().map_or("0".into(), kb)
+    );
     // Not by `print!`, which a passing test keeps to itself.
     std::io::stdout()
         .write_all(text.as_bytes())
