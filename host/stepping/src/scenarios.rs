@@ -1,6 +1,7 @@
 //! The calls that are stepped, each with the calls and writes before it and with what document 01 counts for it.
 
 use crate::check::{Case, note};
+use crate::state;
 use domain_lend::Linked;
 use domain_model::{Buffers, Call, Ended, FULL, Notebook, Rng, STOPPED, Sizes, Store, plan};
 
@@ -170,6 +171,9 @@ pub struct Session {
 impl Session {
     pub fn new(sizes: Sizes, seed: u64) -> Self {
         let mut buffers = Buffers::filled(sizes.lengths(), 0, 0);
+        for cell in 0..sizes.m {
+            buffers.write_cell(cell, &contents(cell, 0));
+        }
         Linked.call(&mut buffers, &Call::Make, FULL);
         Session {
             random: Rng::new(seed),
@@ -183,10 +187,10 @@ impl Session {
     /// The next call that stores something.
     pub fn next_case(&mut self) -> Result<Case, String> {
         loop {
-            let call = if self.cut { Call::Open } else { self.choose() };
+            let call = if self.cut { Call::Open } else { self.choose()? };
             if let Call::Restore { .. } = call {
                 // Fresh bytes in every cell, so that every byte put back shows.
-                self.write(0..self.buffers.sizes().m);
+                self.write(0..self.buffers.sizes().m)?;
             }
             let mut tried = self.buffers.clone();
             let reply = Linked.call(&mut tried, &call, FULL);
@@ -220,14 +224,26 @@ impl Session {
         note(&mut self.notebook, case.call, ended, steps, memory)
     }
 
-    fn write(&mut self, cells: std::ops::Range<u32>) {
-        self.version = (self.version + 1) % 251;
+    /// Writes these cells with the next version that nobody holds of any of them: two versions differ in every byte.
+    fn write(&mut self, cells: std::ops::Range<u32>) -> Result<(), String> {
+        let state = state::state(&self.buffers)?;
+        let holds = |cell: u32, version: u32| {
+            let first = contents(cell, version)[0];
+            (0..state.domains.len())
+                .filter_map(|domain| state.value(domain, cell))
+                .any(|value| value[0] == first)
+        };
+        self.version = (1..=251)
+            .map(|more| (self.version + more) % 251)
+            .find(|version| !cells.clone().any(|cell| holds(cell, *version)))
+            .ok_or("every version is held")?;
         for cell in cells {
             write_cell(&mut self.buffers, &mut self.notebook, cell, self.version);
         }
+        Ok(())
     }
 
-    fn choose(&mut self) -> Call {
+    fn choose(&mut self) -> Result<Call, String> {
         let handles = self.notebook.handles();
         let any = match handles.is_empty() {
             true => 0,
@@ -239,9 +255,9 @@ impl Session {
         let label = self.random.below(2) as u32;
         if self.random.below(3) == 0 {
             let cell = self.random.below(cells) as u32;
-            self.write(cell..cell + 1);
+            self.write(cell..cell + 1)?;
         }
-        match self.random.below(20) {
+        Ok(match self.random.below(20) {
             0 if handles.len() > 2 => Call::Make,
             0..=4 => Call::Create,
             5..=8 => Call::copy(first, count, label),
@@ -250,6 +266,6 @@ impl Session {
             14..=15 => Call::Commit { handle: 0 },
             16..=17 => Call::Advance { handle: 0 },
             _ => Call::Restore { handle: any },
-        }
+        })
     }
 }
