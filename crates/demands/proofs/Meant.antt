@@ -36,7 +36,7 @@ use Rattle.advance.proofs.Advanced.{advance-takes, advance-is, advance-with-mea
 use Rattle.look.proofs.Placing.{look-means, look-within}
 use Rattle.look.proofs.Shown.{look-tells}
 use Rattle.demands.specs.Session.{callOn}
-use Rattle.demands.specs.Demands.{asked, opens, shows, callView, OneMore, Found, not-made, wholly-made, lengthsRight, madeFrom, Demand2}
+use Rattle.demands.specs.Demands.{asked, opens, callView, OneMore, Found, not-made, wholly-made, lengthsRight, madeFrom, Demand2}
 use Rattle.demands.proofs.Seen.{call-means, call-refusal, call-passed}
 use Rattle.demands.proofs.Steps.{pairs-left, call-kept}
 use Rattle.demands.proofs.Theorem.{Halted}
@@ -50,7 +50,7 @@ exact b e =
     lengths-facts (length (b .memory)) (length (b .bodies)) (length (b .table))
     (shape-lengths (length (b .memory)) (length (b .bodies)) (b .table) (store-shape (length (b .memory)) (length (b .bodies)) (b .table) e)) .memory-exact
 
-call-shows : (c : Request) (k : ℕ) (b : Buffers) → shows (callOn c k b) ≡ callView c k b
+call-shows : (c : Request) (k : ℕ) (b : Buffers) → seenOf (callOn c k b) ≡ callView c k b
 call-shows c k b =
     by-check (λ q. asked b ≡ q → seenOf (callOn c k b) ≡ orRefused q b (viewOf (roomOf b) c k (stateOf b) (b .memory))) (asked b)
     (λ n e _.
