@@ -10,9 +10,11 @@
  * that refused it (DS_REFUSED_.., below); a refused call changes no byte of any buffer. Out parameters are set in every case, to 0 where there is
  * nothing to tell.
  *
- * A budget is the number of stores that a changing call may make; UINT64_MAX lets it finish. Pass it as a number of the run. A call that was
- * stopped, and a call in which the program ended, is followed by ds_open on the same buffers, which finds it wholly made or not made; a make that
- * was cut may leave no store, and a restore that was cut leaves memory mixed in the cells that it was putting back.
+ * A budget is the number of stores that a changing call may make; UINT64_MAX lets it finish. (A constant is fine over the boundary of this archive; do
+ * not compile its code together with the program, where the compiler could see through it: docs/DECISIONS.md.) A call that was stopped, and a call in
+ * which the program ended, is followed by ds_open on the same buffers, which finds it wholly made or not made. Two exceptions: a make that was cut may
+ * leave no store; and a restore that was cut and is found not made may leave memory mixed in the cells that it was putting back. After ds_open restore
+ * the same domain again, or one around it: going back to a domain inside it promises nothing until then.
  *
  * Stack of a call at the largest sizes: ds_make 5 KB; ds_open, ds_create, ds_list, ds_look, ds_add, ds_delete, ds_commit, ds_restore 104 KB;
  * ds_advance 120 KB.
@@ -45,10 +47,11 @@ extern "C" {
 
 /* A buffer's length is not allowed. */
 #define DS_REFUSED_LENGTHS 1u
-/* The table is no store's for buffers of these lengths. First see that they are the buffers that the store was made in, in their order and whole. Only
- * where no store was ever made in them, or a make was cut, ds_make is due: it forgets whatever stands there. */
+/* The table is no store's for buffers of these lengths. First see that they are the buffers that the store was made in, in their order and whole. Where
+ * a store was made in them, the table is damaged: lend an intact copy of all three. Only where none was ever made in them, or a make was cut, ds_make is
+ * due: it forgets whatever stands there. */
 #define DS_REFUSED_NO_STORE 2u
-/* A call was cut, and what it changes is still pending: ds_open first, then call again. */
+/* A call was cut, and what it changes is still pending: ds_open first, then make this call again; the cut one is then made or not made. */
 #define DS_REFUSED_PENDING 3u
 /* The table is corrupt: lend an intact copy of all three buffers. */
 #define DS_REFUSED_CORRUPT 4u
@@ -64,13 +67,13 @@ extern "C" {
 #define DS_REFUSED_TOO_MANY_DOMAINS 9u
 /* Every handle has been given out. */
 #define DS_REFUSED_NO_HANDLE_LEFT 10u
-/* Via parent: the parent does not hold a cell. */
+/* Via parent: the parent does not hold a newly held cell, or there is no parent. */
 #define DS_REFUSED_PARENT_LACKS_CELL 11u
-/* Via parent: memory differs from the parent's value. */
+/* Via parent: memory differs from the parent's value in a newly held cell. */
 #define DS_REFUSED_MEMORY_DIFFERS 12u
 /* The domain does not hold a cell that is to be deleted. */
 #define DS_REFUSED_NOT_HELD 13u
-/* The child holds one of the cells that are to be deleted via this domain. */
+/* The next domain in holds, via this one, a cell that is to be deleted. */
 #define DS_REFUSED_CHILD_RELIES 14u
 /* The parent does not hold every read-write cell of the domain that is to advance. */
 #define DS_REFUSED_PARENT_LACKS_READ_WRITE 15u
@@ -97,7 +100,8 @@ uint32_t ds_make(const uint8_t *memory, size_t memory_len, const uint8_t *bodies
 uint32_t ds_open(const uint8_t *memory, size_t memory_len, const uint8_t *bodies, size_t bodies_len, uint32_t *table, size_t table_len,
                  uint64_t budget, uint64_t *steps);
 
-/* Adds a domain inside the innermost one. *handle is its handle; 0 where the call was not done (after a cut, ds_list tells it). */
+/* Adds a domain inside the innermost one. *handle is its handle; 0 where the call was not done (after a cut and ds_open,
+ * ds_list tells whether it lives, and its handle). */
 uint32_t ds_create(const uint8_t *memory, size_t memory_len, const uint8_t *bodies, size_t bodies_len, uint32_t *table, size_t table_len,
                    uint64_t budget, uint64_t *steps, uint32_t *handle);
 
@@ -120,7 +124,7 @@ uint32_t ds_advance(const uint8_t *memory, size_t memory_len, uint8_t *bodies, s
                     uint32_t handle, uint64_t budget, uint64_t *steps);
 
 /* Puts memory back: each cell held by the named domain or one inside it gets the value of the outermost of these holders. The domains inside are
- * ended. */
+ * ended. Where it was cut, see above. */
 uint32_t ds_restore(uint8_t *memory, size_t memory_len, const uint8_t *bodies, size_t bodies_len, uint32_t *table, size_t table_len,
                     uint32_t handle, uint64_t budget, uint64_t *steps);
 

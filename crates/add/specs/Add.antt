@@ -63,7 +63,7 @@ addChange e b t first n k l i =
 unfoldable pub addWords : (b : ℕ) → List ℕ → (first n k l : ℕ) → List Store
 addWords b t first n k l = entryChanges (slotsOf (length t)) (addChange (slotsOf (length t)) b t first n k l)
 
--- "bytes first: 64 for each copy taken, rising by cell and byte"; none for via parent
+-- "bytes first: 64 for each copy taken .., rising by cell and byte"; none for via parent
 unfoldable pub addBytes : (b : ℕ) → List ℕ → List ℕ → (first n k : ℕ) → List Store
 addBytes b memory t first n k =
     gather n (λ j. cond (eqb k 0 && isNew (slotsOf (length t)) t first j)

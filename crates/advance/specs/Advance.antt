@@ -44,7 +44,7 @@ advanceChange e b t i =
 unfoldable pub advanceWords : (b : ℕ) → List ℕ → List Store
 advanceWords b t = entryChanges (slotsOf (length t)) (advanceChange (slotsOf (length t)) b t)
 
--- "bytes first: 64 for each copy taken, rising by cell and byte"
+-- "bytes first: 64 for each copy taken .., rising by cell and byte"
 unfoldable pub advanceBytes : (m b : ℕ) → List ℕ → List ℕ → List Store
 advanceBytes m b memory t =
     gather m (λ c. cond (advances (slotsOf (length t)) t c) (cellPlan memory c (bodyFor (slotsOf (length t)) b t c)) [])

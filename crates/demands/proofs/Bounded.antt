@@ -172,7 +172,7 @@ module _ (b : Buffers) where
 
 -- ---- the calls that only read
 
-list-bounded : (n k : ℕ) (b : Buffers) → Bounded n k ((listMeans b) .report)
+pub list-bounded : (n k : ℕ) (b : Buffers) → Bounded n k ((listMeans b) .report)
 unfolding listMeans
 list-bounded n k b = go (storeCheck (length (b .memory)) (length (b .bodies)) (b .table))
   where
@@ -180,7 +180,7 @@ list-bounded n k b = go (storeCheck (length (b .memory)) (length (b .bodies)) (b
     go zero = no-steps n k
     go (suc q) = no-call n k (suc q)
 
-look-bounded : (n k : ℕ) (p : Place) → Bounded n k (placeReport p)
+pub look-bounded : (n k : ℕ) (p : Place) → Bounded n k (placeReport p)
 look-bounded n k (Refused q) = no-call n k q
 look-bounded n k (Memory at) = no-steps n k
 look-bounded n k (Bodies at) = no-steps n k

@@ -8,6 +8,7 @@ pub mod Seen
 pub mod Steps
 pub mod Theorem
 pub mod Bounded
+pub mod Stepping
 pub mod Ready
 pub mod Reopening
 pub mod Numbers

@@ -2,7 +2,6 @@
 use Prim.Native.Nat.{ℕ, zero, suc, _+_, _*_, _<_}
 use mathlib.Core.Bool.{Bool, true, false, cond}
 use mathlib.Core.List.{List, map}
-use mathlib.Core.Logic.{inl}
 use mathlib.Core.Option.{some}
 use mathlib.Core.Path.{_≡_, refl, sym, ap, subst, _∙_}
 use native.Mathlib.Omega.{arith}
@@ -17,7 +16,7 @@ use Rattle.model.specs.State.{State}
 use Rattle.model.specs.Answer.{isDone, isStopped, isRefused, Report, ended, View, stepsOf}
 use Rattle.model.specs.Calls.{Effect, refuse, change, makeSteps, listed}
 use Rattle.model.specs.Restore.{viewedWith}
-use Rattle.model.specs.History.{Request, create, list, add, delete, advance, commit, restore, look}
+use Rattle.model.specs.History.{Request}
 use Rattle.model.specs.Session.{effectOf, memoryAfter, memoryAt, viewOf, Mixed}
 use Rattle.model.proofs.Views.{memory-whole, memory-mixed}
 use Rattle.store.specs.Outcome.{Buffers, buffers, inTable, perform, Outcome, outcome}
@@ -26,7 +25,7 @@ use Rattle.store.specs.State.{stateOf, standing, slots}
 use Rattle.store.specs.Calls.{makePlan, makeCall, openCall}
 use Rattle.store.specs.Means.{seen, orRefused, listMeans, roomOf}
 use Rattle.store.proofs.Checks.{store-shape, shape-lengths}
-use Rattle.store.proofs.Outcome.{one-store as one-more, table-after}
+use Rattle.store.proofs.Outcome.{table-after}
 use Rattle.store.proofs.Making.{make-none}
 use Rattle.store.proofs.Means.{seenOf, by-check, long, make-means, open-means}
 use Rattle.store.proofs.Pending.{afterPending}
@@ -36,11 +35,12 @@ use Rattle.advance.proofs.Advanced.{advance-takes, advance-is, advance-with-mea
 use Rattle.look.proofs.Placing.{look-means, look-within}
 use Rattle.look.proofs.Shown.{look-tells}
 use Rattle.demands.specs.Session.{callOn}
-use Rattle.demands.specs.Demands.{asked, opens, callView, OneMore, Found, not-made, wholly-made, lengthsRight, madeFrom, Demand2}
+use Rattle.demands.specs.Demands.{asked, opens, callView, Found, not-made, wholly-made, lengthsRight, madeFrom, Demand2}
 use Rattle.demands.proofs.Seen.{call-means, call-refusal, call-passed}
 use Rattle.demands.proofs.Steps.{pairs-left, call-kept}
 use Rattle.demands.proofs.Theorem.{Halted}
 use Rattle.demands.proofs.Bounded.{input-bounded}
+use Rattle.demands.proofs.Stepping.{stepped, call-stepped}
 use Rattle.demands.proofs.Ready.{done-clears, done-ready, reached}
 use Rattle.demands.proofs.Reopening.{opening-keeps, reopened}
 use Rattle.demands.proofs.Refused.{open-refuses}
@@ -128,18 +128,6 @@ cut c k b stop = go (effectOf (roomOf b) (b .memory) c (stateOf b)) refl
         absurd (subst Halted (sym stop ∙ ap (λ (v : View). v .report .status) v ∙ d) tt))
         (λ t. found x w h new e t (ltb (x + 2 * w) k) refl (ap (λ (v : View). v .state) v))
 
--- ---- one store a step
-
-one-store : (c : Request) (k : ℕ) (b : Buffers) → OneMore ((callOn c k b) .buffers) ((callOn c (suc k) b) .buffers)
-one-store create k b = one-more _ k b
-one-store list k b = inl refl
-one-store (add h first n i l) k b = one-more _ k b
-one-store (delete h first n) k b = one-more _ k b
-one-store (advance h) k b = one-more _ k b
-one-store (commit h) k b = one-more _ k b
-one-store (restore h) k b = one-more _ k b
-one-store (look h c) k b = inl refl
-
 pub demand-2 : Demand2
 demand-2 = record {
   make-shows = make-means;
@@ -149,9 +137,9 @@ demand-2 = record {
   look-tells = look-tells;
   look-within = look-within;
   list-shows = list-shows;
-  one-store-make = λ k b. one-more (makeCall b) k b;
-  one-store-open = λ k b. one-more (openCall b) k b;
-  one-store = one-store;
+  make-stepped = λ b. stepped (makeCall b) b;
+  open-stepped = λ b. stepped (openCall b) b;
+  call-stepped = call-stepped;
   bound = λ i b. input-bounded i b .few;
   enough = λ i b. input-bounded i b .whole;
   done-clears = done-clears;

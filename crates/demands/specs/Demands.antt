@@ -9,18 +9,18 @@ use mathlib.Core.Logic.{_⊎_}
 use mathlib.Core.Option.{Option, none, some}
 use mathlib.Core.Path.{_≡_}
 use lib.Dec.{leb, eqb}
-use lib.ListN.{length}
-use Rattle.words.specs.Layout.{cellsOf, slotsOf}
+use lib.ListN.{length, take}
+use Rattle.words.specs.Layout.{cellsOf}
 use Rattle.words.specs.Journal.{pending}
 use Rattle.table.specs.Checks.{lengthsOk, headerOk}
 use Rattle.table.specs.Rule.{tableOk}
 use Rattle.model.specs.State.{State}
-use Rattle.model.specs.Answer.{Status, isDone, isStopped, isRefused, Report, done, refused, View}
+use Rattle.model.specs.Answer.{Status, isDone, isStopped, isRefused, done, refused, View}
 use Rattle.model.specs.Calls.{change, makeSteps, listed}
 use Rattle.model.specs.Holdings.{named, isLive, isInnermost, rangeOk}
 use Rattle.model.specs.History.{Request, create, list, add, delete, advance, commit, restore, look, History, Tracked, begun, finished, trackedAt, mismatches, counts, historyAfter}
 use Rattle.model.specs.Session.{Input, make, call, opening, write, effectOf, memoryAfter, viewOf, Mixed, AllZero, Agrees}
-use Rattle.store.specs.Outcome.{Buffers, Step, step, Call, Outcome, outcome, leaves}
+use Rattle.store.specs.Outcome.{Buffers, Step, step, steps, Call, Outcome, outcome, leaves}
 use Rattle.store.specs.Checks.{openCheck, storeCheck}
 use Rattle.store.specs.State.{StandsFor, slots, effectiveTable, stateOf, standing}
 use Rattle.store.specs.Calls.{makeCall, openCall, openingAfter}
@@ -208,6 +208,15 @@ pub record Means (call : Call) (means : (k : ℕ) → View) (b : Buffers) : Type
 abbrev pub OneMore : (before after : Buffers) → Type 0
 OneMore b c = (c ≡ b) ⊎ ((s : Step) × (c ≡ step s b))
 
+-- "A step stores one table word, one body byte or one memory byte": a call that ends at budget k as `at k` has one list of stores, of which it makes
+-- the first k, whatever k is; "done, with its step count, or .. stopped exactly if it needs more than the budget, with that many steps made"
+pub record Stepped (at : (k : ℕ) → Outcome) (b : Buffers) : Type 0 where
+  pub plan : List Step
+  pub made : (k : ℕ) → (at k) .buffers ≡ steps (take k plan) b
+  pub done-all : (k : ℕ) → (at k) .report .status ≡ isDone → ((at k) .report .steps ≡ length plan) × (length plan ≤ k)
+  pub stopped-short : (k : ℕ) → (at k) .report .status ≡ isStopped → ((at k) .report .steps ≡ k) × (k < length plan)
+  pub one-more : (k : ℕ) → OneMore ((at k) .buffers) ((at (suc k)) .buffers)
+
 -- "save that a cut make may leave no store": a make that was stopped after a store; at budget 0 it has made none
 abbrev pub isCutMake : Input → Status → Bool
 isCutMake (make zero) r = false
@@ -238,10 +247,10 @@ pub record Demand2 : Type 0 where
   pub look-within : (h c : ℕ) (b : Buffers) → placeWithin (lookPlace h c b) b
   -- (`listMeans` is what list's contract is an equation with, `of-list`)
   pub list-shows : (b : Buffers) → asked b ≡ 0 → listMeans b ≡ listed (stateOf b)
-  -- "The buffers after budget k + 1 differ from those after k in at most one word or byte"
-  pub one-store-make : (k : ℕ) (b : Buffers) → OneMore ((outcome (makeCall b) k b) .buffers) ((outcome (makeCall b) (suc k) b) .buffers)
-  pub one-store-open : (k : ℕ) (b : Buffers) → OneMore ((outcome (openCall b) k b) .buffers) ((outcome (openCall b) (suc k) b) .buffers)
-  pub one-store : (c : Request) (k : ℕ) (b : Buffers) → OneMore ((callOn c k b) .buffers) ((callOn c (suc k) b) .buffers)
+  -- one store a step, and no other
+  pub make-stepped : (b : Buffers) → Stepped (λ k. outcome (makeCall b) k b) b
+  pub open-stepped : (b : Buffers) → Stepped (λ k. outcome (openCall b) k b) b
+  pub call-stepped : (c : Request) (b : Buffers) → Stepped (λ k. callOn c k b) b
   -- no call makes more steps than its bound, and with such a budget none is stopped
   pub bound : (i : Input) (b : Buffers) → (inputOn i b) .report .steps ≤ stepBound i (slots b)
   pub enough : (i : Input) (b : Buffers) → stepBound i (slots b) ≤ budgetOf i → (inputOn i b) .report .status ≡ isStopped → ⊥

@@ -4,7 +4,7 @@ use Prim.Native.Nat.{ℕ}
 use mathlib.Core.Bool.{Bool, true, false, not, _&&_, _||_}
 use mathlib.Core.List.{List, [], _∷_}
 use Rattle.words.specs.Stores.{stores}
-use Rattle.model.specs.Answer.{Status, isDone, isStopped, isRefused, Report, done}
+use Rattle.model.specs.Answer.{Status, isDone, isStopped, isRefused, done}
 use Rattle.model.specs.History.{Request, create, list, add, delete, advance, commit, restore, look, Observation, observed}
 use Rattle.model.specs.Session.{Input, make, call, opening, write, shown}
 use Rattle.store.specs.Outcome.{Buffers, buffers, Outcome, outcome, leaves}

@@ -4,11 +4,11 @@ use Prim.Native.Nat.{ℕ, _+_}
 use mathlib.Core.Bool.{Bool, true, false, _&&_}
 use mathlib.Core.List.{List, [], _∷_, _++_}
 use lib.Dec.{eqb}
-use lib.ListN.{length, replicate}
+use lib.ListN.{replicate}
 use Rattle.words.specs.Layout.{cellAt, tableWords}
 use Rattle.words.specs.Stores.{_≔_, tab}
 use Rattle.model.specs.Answer.{Status, isDone, isStopped, isRefused, Report, done}
-use Rattle.model.specs.History.{Request, create, list, add, delete, advance, commit, restore, look}
+use Rattle.model.specs.History.{Request, create, add, delete, advance, commit, restore}
 use Rattle.model.specs.Session.{make, call, write}
 use Rattle.store.specs.Outcome.{Buffers, buffers, Outcome, leaves}
 use Rattle.store.specs.Means.{listMeans}

@@ -10,7 +10,7 @@ use Rattle.store.specs.Outcome.{Buffers, Outcome}
 use Rattle.look.specs.declared.Place.{Place}
 use Rattle.look.specs.declared.Place.the-variants.{Refused, Memory, Bodies}
 
--- "0 when done, 255 when stopped by its budget, else the refusal's number"
+-- 0 when done, 255 when stopped by its budget, else the refusal's number
 abbrev pub numberOf : Status → (refusal : ℕ) → ℕ
 numberOf isDone q = 0
 numberOf isStopped q = 255

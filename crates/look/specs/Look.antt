@@ -65,7 +65,7 @@ lookMeans h c b =
     orLookRefused (storeCheck (length (b .memory)) (length (b .bodies)) (b .table))
     (looked (cellsOf (length (b .memory))) h c (stateOf b) (b .memory))
 
--- which buffer and which offset, by the state: the body at the end of the first holder's chain where a domain from the named one inwards holds the
+-- which buffer, by the state, and which offset: the body at the end of the first holder's chain where a domain from the named one inwards holds the
 -- cell, else the cell in memory
 abbrev pub placeByState : (h c : ℕ) → Buffers → Place
 placeByState h c b =

@@ -256,7 +256,7 @@ advanceEffect room memory h s =
 
 -- ---- commit
 
--- "A cell that the next domain out lacks moves there. One that both hold keeps the outer value, and the outer label becomes read-write if
+-- "A cell that the next domain out lacks moves there. One that both hold keeps the outer value .., and the outer label becomes read-write if
 -- the inner was": outer, then inner
 abbrev pub merged : Option Holding → Option Holding → Option Holding
 merged none i = i

@@ -10,6 +10,6 @@ use Rattle.table.specs.Entry.{live, handle}
 abbrev pub placeOf : List ℕ → ℕ → ℕ
 placeOf t h = first (live t) (λ k. eqb (handle t k) h)
 
--- the depth of the live domain that a handle names, 0 where it names none; "Handle 0 means the innermost domain"
+-- the depth of the live domain that a handle names, 0 where it names none; "Handle 0 .. means the innermost domain"
 unfoldable pub depthNamed : List ℕ → ℕ → ℕ
 depthNamed t h = cond (eqb h 0) (live t) (cond (ltb (placeOf t h) (live t)) (suc (placeOf t h)) 0)

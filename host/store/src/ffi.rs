@@ -17,7 +17,7 @@
 //!   [`Lengths`](crate::Refusal::Lengths) and does not look at it. Out parameters are stored to by
 //!   every call, so none of them is ever null;
 //! - buffers and out parameters do not overlap;
-//! - nothing else reads or writes them while the call runs, so only one call at a time is made on a
+//! - nothing else stores into them while the call runs, so only one call at a time is made on a
 //!   store.
 //!
 //! A pointer is `*const` where the call never stores into that buffer.
@@ -151,7 +151,8 @@ macro_rules! functions {
 }
 
 functions! {
-    /// Makes a fresh store: no domains, next handle 1. Stores into the table.
+    /// Makes a fresh store: no domains, next handle 1. Stores into the table; what it held before is
+    /// gone once the first store is made.
     ds_make, make: const const mut (budget: u64, steps: *mut u64);
 
     /// Opens a store: finishes what a stopped call left pending. Stores into the table.

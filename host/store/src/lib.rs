@@ -5,8 +5,8 @@
 //! a domain puts the bytes of its cells back as they stood at its **checkpoint**, which is its
 //! creation or its last advance. If the program stops at any single store and is started again over
 //! the same memory, [`Store::open`] finds the call that was interrupted wholly made or not made.
-//! (Only a make that was interrupted may leave no store, and a restore mixed bytes in the cells that
-//! it was putting back.)
+//! (Only a make that was interrupted may leave no store, and a restore that is found not made mixed
+//! bytes in the cells that it was putting back: restore the same domain again, or one around it.)
 //!
 //! The calls are those of the C library `libdomain_store.a`, whose code is proved; this crate is
 //! the Rust side of it. A call that cannot be carried out is refused with a [`Refusal`], and

@@ -51,13 +51,13 @@ pub enum Refusal {
     TooManyDomains = 9,
     /// 10: every handle has been given out.
     NoHandleLeft = 10,
-    /// 11: the parent does not hold a cell that is to be held via parent.
+    /// 11: the parent does not hold a cell that is newly held via parent, or there is no parent.
     ParentLacksCell = 11,
-    /// 12: memory differs from the parent's value in a cell that is to be held via parent.
+    /// 12: memory differs from the parent's value in a cell that is newly held via parent.
     MemoryDiffers = 12,
     /// 13: the domain does not hold every cell that is to be deleted.
     NotHeld = 13,
-    /// 14: the child holds one of the cells that are to be deleted via this domain.
+    /// 14: the next domain in holds, via this one, a cell that is to be deleted.
     ChildRelies = 14,
     /// 15: the parent does not hold every read-write cell of the domain that is to advance.
     ParentLacksReadWrite = 15,
@@ -134,13 +134,14 @@ impl fmt::Display for Refusal {
             }
             Refusal::NoStore => {
                 "The table is no store's for buffers of these lengths: see first that they are \
-                 the buffers that the store was made in, in their order and whole; only where \
-                 none was made in them, or a make was cut, make a fresh store, which forgets \
-                 whatever stands there."
+                 the buffers that the store was made in, in their order and whole; where a store \
+                 was made in them, the table is damaged: lend an intact copy of all three; only \
+                 where none was made in them, or a make was cut, make a fresh store, which \
+                 forgets whatever stands there."
             }
             Refusal::Pending => {
                 "An earlier call was stopped and its changes are still pending: open the \
-                 store, then call again."
+                 store, then make this call again; the stopped one is then made or not made."
             }
             Refusal::Corrupt => {
                 "The table is corrupt, so nothing in it can be trusted: lend an intact copy \
@@ -171,11 +172,12 @@ impl fmt::Display for Refusal {
                  any more."
             }
             Refusal::ParentLacksCell => {
-                "The parent does not hold every cell that is to be held via parent: hold \
-                 these cells by copy, or add them to the parent before creating this domain."
+                "The parent does not hold every cell that is newly held via parent, or there is \
+                 no parent: hold these cells by copy, or add them to the parent before creating \
+                 this domain."
             }
             Refusal::MemoryDiffers => {
-                "Memory differs from the parent's value in a cell that is to be held via \
+                "Memory differs from the parent's value in a cell that is newly held via \
                  parent: hold the changed cells by copy."
             }
             Refusal::NotHeld => {
@@ -193,12 +195,14 @@ impl fmt::Display for Refusal {
             }
             Refusal::NoFreeEntry => {
                 "The table has too few free entries for the new cells: delete or commit what \
-                 is no longer needed, or make a store with more entries."
+                 is no longer needed, or use another store in larger buffers (a make forgets \
+                 this one)."
             }
             Refusal::NoFreeBody => {
                 "There are too few free bodies for the new copies (an advance needs one for \
                  each read-write cell before it frees the old ones): delete or commit what is \
-                 no longer needed, or make a store with more bodies."
+                 no longer needed, or use another store in larger buffers (a make forgets this \
+                 one)."
             }
         })
     }
