@@ -1,35 +1,41 @@
-// Runs the edge cases of document 01 on the store's calls and prints what they give, one line for each case.
+// Plays document 01's edges, the use cases of the containment domain API of 2012, the sequencer's accident, refusals, and calls stopped at every
+// budget, and prints what they give. A section has a table of acts and their text; `ops` says what an act is, and `play` performs it.
 //
-// Each number that it prints comes from a call's answer, and each verdict on a table ("no word changed", "the same table") from a comparison
-// of all its words ("nothing changed": and of all bytes of the bodies). What is held is read from the table and the bodies.
-mod acts;
-mod advances;
-mod commits;
-mod creates;
+// Each number of steps and each refusal is a call's answer. Memory is read byte by byte; what a domain holds is read from the table and the bodies.
+mod api;
+mod calls;
 mod cuts;
 mod edges;
-mod labels;
-mod lengths;
-mod questions;
+mod holdings;
+mod ops;
+mod play;
 mod refusals;
-mod reopening;
-mod room;
-mod scenes;
-mod stopped;
-mod unsound;
+mod sets;
+mod text;
+
+ghost use mathlib.Core.Path.{_≡_};
+ghost use lib.ListN.{length};
+
+// One body and one entry more than allowed.
+fn bodies() -> [u8; 262208]
+    ensures { λ r. ⌜ 262208 ≡ length r ⌝ }
+{
+    [0; 262208]
+}
+
+fn tables() -> [u32; 24618]
+    ensures { λ r. ⌜ 24618 ≡ length r ⌝ }
+{
+    [0; 24618]
+}
 
 fn main() {
-    lengths::show();
-    creates::show();
-    refusals::show();
-    stopped::show();
-    reopening::show();
-    labels::show();
-    edges::show();
-    unsound::show();
-    questions::show();
-    room::show();
-    commits::show();
-    advances::show();
-    cuts::show();
+    let mut m = io::buffer();
+    let mut b = bodies();
+    let mut t = tables();
+    edges::show(&mut m, &mut b, &mut t);
+    api::show(&mut m, &mut b, &mut t);
+    cuts::show(&mut m, &mut b, &mut t);
+    calls::show(&mut m, &mut b, &mut t);
+    refusals::show(&mut m, &mut b, &mut t);
 }
