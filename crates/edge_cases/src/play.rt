@@ -265,19 +265,16 @@ fn copy_set(m: &mut [u8], b: &mut [u8], t: &mut [u32], from: u32, to: u32) {
     copy_words(t, SET_TABLE * x, SET_TABLE * y, SET_TABLE);
 }
 
-// In a line of its own a call is told whether it changed anything, and nine calls always are.
-fn say_change(p: Play, m: &[u8], b: &[u8], t: &[u32], row: u64) -> Play {
-    let op = row % 0x100;
-    if (op == PROBE) | ((op <= RESTORE) & (p.style == LINES)) {
-        return say_unchanged(p, m, b, t);
-    }
-    p
-}
-
+// In a line of its own a call is told whether it changed anything, and nine calls always are. Only for that the store is kept before the call:
+// one that is lent longer than a set would not stay as it is.
 fn show(m: &mut [u8], b: &mut [u8], t: &mut [u32], p: Play, row: u64) -> Play {
+    let op = row % 0x100;
+    if (op != PROBE) & ((op > RESTORE) | (p.style != LINES)) {
+        return lent(m, b, t, p, row);
+    }
     copy_set(m, b, t, 0, 3);
     let said = lent(m, b, t, p, row);
-    say_change(said, m, b, t, row)
+    say_unchanged(said, m, b, t)
 }
 
 // ---- acts on all sets

@@ -4,7 +4,7 @@
 use crate::ops::*;
 use crate::play::play;
 
-const DAMAGES: [[u64; 5]; 56] = [
+const DAMAGES: [[u64; 5]; 54] = [
     [SEVENS, CREATE, ADD + N + RW, ADD + C + N, CREATE],
     [ADD + N + VIA, KEEP, STATE, 0, 0],
     [CASE + T, PROBE, LIST, 0, 0],
@@ -17,8 +17,7 @@ const DAMAGES: [[u64; 5]; 56] = [
     [HARM + 24 * T + 3 * W + 9 * V, 0, 0, 0, 0],
     [HARM + 25 * T + 7 * W + V, 0, 0, 0, 0],
     [CASE + 26 * T, SET + 4 * W + 9 * V, 0, 0, 0],
-    [SET + 6 * W + 27 * V, 0, 0, 0, 0],
-    [HARM, 0, 0, 0, 0],
+    [SET + 6 * W + 27 * V, SET, PROBE, 0, 0],
     [TEXT + 30 * T, CASE + 31 * T, CUT + 7 * S, CREATE, LIST],
     [LOOK, CREATE, ADD + N, DELETE + N, ADVANCE],
     [COMMIT, RESTORE, 0, 0, 0],
@@ -27,10 +26,10 @@ const DAMAGES: [[u64; 5]; 56] = [
     [SET + 10 * W + 3 * V, SET + 11 * W + 4 * V, 0, 0, 0],
     [SET + 12 * W + 5 * V, SET + 13 * W + 6 * V, 0, 0, 0],
     [SET + 14 * W + 7 * V, SET + 15 * W + 8 * V, 0, 0, 0],
-    [HARM + 4 * W + 9 * V, 0, 0, 0, 0],
+    [SET + 4 * W + 9 * V, PROBE, 0, 0, 0],
     [CASE + 42 * T, SET + 4 * W, SET + 8 * W, SET + 9 * W, 0],
     [SET + 16 * W, SET + 18 * W, SET + 19 * W, SET + 20 * W, 0],
-    [HARM + 5 * W, HARM + 43 * T + 5 * W + 2 * V, 0, 0, 0],
+    [SET + 5 * W, PROBE, HARM + 43 * T + 5 * W + 2 * V, 0, 0],
     [HARM + 44 * T + 9 * W + V, 0, 0, 0, 0],
     [HARM + 45 * T + 10 * W + V, 0, 0, 0, 0],
     [HARM + 46 * T + 10 * W + 3 * V, 0, 0, 0, 0],
@@ -47,20 +46,19 @@ const DAMAGES: [[u64; 5]; 56] = [
     [HARM + 62 * T + 18 * W + 0x1000_0000 * V, 0, 0, 0, 0],
     [HARM + 63 * T + 19 * W, 0, 0, 0, 0],
     [TEXT + 70 * T, CASE + 71 * T, SET + 32 * W + 6 * V, 0, 0],
-    [SET + 33 * W, 0, 0, 0, 0],
-    [HARM + 6 * W + V, 0, 0, 0, 0],
-    [CASE + 72 * T, SET + 32 * W + 32 * V, SET + 33 * W, 0, 0],
-    [HARM + 6 * W + V, 0, 0, 0, 0],
+    [SET + 33 * W, SET + 6 * W + V, PROBE, 0, 0],
+    [CASE + 72 * T, SET + 32 * W + 32 * V, 0, 0, 0],
+    [SET + 33 * W, SET + 6 * W + V, PROBE, 0, 0],
     [CASE + 73 * T, SET + 32 * W + 5 * V, 0, 0, 0],
-    [SET + 33 * W + 4 * V, SET + 34 * W + 4 * V, 0, 0, 0],
-    [SET + 35 * W + 2 * V, 0, 0, 0, 0],
-    [HARM + 6 * W + 2 * V, 0, 0, 0, 0],
+    [SET + 33 * W + 4 * V, 0, 0, 0, 0],
+    [SET + 34 * W + 4 * V, SET + 35 * W + 2 * V, 0, 0, 0],
+    [SET + 6 * W + 2 * V, PROBE, 0, 0, 0],
     [CASE + 74 * T, SET + 32 * W + 4 * V, 0, 0, 0],
     [SET + 33 * W + 9 * V, 0, 0, 0, 0],
-    [HARM + 6 * W + V, 0, 0, 0, 0],
+    [SET + 6 * W + V, PROBE, 0, 0, 0],
     [CASE + 75 * T, SET + 4 * W + 9 * V, 0, 0, 0],
-    [SET + 32 * W + 4 * V, SET + 33 * W + 2 * V, 0, 0, 0],
-    [HARM + 6 * W + V, LIST, 0, 0, 0],
+    [SET + 32 * W + 4 * V, 0, 0, 0, 0],
+    [SET + 33 * W + 2 * V, SET + 6 * W + V, PROBE, LIST, 0],
 ];
 
 // Bodies of 512 bytes.
