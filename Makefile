@@ -1,5 +1,5 @@
-# `make demo` and `make test` are the two commands to begin with. They need the Rattle kit (`rt`), cargo and gcc on the path, fetch nothing and
-# install nothing.
+# `make demo` and `make test` are the two commands to begin with. They need the Rattle kit (`rt`) on the path, all but `make test` cargo and gcc too;
+# they fetch nothing and install nothing.
 
 # The demo and the benchmark run optimised; the tests are optimised too, with checks for overflow (host/Cargo.toml).
 RELEASE := cargo run --quiet --release --offline --manifest-path host/Cargo.toml
