@@ -6,7 +6,7 @@ use mathlib.Core.Path.{_≡_}
 use borrow.Author.Tests.{le-leb, eq-eqb, leb-true, eqb-true}
 use lib.Dec.{leb, eqb}
 use lib.ListN.{length, getD}
-use Rattle.words.specs.Layout.{cellAt, cellsOf, maxCells, maxBodies, maxSlots, tableWords, slotsOf, magic, magicAt, cellsAt, slotsAt, bodiesAt, zeroAt}
+use Rattle.words.specs.Layout.{cellAt, cellsOf, bodiesOf, maxCells, maxBodies, maxSlots, tableWords, slotsOf, magic, magicAt, cellsAt, slotsAt, bodiesAt, zeroAt}
 use Rattle.words.proofs.Scan.{and-split, and-join}
 use Rattle.table.specs.Checks.{between1, lengthsOk, headerOk}
 
@@ -15,9 +15,9 @@ pub record Lengths (memory bodies table : ℕ) : Type 0 where
   pub cells-low : 1 ≤ cellsOf memory
   pub cells-high : cellsOf memory ≤ maxCells
   pub memory-exact : memory ≡ cellAt (cellsOf memory)
-  pub bodies-low : 1 ≤ cellsOf bodies
-  pub bodies-high : cellsOf bodies ≤ maxBodies
-  pub bodies-exact : bodies ≡ cellAt (cellsOf bodies)
+  pub bodies-low : 1 ≤ bodiesOf bodies
+  pub bodies-high : bodiesOf bodies ≤ maxBodies
+  pub bodies-exact : bodies ≡ cellAt (bodiesOf bodies)
   pub slots-low : 1 ≤ slotsOf table
   pub slots-high : slotsOf table ≤ maxSlots
   pub table-exact : table ≡ tableWords (slotsOf table)

@@ -1,20 +1,19 @@
 -- What changes of many entries leave in the table, and that pairs may name them. Assumes nothing.
-use Prim.Native.Nat.{ℕ, zero, suc, _+_, _-_, _*_, _≤_, _<_}
-use mathlib.Core.Bool.{Bool, true, false, cond}
+use Prim.Native.Nat.{ℕ, zero, suc, _*_, _≤_, _<_}
+use mathlib.Core.Bool.{true, cond}
 use mathlib.Core.List.{List, [], _∷_, _++_}
 use mathlib.Core.Path.{_≡_, refl, sym, ap, subst, _∙_}
 use native.Mathlib.Nat.{not-suc-le-zero}
-use native.Mathlib.Numerals.{add-one}
 use native.Mathlib.Omega.{arith}
-use borrow.Author.Tests.{lt-ltb, eqb-true, eqb-false}
-use lib.Dec.{ltb, eqb}
+use borrow.Author.Tests.{eqb-true, eqb-false}
+use lib.Dec.{eqb}
 use lib.ListN.{length, getD, set, length-set, length-append}
 use lib.Seq.{getD-set-same, getD-set-other}
 use Rattle.words.specs.Layout.{firstAt, secondAt, pairsAt, handleAt, maxLive}
 use Rattle.words.specs.Scan.{count}
-use Rattle.words.specs.Stores.{Store, _≔_, store, stores, run, gather}
+use Rattle.words.specs.Stores.{Store, store, stores, gather}
 use Rattle.words.specs.Journal.{nameOk, namesOk}
-use Rattle.words.proofs.Scan.{by-bool, by-le}
+use Rattle.words.proofs.Scan.{by-bool}
 use Rattle.words.proofs.Plans.{Each, each-map, each-append, length-stores, getD-stores, run-append}
 use Rattle.words.proofs.Names.{name-from, names-make, names-each, names-above, names-rising}
 use Rattle.words.proofs.Plans.{Rising}
@@ -22,7 +21,15 @@ use Rattle.words.proofs.Gather.{each-gather}
 use Rattle.table.specs.Entry.{word1, word2}
 use Rattle.table.specs.Changes.{Change, keep, put, isChanged, newFirst, newSecond, entryStores, entryChanges}
 
+pub entry-few : (e i : ℕ) (c : Change) → length (entryStores e i c) ≤ 2
+entry-few e i keep = omega arith
+entry-few e i (put w v) = omega arith
+
 module _ (e : ℕ) (f : ℕ → Change) where
+  pub upto-few : (n : ℕ) → length (gather n (λ i. entryStores e i (f i))) ≤ 2 * n
+  upto-few zero = omega arith
+  upto-few (suc n) = rw length-append (omega (arith, upto-few n, entry-few e n (f n)))
+
   -- the stores of entry i are those of its two words
   own : (i : ℕ) (c : Change) → Each (λ s. (firstAt e i ≤ s .at) × (s .at ≤ secondAt e i)) (entryStores e i c)
   own i keep = tt
@@ -100,6 +107,31 @@ module _ (e : ℕ) (f : ℕ → Change) where
   head-unchanged t k h =
       getD-stores (entryChanges e f) t k
       (each-map (λ s. (handleAt maxLive ≤ s .at) × (s .at < firstAt e e)) (λ s. k ≡ s .at → ⊥) (entryChanges e f) (λ s b q. omega (arith, b .0)) (within e))
+
+  -- ---- the words after stores of the head, hs, too
+
+  module _ (hs : List Store) (low : Each (λ s. s .at < handleAt maxLive) hs) (t : List ℕ) where
+    -- what hs leave beyond the head
+    beyond : (k : ℕ) → handleAt maxLive ≤ k → getD (stores hs t) k 0 ≡ getD t k 0
+    beyond k h = getD-stores hs t k (each-map (λ s. s .at < handleAt maxLive) (λ s. k ≡ s .at → ⊥) hs (λ s l q. omega arith) low)
+
+    in-turn : stores (hs ++ entryChanges e f) t ≡ stores (entryChanges e f) (stores hs t)
+    in-turn = run-append store hs (entryChanges e f) t
+
+    pub head-staged : (k : ℕ) → k < handleAt maxLive → getD (stores (hs ++ entryChanges e f) t) k 0 ≡ getD (stores hs t) k 0
+    head-staged k h = ap (λ (u : List ℕ). getD u k 0) in-turn ∙ head-unchanged (stores hs t) k h
+
+    module _ (long : pairsAt e ≤ length t) (i : ℕ) (l : i < e) where
+      still-long : pairsAt e ≤ length (stores hs t)
+      still-long = rw (length-stores hs t) long
+
+      pub first-staged : word1 e (stores (hs ++ entryChanges e f) t) i ≡ newFirst (f i) (word1 e t i)
+      first-staged =
+          ap (λ (u : List ℕ). word1 e u i) in-turn ∙ first-changed (stores hs t) still-long i l ∙ ap (newFirst (f i)) (beyond (firstAt e i) (omega arith))
+
+      pub second-staged : word2 e (stores (hs ++ entryChanges e f) t) i ≡ newSecond (f i) (word2 e t i)
+      second-staged =
+          ap (λ (u : List ℕ). word2 e u i) in-turn ∙ second-changed (stores hs t) still-long i l ∙ ap (newSecond (f i)) (beyond (secondAt e i) (omega arith))
 
   -- ---- their number and their names
 

@@ -9,7 +9,23 @@ use lib.ListN.{getD}
 use lib.Dec.{ltb, leb, eqb}
 use Rattle.words.specs.Scan.{first}
 use Rattle.words.proofs.Scan.{first-at, first-le, first-hit, first-miss, first-ext, and-split, and-join, is-false, true≢, not-lt, not-above}
-use Rattle.table.specs.Entry.{word1, depthOf, cellOf, names, findIn, holdsIn}
+use Rattle.table.specs.Entry.{word1, depthOf, viaOf, writableOf, cellOf, isVia, isWritable, names, findIn, holdsIn}
+
+-- ---- the fields of a first word, as truths and as numbers
+pub via-one : (w : ℕ) → isVia w ≡ true → viaOf w ≡ 1
+via-one w p = eqb-true (viaOf w) 1 p
+
+pub via-zero : (w : ℕ) → isVia w ≡ false → viaOf w ≡ 0
+via-zero w p = let q = eqb-false (viaOf w) 1 p in omega (arith, q)
+
+pub via-some : (w : ℕ) → isVia w ≡ true → viaOf w ≡ 0 → ⊥
+via-some w p z = omega (arith, z, via-one w p)
+
+pub label-one : (w : ℕ) → isWritable w ≡ true → writableOf w ≡ 1
+label-one w p = eqb-true (writableOf w) 1 p
+
+pub label-zero : (w : ℕ) → isWritable w ≡ false → writableOf w ≡ 0
+label-zero w p = let q = eqb-false (writableOf w) 1 p in omega (arith, q)
 
 module _ (e : ℕ) (t : List ℕ) (d c : ℕ) where
   pub names-both : (w : ℕ) → names d c w ≡ true → (depthOf w ≡ d) × (cellOf w ≡ c)

@@ -1,18 +1,23 @@
 -- The rule on the handles as facts, and which changes of words 4, 5 and 8 to 15 keep the table's rule. Assumes nothing.
-use Prim.Native.Nat.{ℕ, zero, suc, _+_, _-_, _*_, _≤_, _<_}
-use mathlib.Core.Bool.{Bool, true, false, cond, _&&_}
-use mathlib.Core.List.{List}
-use mathlib.Core.Path.{_≡_, refl, sym, ap, subst, _∙_}
+use Prim.Native.Nat.{ℕ, zero, suc, _+_, _-_, _≤_, _<_}
+use mathlib.Core.Bool.{true}
+use mathlib.Core.List.{List, _∷_, _++_}
+use mathlib.Core.Path.{_≡_, sym, ap, subst, _∙_}
 use native.Mathlib.Omega.{arith}
 use borrow.Author.Tests.{lt-ltb, le-ltb, eq-eqb, ltb-true, ltb-false, eqb-true, eqb-false}
-use lib.ListN.{getD}
-use lib.Dec.{ltb, leb, eqb}
-use Rattle.words.specs.Layout.{maxLive}
-use Rattle.words.proofs.Scan.{and-split, and-join, by-bool}
+use lib.ListN.{length, getD, set, length-set}
+use lib.Seq.{getD-set-same, getD-set-other}
+use lib.Dec.{ltb, eqb}
+use Rattle.words.specs.Layout.{maxLive, liveAt, nextAt, handleAt, pairsAt}
+use Rattle.words.specs.Stores.{Store, _≔_, stores, tab, tabFrom}
+use Rattle.words.proofs.Scan.{and-split, and-join, by-bool, by-le}
+use Rattle.words.proofs.Plans.{Each, each-tab, each-tabFrom, getD-stores}
 use Rattle.table.specs.Entry.{live, nextHandle, handle, word1, word2, depthOf, viaOf, cellOf, parent, names, findIn}
 use Rattle.table.specs.Rule.{handleBefore, handleOk}
+use Rattle.table.specs.Changes.{Change, entryChanges}
 use Rattle.table.proofs.Entry.{find-ext}
 use Rattle.table.proofs.Rule.{Rule, Used, Apart}
+use Rattle.table.proofs.Entries.{head-unchanged, head-staged}
 
 -- ---- a handle's word
 
@@ -74,4 +79,93 @@ module _ (m e b : ℕ) (t u : List ℕ) (ok : Rule m e b t)
             rw (firsts i l, same (parent (depthOf (word1 e t i))) (cellOf (word1 e t i))) (ok .outer i l (λ z. v (ap viaOf (firsts i l) ∙ z)));
         apart-from = λ i l j h x y.
             apart-kept i j l (omega arith) (ok .apart-from i l j h (λ z. x (firsts i l ∙ z)) (λ z. y (firsts j (omega arith) ∙ z)));
+      }
+
+-- ---- of the domains of t the first n remain in u
+
+pub record Remain (n : ℕ) (t u : List ℕ) : Type 0 where
+  pub fewer : n ≤ live t
+  pub live : live u ≡ n
+  pub next : nextHandle u ≡ nextHandle t
+  pub kept : (k : ℕ) → k < n → handle u k ≡ handle t k
+  pub gone : (k : ℕ) → n ≤ k → k < maxLive → handle u k ≡ 0
+
+-- their handles are right
+pub remain-handles : (n : ℕ) (t u : List ℕ) → ((k : ℕ) → k < maxLive → handleOk t k ≡ true) → Remain n t u → (k : ℕ) → k < maxLive → handleOk u k ≡ true
+remain-handles n t u ok r k l =
+    handle-make u k
+    (λ h.
+    let lt : k < n = subst (λ (x : ℕ). k < x) (r .live) h in
+    let old = handle-live t k (ok k l) (omega (arith, r .fewer)) in
+    let before : handleBefore u k ≡ handleBefore t k =
+    by-bool (eqb k 0) (λ z. rw z) (λ z. rw z (r .kept (k - 1) (omega arith))) in
+    (rw (before, r .kept k lt) (old .0), rw (r .kept k lt, r .next) (old .1)))
+    (λ h. r .gone k (subst (λ (x : ℕ). x ≤ k) (r .live) h) l)
+
+-- all of them, where no word of the head is stored
+pub all-remain : {m e b : ℕ} {t : List ℕ} (f : ℕ → Change) → Rule m e b t → Remain (live t) t (stores (entryChanges e f) t)
+all-remain {m} {e} {b} {t} f ok =
+    let few = ok .live in
+    record {
+      fewer = omega arith;
+      live = head-unchanged e f t liveAt (omega arith);
+      next = head-unchanged e f t nextAt (omega arith);
+      kept = λ k l. head-unchanged e f t (handleAt k) (omega arith);
+      gone = λ k h l. head-unchanged e f t (handleAt k) (omega arith) ∙ handle-unused t k (ok .handles k l) h;
+    }
+
+-- the first d, where word 4 becomes d and the handles of the others, of n, become 0
+abbrev pub endedWords : (d n : ℕ) → List Store
+endedWords d n = (liveAt ≔ d) ∷ tab (n - d) (λ k. handleAt (d + k) ≔ 0)
+
+pub ended-low : (d n : ℕ) → n ≤ maxLive → Each (λ s. s .at < handleAt maxLive) (endedWords d n)
+ended-low d n few = (omega arith, each-tab (λ s. s .at < handleAt maxLive) (λ k. handleAt (d + k) ≔ 0) (n - d) (λ k l. omega arith))
+
+cleared : (d at n j : ℕ) (l : List ℕ) → handleAt (d + (at + n)) ≤ length l → at ≤ j → j < at + n
+    → getD (stores (tabFrom (λ k. handleAt (d + k) ≔ 0) at n) l) (handleAt (d + j)) 0 ≡ 0
+cleared d at zero j l fits a b = absurd (never at j a b)
+  where
+    never : (at j : ℕ) → at ≤ j → j < at + 0 → ⊥
+    never at j a b = omega arith
+cleared d at (suc n) j l fits a b =
+    by-bool (eqb j at)
+    (λ z.
+    let q = eqb-true j at z in
+    getD-stores (tabFrom (λ k. handleAt (d + k) ≔ 0) (suc at) n) (set l (handleAt (d + at)) 0) (handleAt (d + j))
+    (each-tabFrom (λ s. handleAt (d + j) ≡ s .at → ⊥) (λ k. handleAt (d + k) ≔ 0) (suc at) n (λ i h p. omega arith))
+    ∙ rw q (getD-set-same l (handleAt (d + at)) 0 0 (omega arith)))
+    (λ z.
+    let ne = eqb-false j at z in
+    cleared d (suc at) n j (set l (handleAt (d + at)) 0) (rw (length-set l (handleAt (d + at)) 0) (omega arith)) (omega (arith, ne)) (omega arith))
+
+module _ {m e b : ℕ} {t : List ℕ} (f : ℕ → Change) (ok : Rule m e b t) (long : pairsAt e ≤ length t) (d : ℕ) (fewer : d ≤ live t) where
+  at-head : (k : ℕ) → k < handleAt maxLive → getD (stores (endedWords d (live t) ++ entryChanges e f) t) k 0 ≡ getD (stores (endedWords d (live t)) t) k 0
+  at-head k l = head-staged e f (endedWords d (live t)) (ended-low d (live t) (ok .live)) t k l
+
+  -- a word that is no handle that leaves
+  beside : (k : ℕ) → ((j : ℕ) → j < live t - d → k ≡ handleAt (d + j) → ⊥) → getD (stores (endedWords d (live t)) t) k 0 ≡ getD (set t liveAt d) k 0
+  beside k h =
+      getD-stores (tab (live t - d) (λ j. handleAt (d + j) ≔ 0)) (set t liveAt d) k
+      (each-tab (λ s. k ≡ s .at → ⊥) (λ j. handleAt (d + j) ≔ 0) (live t - d) h)
+
+  same : (k : ℕ) → k < handleAt maxLive → (k ≡ liveAt → ⊥) → ((j : ℕ) → j < live t - d → k ≡ handleAt (d + j) → ⊥)
+      → getD (stores (endedWords d (live t) ++ entryChanges e f) t) k 0 ≡ getD t k 0
+  same k l p h = at-head k l ∙ beside k h ∙ getD-set-other t liveAt k d 0 p
+
+  pub first-remain : Remain d t (stores (endedWords d (live t) ++ entryChanges e f) t)
+  first-remain =
+      let few = ok .live in
+      record {
+        fewer = fewer;
+        live = at-head liveAt (omega arith) ∙ beside liveAt (λ j l q. omega arith) ∙ getD-set-same t liveAt d 0 (omega arith);
+        next = same nextAt (omega arith) (λ q. omega arith) (λ j l q. omega arith);
+        kept = λ k l. same (handleAt k) (omega arith) (λ q. omega arith) (λ j b q. omega arith);
+        gone = λ k h l.
+            by-le (live t) k
+            (λ a. same (handleAt k) (omega arith) (λ q. omega arith) (λ j b q. omega arith) ∙ handle-unused t k (ok .handles k l) a)
+            (λ a.
+            let at : handleAt k ≡ handleAt (d + (k - d)) = omega arith in
+            at-head (handleAt k) (omega arith)
+            ∙ ap (λ (x : ℕ). getD (stores (endedWords d (live t)) t) x 0) at
+            ∙ cleared d 0 (live t - d) (k - d) (set t liveAt d) (rw (length-set t liveAt d) (omega arith)) (omega arith) (omega arith));
       }

@@ -1,5 +1,6 @@
 -- Laws that belong to no one function.
 pub mod Entry
+pub mod Made
 pub mod Rule
 pub mod Agree
 pub mod Change

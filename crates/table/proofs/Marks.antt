@@ -12,9 +12,9 @@ use lib.ListN.{length, getD, set, replicate, length-replicate}
 use lib.Seq.{getD-set-same, getD-set-other}
 use lib.Dec.{ltb, eqb}
 use Rattle.words.proofs.Scan.{by-bool, and-split, is-false, true≢}
-use Rattle.table.specs.Entry.{word1, word2, depthOf, viaOf, parent, findIn, holdsIn}
+use Rattle.table.specs.Entry.{word1, word2, depthOf, viaOf, parent, findIn, holdsIn, ownsBody}
 use Rattle.table.specs.Rule.{parentOk}
-use Rattle.table.specs.Marks.{Marks, Distinct, zeros, has, withDepth, cellIn, markAt, markCell, Marked, CellsOnce, Blank, ViaInner, parentTold, IsCopy, copyWord, markBody, bodyFits}
+use Rattle.table.specs.Marks.{Marks, Distinct, zeros, has, withDepth, cellIn, markAt, markCell, Marked, CellsOnce, Blank, ViaInner, parentTold, IsCopy, markBody, bodyFits}
 use Rattle.table.proofs.Digits.{has-zero, has-here, has-other}
 use Rattle.table.proofs.Entry.{find-some, find-hit}
 use Rattle.table.proofs.Rule.{outer-facts, outer-make}
@@ -182,19 +182,19 @@ module _ (e : ℕ) (t : List ℕ) where
         (λ y. y ∙ sym (parent-missing i l v y))))
 
 -- ---- the pass over the bodies
-pub copy-word : (e : ℕ) (t : List ℕ) (i : ℕ) → copyWord (word1 e t i) ≡ true → IsCopy e t i
+pub copy-word : (e : ℕ) (t : List ℕ) (i : ℕ) → ownsBody (word1 e t i) ≡ true → IsCopy e t i
 copy-word e t i h =
     let s = and-split (not (eqb (word1 e t i) 0)) (eqb (viaOf (word1 e t i)) 0) h in
     (eqb-false _ _ (not-true _ (s .0)), eqb-true _ _ (s .1))
 
-pub is-copy-word : (e : ℕ) (t : List ℕ) (i : ℕ) → IsCopy e t i → copyWord (word1 e t i) ≡ true
+pub is-copy-word : (e : ℕ) (t : List ℕ) (i : ℕ) → IsCopy e t i → ownsBody (word1 e t i) ≡ true
 is-copy-word e t i u = rw (ne-eqb _ _ (u .0), eq-eqb _ _ (u .1))
 
 module _ (e : ℕ) (t : List ℕ) (n : ℕ) (s : List ℕ) (m : Marks (IsCopy e t) (word2 e t) 1 n s) where
   pub bodies-more : (IsCopy e t n → word2 e t n < length s) → Marks (IsCopy e t) (word2 e t) 1 (n + 1) (markBody (word1 e t n) (word2 e t n) s)
   unfolding markBody
   bodies-more fits =
-      by-bool (copyWord (word1 e t n))
+      by-bool (ownsBody (word1 e t n))
       (λ b. let u = copy-word e t n b in rw b (marks-more (IsCopy e t) (word2 e t) 1 n s u (fits u) m))
       (λ b. rw b (marks-skip (IsCopy e t) (word2 e t) 1 n s (λ u. true≢ (is-copy-word e t n u) b) m))
 
@@ -205,7 +205,7 @@ module _ (e : ℕ) (t : List ℕ) (n : ℕ) (s : List ℕ) (m : Marks (IsCopy e 
   body-taken : bodyFits (word1 e t n) (word2 e t n) s ≡ false → IsCopy e t n × (getD s (word2 e t n) 0 ≡ 1)
   unfolding bodyFits
   body-taken h =
-      by-bool (copyWord (word1 e t n))
+      by-bool (ownsBody (word1 e t n))
       (λ b. (copy-word e t n b, eqb-true _ _ (not-false _ (rw b at h))))
       (λ b. absurd (true≢ refl (rw b at h)))
 

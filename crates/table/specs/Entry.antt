@@ -1,7 +1,7 @@
 -- Document 01, "Three lent buffers": the words of an entry, and which entry is found for a depth and a cell.
 -- e is the table's number of entry slots, t its words.
-use Prim.Native.Nat.{ℕ, _-_, _/_, _%_}
-use mathlib.Core.Bool.{Bool, _&&_}
+use Prim.Native.Nat.{ℕ, _+_, _-_, _*_, _/_, _%_}
+use mathlib.Core.Bool.{Bool, not, _&&_}
 use mathlib.Core.List.{List}
 use lib.ListN.{getD, set}
 use lib.Dec.{ltb, eqb}
@@ -44,6 +44,34 @@ unusedOf w = w / 65_536 % 1_024
 -- bits 0 to 15: the cell
 abbrev pub cellOf : ℕ → ℕ
 cellOf w = w % 65_536
+
+-- all bits below the kind
+abbrev pub belowKind : ℕ → ℕ
+belowKind w = w % 67_108_864
+
+abbrev pub isWritable : ℕ → Bool
+isWritable w = eqb (writableOf w) 1
+
+abbrev pub isVia : ℕ → Bool
+isVia w = eqb (viaOf w) 1
+
+-- is the second word a body? It is that of an entry in use that is a copy
+abbrev pub ownsBody : ℕ → Bool
+ownsBody w = not (eqb w 0) && eqb (viaOf w) 0
+
+-- the first word of an entry of this depth, kind, label and cell
+abbrev pub entryWord : (depth kind label cell : ℕ) → ℕ
+entryWord d k l c = 268_435_456 * d + 134_217_728 * l + 67_108_864 * k + c
+
+-- a first word with the label read-write, one depth further out, and with the kind of a copy
+abbrev pub writable : ℕ → ℕ
+writable w = w + 134_217_728
+
+abbrev pub outward : ℕ → ℕ
+outward w = w - 268_435_456
+
+abbrev pub asCopy : ℕ → ℕ
+asCopy w = w - 67_108_864 * viaOf w
 
 -- the depth of the parent (document 01: the next domain out)
 abbrev pub parent : ℕ → ℕ

@@ -8,7 +8,7 @@ use lib.Dec.{ltb, leb, eqb}
 use lib.ListN.{getD, set, replicate}
 use Rattle.words.specs.Layout.{maxLive}
 use Rattle.words.specs.Scan.{all}
-use Rattle.table.specs.Entry.{word1, word2, depthOf, viaOf, unusedOf, cellOf, parent}
+use Rattle.table.specs.Entry.{word1, word2, depthOf, viaOf, unusedOf, cellOf, ownsBody, parent}
 use Rattle.table.specs.Rule.{entryOk, parentOk}
 
 module _ (Wanted : ℕ → Type 0) (key : ℕ → ℕ) (tag : ℕ) where
@@ -79,17 +79,13 @@ ViaInner e t = (i : ℕ) → i < e → (viaOf (word1 e t i) ≡ 0 → ⊥) → 2
 abbrev pub IsCopy : ℕ → List ℕ → ℕ → Type 0
 IsCopy e t i = (word1 e t i ≡ 0 → ⊥) × (viaOf (word1 e t i) ≡ 0)
 
--- is an entry with first word w a copy?
-abbrev pub copyWord : ℕ → Bool
-copyWord w = not (eqb w 0) && eqb (viaOf w) 0
-
 -- the marks after an entry with words w and v
 unfoldable pub markBody : ℕ → ℕ → List ℕ → List ℕ
-markBody w v used = cond (copyWord w) (set used v 1) used
+markBody w v used = cond (ownsBody w) (set used v 1) used
 
 -- may that entry stand: no copy before it has its body
 unfoldable pub bodyFits : ℕ → ℕ → List ℕ → Bool
-bodyFits w v used = cond (copyWord w) (not (eqb (getD used v 0) 1)) true
+bodyFits w v used = cond (ownsBody w) (not (eqb (getD used v 0) 1)) true
 
 -- ---- the pass over the entries, in a table for m cells, e entry slots and b bodies
 

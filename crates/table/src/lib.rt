@@ -3,6 +3,13 @@
 // Question 4 passes over the entries once, with one mark for each cell, a bit for each depth that holds it, and one for each body, so that it
 // does not compare each entry with each; it passes over them again only to ask via parent entries for their parent. The caller lends the
 // room for marks and has the marks afterwards. While pairs are pending it looks at a copy in which they are in place.
+pub mod fields;
+
+use fields::below_kind;
+use fields::cell_of;
+use fields::depth_of;
+use fields::is_via;
+use fields::via_of;
 use words::layout::BODIES_AT;
 use words::layout::CELLS_AT;
 use words::layout::LIVE_AT;
@@ -16,20 +23,24 @@ use words::layout::NEXT_AT;
 use words::layout::PENDING_AT;
 use words::layout::SLOTS_AT;
 use words::layout::ZERO_AT;
+use words::layout::bodies_of;
+use words::layout::cell_at;
+use words::layout::cells_of;
 use words::layout::first_at;
 use words::layout::handle_at;
+use words::layout::max_pairs;
 use words::layout::pairs_at;
 use words::layout::second_at;
 use words::layout::slots_of;
+use words::layout::table_words;
 use words::least;
 use words::remaining;
 use words::wide;
 use words::write_pair;
 ghost use mathlib.Core.Path.{_≡_};
-ghost use mathlib.Core.Bool.{true, false, cond, not, _&&_};
+ghost use mathlib.Core.Bool.{true, false, not};
 ghost use Prim.Native.Nat.{ℕ, _+_, _-_, _*_, _<_, _≤_, min};
 ghost use lib.ListN.{length, getD, take};
-ghost use lib.Dec.{ltb, leb, eqb};
 ghost use Rattle.words.specs.Layout.{pairsAt, tableWords, maxSlots, maxBodies, maxCells, maxLive, handleAt};
 ghost use Rattle.words.specs.Scan.{all};
 ghost use Rattle.words.specs.Stores.{stores};
@@ -37,11 +48,13 @@ ghost use Rattle.words.specs.Journal.{nameOk, namesOk, pairs, pairPlans, effect
 ghost use Rattle.table.specs.Changes.{put, entryStores};
 ghost use Rattle.table.specs.Entry.{live, word1, word2, viaOf, depthOf, cellOf, parent};
 ghost use Rattle.table.specs.Checks.{lengthsOk, headerOk};
-ghost use Rattle.table.specs.Rule.{handleOk, headOk, entryOk, parentOk, pairsOk, ruleOk, tableOk};
+ghost use Rattle.table.specs.Rule.{handleOk, headOk, parentOk, pairsOk, ruleOk, tableOk};
 ghost use Rattle.table.specs.Marks.{has, withDepth, markAt, markCell, Marked, ViasMarkable, ViaInner, parentTold, placed, kindTold, markBody, bodyFits, zeros, Blank, FreeRun, NoVias, Passed, AllMarked};
 
-// So many cells count as few: marks for them are cleared in no time.
+// So many cells and entry slots count as few: what a call needs for them is cleared in no time.
 pub const FEW_CELLS: usize = 1024;
+
+pub const FEW_SLOTS: usize = 256;
 
 // ---- questions 1 and 2
 
@@ -49,12 +62,12 @@ pub const FEW_CELLS: usize = 1024;
 pub fn lengths_ok(memory: usize, bodies: usize, table: usize) -> bool
     ensures { λ r. ⌜ r ≡ lengthsOk memory bodies table ⌝ }
 {
-    let m = memory / 64;
-    let b = bodies / 64;
+    let m = cells_of(memory);
+    let b = bodies_of(bodies);
     let e = slots_of(table);
-    (((1 <= m) & (m <= MAX_CELLS)) & (memory == 64 * m))
-        & ((((1 <= b) & (b <= MAX_BODIES)) & (bodies == 64 * b))
-            & (((1 <= e) & (e <= MAX_SLOTS)) & (table == 36 + 6 * e)))
+    (((1 <= m) & (m <= MAX_CELLS)) & (memory == cell_at(m)))
+        & ((((1 <= b) & (b <= MAX_BODIES)) & (bodies == cell_at(b)))
+            & (((1 <= e) & (e <= MAX_SLOTS)) & (table == table_words(e))))
 }
 
 // Are words 0 to 3 and 7 right for buffers with so many bytes?
@@ -64,9 +77,9 @@ pub fn header_ok(memory: usize, bodies: usize, table: &[u32]) -> bool
 {
     let slots = slots_of(table.len());
     (table[MAGIC_AT] == MAGIC)
-        & ((wide(table[CELLS_AT]) == memory / 64)
+        & ((wide(table[CELLS_AT]) == cells_of(memory))
             & ((wide(table[SLOTS_AT]) == slots)
-                & ((wide(table[BODIES_AT]) == bodies / 64) & (table[ZERO_AT] == 0))))
+                & ((wide(table[BODIES_AT]) == bodies_of(bodies)) & (table[ZERO_AT] == 0))))
 }
 
 // ---- the words of an entry
@@ -136,8 +149,8 @@ fn place_ok(word: u32, live: u32, cells: u32) -> bool
     requires { ⌜ cells ≤ maxCells ⌝ }
     ensures { λ r. ⌜ r ≡ placed cells live word ⌝ }
 {
-    let depth = word / 268435456;
-    (1 <= depth) & ((depth <= live) & (word % 67108864 < cells))
+    let depth = depth_of(word);
+    (1 <= depth) & ((depth <= live) & (below_kind(word) < cells))
 }
 
 // So many cells as a word. More than an entry can name count as that.
@@ -170,8 +183,8 @@ fn mark_cell(seen: &mut [u8], word: u32) -> bool
     requires { ⌜ (depthOf word ≤ maxLive) × (cellOf word < length (now seen)) ⌝ }
     ensures { λ r. ⌜ (r ≡ not (has (depthOf word) (markAt (now (seen .entry)) word))) × (r ≡ true → now (seen .exit) ≡ markCell word (now (seen .entry))) ⌝ }
 {
-    let depth = word / 268435456;
-    let cell = wide(word % 65536);
+    let depth = depth_of(word);
+    let cell = cell_of(word);
     let mark = seen[cell];
     if has_depth(mark, depth) {
         return false;
@@ -193,10 +206,10 @@ fn parent_marked(seen: &[u8], word: u32) -> bool
     requires { ⌜ ((viaOf word ≡ 0 → ⊥) → (cellOf word < length (now seen)) × (2 ≤ depthOf word)) ⌝ }
     ensures { λ r. ⌜ r ≡ parentTold word (now (seen .entry)) ⌝ }
 {
-    if word / 67108864 % 2 == 0 {
+    if !is_via(word) {
         return true;
     }
-    has_parent(seen[wide(word % 65536)], word / 268435456)
+    has_parent(seen[cell_of(word)], depth_of(word))
 }
 
 // Does every via parent entry rest on its parent?
@@ -238,8 +251,8 @@ fn mark_body(used: &mut [u8], word: u32, second: u32, bodies: u32) -> bool
     ensures right { λ r. ⌜ (r ≡ true → (kindTold bodies word second ≡ true) × (bodyFits word second (now (used .entry)) ≡ true) × (now (used .exit) ≡ markBody word second (now (used .entry)))) ⌝ }
     ensures wrong { λ r. ⌜ (r ≡ false → kindTold bodies word second ≡ true → bodyFits word second (now (used .entry)) ≡ false) ⌝ }
 {
-    if word / 67108864 % 2 == 1 {
-        return (second == 0) & (2 <= word / 268435456);
+    if is_via(word) {
+        return (second == 0) & (2 <= depth_of(word));
     }
     if bodies <= second {
         return false;
@@ -354,7 +367,7 @@ fn pass_entries(
         if !pass_entry(table, cells, slots, bodies, i, seen, used) {
             return Pass { right: false, vias };
         }
-        vias += wide(first_word(table, slots, i) / 67108864 % 2);
+        vias += via_of(first_word(table, slots, i));
         i = next_entry(table, slots, i + 1);
     }
     Pass { right: true, vias }
@@ -425,7 +438,7 @@ pub fn pairs_ok(table: &[u32], slots: usize) -> bool
     ensures { λ r. ⌜ r ≡ pairsOk slots (now (table .entry)) ⌝ }
 {
     let count = wide(table[PENDING_AT]);
-    if 2 * slots + 10 < count {
+    if max_pairs(slots) < count {
         return false;
     }
     names_ok(table, pairs_at(slots), count)

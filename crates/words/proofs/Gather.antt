@@ -1,12 +1,15 @@
 -- Laws of lists gathered one after another, and of pairs written so. Assumes nothing.
 use mathlib.Core.Path.{_≡_, refl, sym, ap, _∙_}
-use mathlib.Core.List.{List, [], _∷_, _++_, append-assoc}
+use mathlib.Core.List.{List, [], _∷_, _++_, append-assoc, append-nil}
+use mathlib.Core.Logic.{⊎-elim}
 use Prim.Native.Nat.{ℕ, zero, suc, _+_, _-_, _*_, _<_, _≤_}
+use native.Mathlib.Nat.{not-suc-le-zero, le-of-suc-le-suc, eq-or-lt-of-le}
 use native.Mathlib.Numerals.{add-one}
 use native.Mathlib.Omega.{arith}
 use lib.ListN.{length, getD, take, length-append}
 use Rattle.words.specs.Stores.{gather, run, Store, _≔_, store, stores}
 use Rattle.words.specs.Journal.{pairPlans}
+use Rattle.words.proofs.Scan.{by-le}
 use Rattle.words.proofs.Plans.{Each, each-take, each-append, run-take-append, getD-front}
 use Rattle.words.proofs.Pairs.{length-pairPlans, pairPlans-from}
 
@@ -26,6 +29,45 @@ module _ {A : Type 0} (f : ℕ → List A) where
   pub each-gather : (P : A → Type 0) (n : ℕ) → ((i : ℕ) → i < n → Each P (f i)) → Each P (gather n f)
   each-gather P zero h = tt
   each-gather P (suc n) h = each-append P (gather n f) (f n) (each-gather P n (λ i l. h i (omega arith))) (h n (omega arith))
+
+module _ {A : Type 0} where
+  pub gather-ext : (n : ℕ) (f g : ℕ → List A) → ((i : ℕ) → i < n → f i ≡ g i) → gather n f ≡ gather n g
+  gather-ext zero f g h = refl
+  gather-ext (suc n) f g h = rw (gather-ext n f g (λ i l. h i (omega arith)), h n (omega arith))
+
+  -- elements that add nothing
+  pub gather-skip : (f : ℕ → List A) (a b : ℕ) → a ≤ b → ((i : ℕ) → a ≤ i → i < b → f i ≡ []) → gather b f ≡ gather a f
+  gather-skip f a zero l h = let z : 0 ≡ a = omega arith in ap (λ (n : ℕ). gather n f) z
+  gather-skip f a (suc b) l h =
+      by-le a b
+      (λ q. ap (λ (x : List A). gather b f ++ x) (h b q (omega arith)) ∙ append-nil (gather b f) ∙ gather-skip f a b q (λ i r s. h i r (omega arith)))
+      (λ q. let z : suc b ≡ a = omega arith in ap (λ (n : ℕ). gather n f) z)
+
+  pub gather-none : (n : ℕ) (f : ℕ → List A) → ((i : ℕ) → i < n → f i ≡ []) → gather n f ≡ []
+  gather-none n f h = gather-skip f 0 n (omega arith) (λ i l b. h i b)
+
+  -- in two parts
+  pub gather-split : (f : ℕ → List A) (a b : ℕ) → gather (a + b) f ≡ gather a f ++ gather b (λ j. f (a + j))
+  gather-split f a zero =
+      let s : a + 0 ≡ a = omega arith in
+      ap (λ (n : ℕ). gather n f) s ∙ sym (append-nil (gather a f))
+  gather-split f a (suc b) =
+      let s : a + suc b ≡ suc (a + b) = omega arith in
+      ap (λ (n : ℕ). gather n f) s ∙ ap (λ (l : List A). l ++ f (a + b)) (gather-split f a b) ∙ append-assoc (gather a f) (gather b (λ j. f (a + j))) (f (a + b))
+
+  -- the first element that adds something, and the others
+  pub gather-first : (n z : ℕ) (f g : ℕ → List A) → z < n → ((i : ℕ) → i < z → f i ≡ []) → g z ≡ [] → ((i : ℕ) → (i ≡ z → ⊥) → g i ≡ f i)
+      → gather n f ≡ f z ++ gather n g
+  gather-first zero z f g l before here others = absurd (not-suc-le-zero l)
+  gather-first (suc n) z f g l before here others =
+      ⊎-elim
+      (λ (q : z ≡ n).
+      let none : gather n f ≡ [] = gather-none n f (λ i b. before i (omega arith)) in
+      let same : gather n g ≡ [] = gather-none n g (λ i b. others i (λ e. omega arith) ∙ before i (omega arith)) in
+      rw (none, same, ← q, here) (sym (append-nil (f z))))
+      (λ (q : z < n).
+      rw (gather-first n z f g q before here others, others n (λ e. omega arith)) (append-assoc (f z) (gather n g) (f n)))
+      (eq-or-lt-of-le (le-of-suc-le-suc l))
 
 -- ---- pairs
 

@@ -11,6 +11,10 @@ cellAt c = 64 * c
 abbrev pub cellsOf : ℕ → ℕ
 cellsOf bytes = bytes / 64
 
+-- and how many bodies
+abbrev pub bodiesOf : ℕ → ℕ
+bodiesOf bytes = bytes / 64
+
 abbrev pub maxCells : ℕ
 maxCells = 65_536
 
@@ -71,6 +75,10 @@ firstAt e i = 16 + 2 * i
 
 abbrev pub secondAt : ℕ → ℕ → ℕ
 secondAt e i = 17 + 2 * i
+
+-- the last word in front of the pairs
+abbrev pub lastAt : ℕ → ℕ
+lastAt e = 15 + 2 * e
 
 -- where the entries end and the pairs begin
 abbrev pub pairsAt : ℕ → ℕ

@@ -1,7 +1,7 @@
 // Where everything stands in the three lent buffers. The numbers of document 01's table stand here and in specs/Layout.antt alone.
 ghost use mathlib.Core.Path.{_≡_};
 ghost use Prim.Native.Nat.{_≤_, _<_};
-ghost use Rattle.words.specs.Layout.{cellAt, cellsOf, slotsOf, handleAt, firstAt, secondAt, pairsAt, maxLive, maxSlots};
+ghost use Rattle.words.specs.Layout.{cellAt, cellsOf, bodiesOf, slotsOf, tableWords, handleAt, firstAt, secondAt, pairsAt, maxPairs, maxLive, maxSlots};
 
 pub const MAX_CELLS: usize = 65536;
 
@@ -46,6 +46,21 @@ pub fn cells_of(bytes: usize) -> usize
     bytes / 64
 }
 
+// And how many bodies.
+pub fn bodies_of(bytes: usize) -> usize
+    ensures { λ r. ⌜ r ≡ bodiesOf bytes ⌝ }
+{
+    bytes / 64
+}
+
+// The length in words of a table with so many slots.
+pub fn table_words(slots: usize) -> usize
+    requires { ⌜ tableWords slots < 18446744073709551616 ⌝ }
+    ensures { λ r. ⌜ r ≡ tableWords slots ⌝ }
+{
+    36 + 6 * slots
+}
+
 // How many entry slots a table of so many words has. A table too short for any has 0.
 pub fn slots_of(words: usize) -> usize
     ensures { λ r. ⌜ r ≡ slotsOf words ⌝ }
@@ -74,6 +89,14 @@ pub fn second_at(slots: usize, i: usize) -> usize
     ensures { λ r. ⌜ r ≡ secondAt slots i ⌝ }
 {
     17 + 2 * i
+}
+
+// How many pairs there is room for.
+pub fn max_pairs(slots: usize) -> usize
+    requires { ⌜ slots ≤ maxSlots ⌝ }
+    ensures { λ r. ⌜ r ≡ maxPairs slots ⌝ }
+{
+    2 * slots + 10
 }
 
 // Where the entries end and the pairs begin.

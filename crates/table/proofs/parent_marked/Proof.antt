@@ -1,26 +1,45 @@
 -- `table::parent_marked` meets its contract. Assumes nothing.
+use mathlib.Core.Path.{_≡_, sym, _∙_}
 use native.Mathlib.Omega.{arith}
-use borrow.Author.Tests.{eq-eqb, ne-eqb}
+use Rattle.table.specs.Entry.{viaOf}
+use Rattle.table.proofs.Entry.{via-some, via-zero}
+use borrow.Author.Tests.{eq-eqb, ne-eqb, not-true, not-false}
 use borrow.Author.Needs.{needs}
 use Rattle.table.proofs.parent_marked.Statement.{statement}
 use Rattle.table.proofs.parent_marked.Tie as tie
 
-returns : tie.Need-returns
-returns c = rw (eq-eqb _ _ (c .if1 .taken))
+is-via-requires : tie.Need-is-via-requires
+is-via-requires c κs = search needs
 
-wide-requires : tie.Need-wide-requires
-wide-requires c κs = search needs
+returns : tie.Need-returns
+returns c = rw (eq-eqb _ _ (via-zero (c .before .before .before .args .word) (sym (c .before .is-via .ensures) ∙ not-true _ (c .if1 .taken))))
+
+cell-of-requires : tie.Need-cell-of-requires
+cell-of-requires c κs = search needs
 
 shared-slice-read-has-parent : tie.Need-shared-slice-read-has-parent
-shared-slice-read-has-parent c = omega (arith, c .before .wide .ensures, c .before .before .before .before .pre (c .before .before .if1 .left) .0)
+shared-slice-read-has-parent c = let via : viaOf (c .before .before .before .before .before .args .word) ≡ 0 → ⊥ = via-some (c .before .before .before .before .before .args .word) (sym (c .before .before .before .is-via .ensures) ∙ not-false _ (c .before .before .if1 .left)) in omega (arith, c .before .cell-of .ensures, c .before .before .before .before .before .pre via .0)
+
+depth-of-requires : tie.Need-depth-of-requires
+depth-of-requires c κs = search needs
 
 has-parent-requires : tie.Need-has-parent-requires
 has-parent-requires c κs = search needs
 
 returns-2 : tie.Need-returns-2
-returns-2 c = rw (ne-eqb _ _ (c .before .before .before .if1 .left)) (rw (c .before .before .wide .ensures) at (c .has-parent .ensures (omega (arith, c .before .before .before .before .before .pre (c .before .before .before .if1 .left) .1))))
+returns-2 c =
+    let via : viaOf (c .before .before .before .before .before .before .before .args .word) ≡ 0 → ⊥ = via-some (c .before .before .before .before .before .before .before .args .word) (sym (c .before .before .before .before .before .is-via .ensures) ∙ not-false _ (c .before .before .before .before .if1 .left)) in
+    let deep = c .before .before .before .before .before .before .before .pre via .1 in
+    rw (ne-eqb _ _ via) (rw (c .before .before .before .cell-of .ensures, c .before .depth-of .ensures) at (c .has-parent .ensures (omega (arith, c .before .depth-of .ensures, deep))))
 
 pub parent-marked-spec : {M : Type 1} → statement M
 parent-marked-spec =
     tie.close
-    (tie.spec returns wide-requires shared-slice-read-has-parent has-parent-requires returns-2)
+    (tie.spec
+    is-via-requires
+    returns
+    cell-of-requires
+    shared-slice-read-has-parent
+    depth-of-requires
+    has-parent-requires
+    returns-2)

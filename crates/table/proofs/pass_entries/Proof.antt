@@ -47,8 +47,8 @@ returns c = ((λ r. absurd (true≢ r refl)), (λ r. c .before .before .before .
 first-word-requires : tie.Need-first-word-requires Inv-loop μ-loop
 first-word-requires c κs = search needs
 
-wide-requires : tie.Need-wide-requires Inv-loop μ-loop
-wide-requires c κs = search needs
+via-of-requires : tie.Need-via-of-requires Inv-loop μ-loop
+via-of-requires c κs = search needs
 
 add-vias : tie.Need-add-vias Inv-loop μ-loop
 add-vias c = search needs
@@ -67,9 +67,9 @@ loop-again c = let turn = c .before .before .before .before .before .before .bef
     let a = c .before .before .before .before .before .before .before .before .before .before .before .before .before .before .before .before .before .args in
     let run = c .next-entry2 .ensures in
     let next = c .before .before .before .before .before .before .before .before .pass-entry .ensures .0 (not-false _ (c .before .before .before .if1 .left)) in
-    let via = c .before .wide .ensures ∙ ap viaOf (c .before .before .first-word .ensures) in (
+    let via = c .before .via-of .ensures ∙ ap viaOf (c .before .before .first-word .ensures) in (
       run .1,
-      omega (arith, c .before .wide .ensures, turn .inv .1, run .0),
+      omega (arith, c .before .via-of .ensures, turn .inv .1, run .0),
       c .before .before .before .before .before .before .before .before .pass-entry .kept .1 .1 .1 .1 .1 .0 ∙ turn .inv .2,
       c .before .before .before .before .before .before .before .before .pass-entry .kept .1 .1 .1 .1 .1 .1 .0 ∙ turn .inv .3,
       passed-free (a .cells) (a .slots) (a .bodies) (a .table .now) (turn .i + 1) _ _ next (c .next-entry2 .result) (run .0) (run .2),
@@ -103,7 +103,7 @@ pass-entries-spec =
     same-length-2
     returns
     first-word-requires
-    wide-requires
+    via-of-requires
     add-vias
     add-next-entry
     next-entry-requires-2
