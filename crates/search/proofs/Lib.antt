@@ -3,6 +3,7 @@ pub mod From
 pub mod Keys
 pub mod Holders
 pub mod Value
+pub mod Behind
 pub mod Change
 pub mod Free
 pub mod Domain

@@ -6,14 +6,14 @@ use mathlib.Core.Path.{_≡_}
 use lib.Dec.{ltb, eqb}
 use lib.ListN.{getD}
 use Rattle.words.specs.Scan.{first, count}
-use Rattle.table.specs.Entry.{word1, word2, viaOf}
+use Rattle.table.specs.Entry.{word1, word2, ownsBody}
 
 -- an entry's first word is 0 when it is free
 abbrev pub slotFree : ℕ → List ℕ → ℕ → Bool
 slotFree e t i = eqb (word1 e t i) 0
 
 abbrev pub isCopy : ℕ → List ℕ → ℕ → Bool
-isCopy e t i = not (slotFree e t i) && eqb (viaOf (word1 e t i)) 0
+isCopy e t i = ownsBody (word1 e t i)
 
 -- body k is some copy's
 unfoldable pub bodyUsed : ℕ → List ℕ → ℕ → Bool

@@ -1,6 +1,6 @@
 -- What a table means: the first holder of a cell from a domain inwards, and the value behind a via parent chain.
 use Prim.Native.Nat.{ℕ, zero, suc, _+_, _-_, _%_, _≤_, _<_}
-use mathlib.Core.Bool.{Bool, false, cond}
+use mathlib.Core.Bool.{Bool, true, false, cond}
 use mathlib.Core.List.{List}
 use mathlib.Core.Path.{_≡_}
 use lib.Dec.{ltb, eqb}
@@ -10,6 +10,8 @@ use Rattle.words.specs.Cells.{cellBytes}
 use Rattle.table.specs.Entry.{live, word1, word2, depthOf, viaOf, cellOf, names, findIn, holdsIn}
 use Rattle.search.specs.declared.Holder.{Holder}
 use Rattle.search.specs.declared.Holder.the-variants.{At, Nobody}
+use Rattle.search.specs.declared.Held.{Held}
+use Rattle.search.specs.declared.Held.the-variants.{Nowhere, InBody}
 
 -- ---- the search for an entry by its key
 
@@ -59,3 +61,11 @@ valueIn e t bodies d c = cellBytes bodies (word2 e t (sourceIn e t d c))
 -- the body behind what the first holder from depth d inwards holds of cell c
 abbrev pub bodyFrom : ℕ → List ℕ → ℕ → ℕ → ℕ
 bodyFrom e t d c = word2 e t (sourceIn e t (d + stepsIn e t d c) c)
+
+-- where there is a first holder, the copy behind what it holds is an entry of the table
+abbrev pub HasSource : ℕ → List ℕ → ℕ → ℕ → Type 0
+HasSource e t d c = heldFrom e t d c ≡ true → sourceIn e t (d + stepsIn e t d c) c < e
+
+-- what the first holder from depth d inwards has of cell c: its depth, and the body at the end of its chain
+unfoldable pub valueFrom : ℕ → List ℕ → ℕ → ℕ → Held
+valueFrom e t d c = cond (heldFrom e t d c) (InBody (d + stepsIn e t d c) (bodyFrom e t d c)) Nowhere

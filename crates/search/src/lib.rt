@@ -1,18 +1,25 @@
 // What a table means: which entry is found for a depth and a cell, the first holder from a domain inwards, the copy behind a via parent
 // chain; and which entry slots and bodies are free.
+use table::fields::cell_of;
+use table::fields::depth_of;
+use table::fields::entry_word;
+use table::fields::is_via;
+use table::fields::owns_body;
+use table::fields::writable_of;
 use table::first_word;
+use table::second_word;
 use words::layout::LIVE_AT;
 use words::layout::handle_at;
 use words::wide;
 ghost use mathlib.Core.Path.{_≡_};
 ghost use mathlib.Core.Bool.{false, cond};
 ghost use Prim.Native.Nat.{ℕ, _+_, _-_, _*_, _/_, _^_, _<_, _≤_};
-ghost use lib.ListN.{length, getD, set};
+ghost use lib.ListN.{length};
 ghost use lib.Dec.{eqb};
-ghost use Rattle.words.specs.Layout.{pairsAt, handleAt, maxSlots, maxLive, maxBodies, maxCells};
+ghost use Rattle.words.specs.Layout.{pairsAt, handleAt, maxSlots, maxLive, maxCells};
 ghost use Rattle.table.specs.Entry.{live, depthOf, cellOf, findIn};
 ghost use Rattle.table.specs.Marks.{markAt, Marked, CellsOnce, cellIn};
-ghost use Rattle.search.specs.Search.{Bare, IsKey, namedBy, Unnamed, holderIn, sourceIn};
+ghost use Rattle.search.specs.Search.{Bare, IsKey, namedBy, Unnamed, HasSource, holderIn, sourceIn, valueFrom};
 ghost use Rattle.search.specs.Free.{usedSlots, copies, unmarkedFrom};
 ghost use Rattle.search.specs.Domain.{depthNamed};
 ghost use Rattle.search.specs.Writable.{takenBy, keepCell, TellWritable};
@@ -21,6 +28,12 @@ ghost use Rattle.search.specs.Writable.{takenBy, keepCell, TellWritable}
 pub enum Holder {
     At(u32, usize),
     Nobody,
+}
+
+// The value that the first holder of a cell has: its depth, and the body at the end of its chain.
+pub enum Held {
+    Nowhere,
+    InBody(u32, u32),
 }
 
 // ---- the search for an entry
@@ -32,7 +45,7 @@ fn key_of(depth: u32, cell: u32) -> u32
     requires { ⌜ (depth < 16) × (cell < maxCells) ⌝ }
     ensures { λ r. ⌜ IsKey depth cell r ⌝ }
 {
-    268435456 * depth + cell
+    entry_word(depth, 0, 0, cell)
 }
 
 // Does an entry's first word name the depth and the cell of a key? It does where the two differ in label, kind and unused bits alone, which
@@ -42,7 +55,7 @@ fn is_named(word: u32, key: u32) -> bool
     ensures { λ r. ⌜ r ≡ namedBy key word ⌝ }
 {
     let apart = std::num::wrapping_sub_u32(word, key);
-    (apart / 268435456 == 0) & (apart % 65536 == 0)
+    (depth_of(apart) == 0) & (cell_of(apart) == 0)
 }
 
 // Is one of the four entries from `i` on named? All four are asked, with no branch.
@@ -129,12 +142,31 @@ pub fn find_source(table: &[u32], slots: usize, depth: u32, cell: u32) -> usize
         if slots <= i {
             return slots;
         }
-        if first_word(table, slots, i) / 67108864 % 2 == 0 {
+        if !is_via(first_word(table, slots, i)) {
             return i;
         }
         d -= 1;
     }
     slots
+}
+
+// What the first holder of a cell, from this depth to the innermost, has of it.
+pub fn find_value(table: &[u32], slots: usize, from: u32, cell: u32) -> Held
+    requires { ⌜ (slots ≤ maxSlots) × (pairsAt slots ≤ length (now table)) × (live (now table) ≤ maxLive) ⌝ }
+    requires { ⌜ HasSource slots (now table) from cell ⌝ }
+    ensures { λ r. ⌜ r ≡ valueFrom slots (now (table .entry)) from cell ⌝ }
+{
+    match find_holder(table, slots, from, cell) {
+        Holder::Nobody => Held::Nowhere,
+        Holder::At(depth, entry) => {
+            if !is_via(first_word(table, slots, entry)) {
+                return Held::InBody(depth, second_word(table, slots, entry));
+            }
+            // a via parent entry has no body of its own: the copy further out has
+            let source = find_source(table, slots, depth - 1, cell);
+            Held::InBody(depth, second_word(table, slots, source))
+        }
+    }
 }
 
 // ---- free entry slots and free bodies
@@ -156,9 +188,8 @@ pub fn count_used(table: &[u32], slots: usize) -> InUse
     let mut i: usize = 0;
     while i < slots {
         let word = first_word(table, slots, i);
-        let used = word != 0;
-        entries += used as u32;
-        copies += (used & (word / 67108864 % 2 == 0)) as u32;
+        entries += (word != 0) as u32;
+        copies += owns_body(word) as u32;
         i += 1;
     }
     InUse {
@@ -212,7 +243,7 @@ fn taken_bit(word: u32, depth: u32) -> u8
     requires { ⌜ (depth ≤ maxLive) × (depthOf word ≡ depth) ⌝ }
     ensures { λ r. ⌜ r ≡ 2 ^ takenBy depth word / 2 ⌝ }
 {
-    ((1u32 << depth) / 2 * (1 - word / 134217728 % 2)) as u8
+    ((1u32 << depth) / 2 * (1 - writable_of(word))) as u8
 }
 
 // Takes this depth out of the mark of a read-only entry's cell. Entries of another depth, and free ones, are left out: a free entry's word
@@ -221,10 +252,10 @@ fn keep_entry(seen: &mut [u8], word: u32, depth: u32)
     requires { ⌜ (depth ≤ maxLive) × (cellOf word < length (now seen)) × (2 ^ takenBy depth word / 2 ≤ markAt (now seen) word) ⌝ }
     ensures { λ _. ⌜ now (seen .exit) ≡ cond (eqb (depthOf word) depth) (keepCell depth word (now (seen .entry))) (now (seen .entry)) ⌝ }
 {
-    if word / 268435456 != depth {
+    if depth_of(word) != depth {
         return;
     }
-    let cell = wide(word % 65536);
+    let cell = cell_of(word);
     let mark = seen[cell];
     seen[cell] = mark - taken_bit(word, depth);
 }

@@ -8,7 +8,7 @@ use borrow.Author.Needs.{needs}
 use lib.Dec.{eqb}
 use Rattle.words.specs.Scan.{count}
 use Rattle.words.proofs.Scan.{count-le}
-use Rattle.table.specs.Entry.{viaOf}
+use Rattle.table.specs.Entry.{ownsBody}
 use Rattle.search.specs.Free.{slotFree, isCopy, usedSlots, copies}
 use Rattle.search.proofs.From.{count-byte, byte-small}
 use Rattle.search.proofs.count_used.Statement.{statement}
@@ -33,11 +33,14 @@ cast-entries c = search needs
 add-entries : tie.Need-add-entries Inv-loop μ-loop
 add-entries c = let a = c .before .before .before .before .args in omega (arith, count-le (c .before .before .loop .i) (λ k. not (slotFree (a .slots) (a .table .now) k)), byte-small (not (eqb (c .first-word .result) 0)))
 
+owns-body-requires : tie.Need-owns-body-requires Inv-loop μ-loop
+owns-body-requires c κs = search needs
+
 cast-copies : tie.Need-cast-copies Inv-loop μ-loop
 cast-copies c = search needs
 
 add-copies : tie.Need-add-copies Inv-loop μ-loop
-add-copies c = let a = c .before .before .before .before .args in omega (arith, count-le (c .before .before .loop .i) (isCopy (a .slots) (a .table .now)), byte-small (not (eqb (c .first-word .result) 0) && eqb (viaOf (c .first-word .result)) 0))
+add-copies c = let a = c .before .before .before .before .before .args in omega (arith, count-le (c .before .before .before .loop .i) (isCopy (a .slots) (a .table .now)), byte-small (c .owns-body .result))
 
 add-i : tie.Need-add-i Inv-loop μ-loop
 add-i c = search needs
@@ -47,11 +50,11 @@ loop-less c = search needs
 
 loop-again : tie.Need-loop-again Inv-loop μ-loop
 loop-again c =
-    let a = c .before .before .before .before .args in
-    let word = c .first-word .ensures in (
+    let a = c .before .before .before .before .before .args in
+    let word = c .before .first-word .ensures in (
       search needs,
-      count-byte (λ k. not (slotFree (a .slots) (a .table .now) k)) (c .before .before .loop .i) (c .before .before .loop .entries) (c .before .before .loop .inv .1) _ (ap (λ (w : ℕ). not (eqb w 0)) word),
-      count-byte (isCopy (a .slots) (a .table .now)) (c .before .before .loop .i) (c .before .before .loop .copies) (c .before .before .loop .inv .2) _ (ap (λ (w : ℕ). not (eqb w 0) && eqb (viaOf w) 0) word),
+      count-byte (λ k. not (slotFree (a .slots) (a .table .now) k)) (c .before .before .before .loop .i) (c .before .before .before .loop .entries) (c .before .before .before .loop .inv .1) _ (ap (λ (w : ℕ). not (eqb w 0)) word),
+      count-byte (isCopy (a .slots) (a .table .now)) (c .before .before .before .loop .i) (c .before .before .before .loop .copies) (c .before .before .before .loop .inv .2) _ (c .owns-body .ensures ∙ ap ownsBody word),
     )
 
 wide-requires : tie.Need-wide-requires Inv-loop μ-loop
@@ -79,6 +82,7 @@ count-used-spec =
     first-word-requires
     cast-entries
     add-entries
+    owns-body-requires
     cast-copies
     add-copies
     add-i

@@ -2,7 +2,8 @@
 -- Assumes nothing.
 use mathlib.Core.Path.{_≡_, sym, ap, _∙_}
 use borrow.Author.Needs.{needs}
-use Rattle.table.specs.Entry.{viaOf}
+use borrow.Author.Tests.{not-true, not-false}
+use Rattle.table.proofs.Entry.{via-some, via-zero}
 use Rattle.search.specs.Search.{sourceIn}
 use Rattle.search.proofs.Value.{source-none-at, source-copy-at, source-via-at, source-zero}
 use Rattle.search.proofs.find_source.Statement.{statement}
@@ -26,8 +27,11 @@ returns c = sym (c .before .before .before .loop .inv ∙ source-none-at _ _ _ _
 first-word-requires : tie.Need-first-word-requires Inv-loop μ-loop
 first-word-requires c κs = search needs
 
+is-via-requires : tie.Need-is-via-requires Inv-loop μ-loop
+is-via-requires c κs = search needs
+
 returns-2 : tie.Need-returns-2 Inv-loop μ-loop
-returns-2 c = sym (c .before .before .before .before .before .loop .inv ∙ source-copy-at _ _ _ _ _ (c .before .before .before .before .loop-test .taken) (c .before .before .before .find-entry .ensures) (c .before .before .if1 .left) (ap viaOf (sym (c .before .first-word .ensures)) ∙ c .if2 .taken))
+returns-2 c = sym (c .before .before .before .before .before .before .loop .inv ∙ source-copy-at _ _ _ _ _ (c .before .before .before .before .before .loop-test .taken) (c .before .before .before .before .find-entry .ensures) (c .before .before .before .if1 .left) (via-zero _ (rw (c .before .before .first-word .ensures) at (sym (c .before .is-via .ensures) ∙ not-true _ (c .if2 .taken)))))
 
 sub-d : tie.Need-sub-d Inv-loop μ-loop
 sub-d c = search needs
@@ -36,7 +40,7 @@ loop-less : tie.Need-loop-less Inv-loop μ-loop
 loop-less c = search needs
 
 loop-again : tie.Need-loop-again Inv-loop μ-loop
-loop-again c = c .before .before .before .before .before .loop .inv ∙ source-via-at _ _ _ _ _ (c .before .before .before .before .loop-test .taken) (c .before .before .before .find-entry .ensures) (c .before .before .if1 .left) (λ z. c .if2 .left (ap viaOf (c .before .first-word .ensures) ∙ z))
+loop-again c = c .before .before .before .before .before .before .loop .inv ∙ source-via-at _ _ _ _ _ (c .before .before .before .before .before .loop-test .taken) (c .before .before .before .before .find-entry .ensures) (c .before .before .before .if1 .left) (via-some _ (rw (c .before .before .first-word .ensures) at (sym (c .before .is-via .ensures) ∙ not-false _ (c .if2 .left))))
 
 returns-3 : tie.Need-returns-3 Inv-loop μ-loop
 returns-3 c = sym (c .before .loop .inv ∙ source-zero _ _ _ _ (c .loop-test .left))
@@ -51,6 +55,7 @@ find-source-spec =
     find-entry-requires
     returns
     first-word-requires
+    is-via-requires
     returns-2
     sub-d
     loop-less
