@@ -1,9 +1,9 @@
--- A call that replaces no word leaves the state as it is; so what any call leaves to be seen, at any budget, is a move of a session. Assumes nothing.
+-- A call that replaces no word leaves the state as it is: add, delete, advance and restore. Assumes nothing.
 use Prim.Native.Nat.{ℕ, _+_, _-_, _*_, _≤_, _<_}
 use mathlib.Core.Bool.{Bool, true, false, cond, not, _&&_, true≢false, false≢true}
 use mathlib.Core.List.{List, [], _∷_}
 use mathlib.Core.Option.{Option, none, some}
-use mathlib.Core.Path.{_≡_, refl, sym, ap, subst, _∙_}
+use mathlib.Core.Path.{_≡_, refl, ap, subst, _∙_}
 use native.Mathlib.Omega.{arith}
 use borrow.Author.Tests.{leb-true, ltb-true, eqb-true, not-false}
 use lib.Dec.{leb, ltb, eqb}
@@ -15,14 +15,11 @@ use Rattle.words.proofs.Scan.{by-bool, by-le, and-split}
 use Rattle.words.proofs.Nth.{count-below}
 use Rattle.model.specs.State.{Label, readOnly, readWrite, Kind, Holding, Domain, State}
 use Rattle.model.specs.Answer.{ask}
-use Rattle.model.specs.Calls.{change}
-use Rattle.model.specs.Holdings.{Room, named, holdingAt, isHeld, isWritable, heldWritable, heldReadOnly, isLive, inRange, onInnermost, holding, labelNumbered, kindNumbered, raised, added, givenValue, addTo, newlyHeld, relabelled, addChecks, deleteChecks, advanced, writableCells, advanceChecks, commitChecks}
+use Rattle.model.specs.Holdings.{holdingAt, isHeld, isWritable, heldWritable, heldReadOnly, isLive, inRange, onInnermost, holding, raised, added, givenValue, addTo, newlyHeld, relabelled, deleteChecks, advanced, writableCells}
 use Rattle.model.specs.Holdings.{advance as advanceState}
-use Rattle.model.specs.Restore.{restored, endedDomains, freedEntries, restoreWords, restoreChecks, lookChecks}
-use Rattle.model.specs.History.{Request, create, list, add, delete, advance, commit, restore, look}
-use Rattle.model.specs.Session.{call, nothingDue, world, effectOf, viewOf, Move, Within}
-use Rattle.model.proofs.Effects.{ask-yes, passed}
-use Rattle.model.proofs.Views.{dueAfter, view-moves}
+use Rattle.model.specs.Restore.{restored, endedDomains, freedEntries, restoreWords}
+use Rattle.model.specs.Session.{Within}
+use Rattle.model.proofs.Effects.{ask-yes}
 
 -- ---- counts of none
 
@@ -60,7 +57,7 @@ relabelled-none : (first n : ℕ) (l : Label) (s : State) → relabelled first n
 relabelled-none first n readOnly s e w = absurd (false≢true w)
 relabelled-none first n readWrite s e w = e
 
-add-idle : (memory : List ℕ) (first n : ℕ) (k : Kind) (l : Label) (s : State) → newlyHeld first n s + relabelled first n l s ≡ 0
+pub add-idle : (memory : List ℕ) (first n : ℕ) (k : Kind) (l : Label) (s : State) → newlyHeld first n s + relabelled first n l s ≡ 0
     → addTo memory first n k l s ≡ s
 add-idle memory first n k l s e =
     same-domains s _ (inner-same _ (s .domains) (λ d at. same-holdings _ d (λ c. one c (inRange first n c) (d .holds c) refl (at c))))
@@ -86,13 +83,24 @@ add-idle memory first n k l s e =
         let there = none-counted n (λ j. heldReadOnly (holdingAt (s .domains) (length (s .domains)) (first + j))) none (c - first) (omega arith) in
         ap heldReadOnly a ∙ subst (λ (x : ℕ). heldReadOnly (holdingAt (s .domains) (length (s .domains)) x) ≡ false) back there)
 
+-- ---- delete: it frees a cell at least
+
+pub delete-some : (m h first n : ℕ) (s : State) → deleteChecks m h first n s ≡ 0 → 1 ≤ n
+delete-some m h first n s q = go (isLive h s) (leb (first + n) m) _ q
+  where
+    go : (a b : Bool) (rest : ℕ) → ask a 5 (ask (leb 1 n && b) 8 rest) ≡ 0 → 1 ≤ n
+    go a b rest q =
+        let q5 = ask-yes a 5 (ask (leb 1 n && b) 8 rest) (omega arith) q in
+        let q8 = ask-yes (leb 1 n && b) 8 rest (omega arith) (q5 .1) in
+        leb-true 1 n (and-split (leb 1 n) b (q8 .0) .0)
+
 -- ---- advance
 
 advanced-same : (bytes : List ℕ) (o : Option Holding) → heldWritable o ≡ false → advanced bytes o ≡ o
 advanced-same bytes none e = refl
 advanced-same bytes (some h) e = rw e
 
-advance-idle : (cells : ℕ) (memory : List ℕ) (s : State) → Within cells s → writableCells cells s ≡ 0 → advanceState memory s ≡ s
+pub advance-idle : (cells : ℕ) (memory : List ℕ) (s : State) → Within cells s → writableCells cells s ≡ 0 → advanceState memory s ≡ s
 advance-idle cells memory s w e =
     same-domains s _ (inner-same _ (s .domains) (λ d at. same-holdings _ d (λ c. advanced-same (cellBytes memory c) (d .holds c) (ap heldWritable (at c) ∙ one c))))
   where
@@ -103,7 +111,7 @@ advance-idle cells memory s w e =
 
 -- ---- restore
 
-restore-idle : (m d : ℕ) (s : State) → restoreWords m d s ≡ 0 → restored d s ≡ s
+pub restore-idle : (m d : ℕ) (s : State) → restoreWords m d s ≡ 0 → restored d s ≡ s
 restore-idle m d s e = same-domains s _ (take-all d (s .domains) (none-ended (by-bool (eqb (endedDomains d s) 0) (λ t. eqb-true _ 0 t) (λ t. absurd (more (rw t at e))))))
   where
     none-ended : length (s .domains) - d ≡ 0 → length (s .domains) ≤ d
@@ -111,43 +119,3 @@ restore-idle m d s e = same-domains s _ (take-all d (s .domains) (none-ended (by
 
     more : 2 * freedEntries m d s + (1 + endedDomains d s) ≡ 0 → ⊥
     more z = omega arith
-
--- ---- any call
-
-deleted-some : (a b : Bool) (n rest : ℕ) → ask a 5 (ask (leb 1 n && b) 8 rest) ≡ 0 → 1 ≤ n
-deleted-some a b n rest q =
-    let q5 = ask-yes a 5 (ask (leb 1 n && b) 8 rest) (omega arith) q in
-    let q8 = ask-yes (leb 1 n && b) 8 rest (omega arith) (q5 .1) in
-    leb-true 1 n (and-split (leb 1 n) b (q8 .0) .0)
-
-pub no-words : (room : Room) (c : Request) (s : State) (m : List ℕ) → Within (room .cells) s
-    → (b h : ℕ) (new : State) → effectOf room m c s ≡ change b 0 h new → new ≡ s
-no-words room create s m w b h new e =
-    let y = passed (ask (ltb (length (s .domains)) 8) 9 (ask (ltb (s .next) 4_294_967_295) 10 0)) _ _ _ b 0 h _ new e in
-    absurd (let z = y .words in omega arith)
-no-words room list s m w b h new e = cc
-no-words room (add a first n k l) s m w b h new e =
-    let y = passed (addChecks room m a first n k l s) _ _ _ b 0 h _ new e in
-    sym (y .leaves) ∙ add-idle m first n (kindNumbered k) (labelNumbered l) s (let z = y .words in omega arith)
-no-words room (delete a first n) s m w b h new e =
-    let y = passed (deleteChecks (room .cells) a first n s) _ _ _ b 0 h _ new e in
-    absurd (let z = y .words in let some = deleted-some (isLive a s) (leb (first + n) (room .cells)) n _ (y .yes-to-all) in omega arith)
-no-words room (advance a) s m w b h new e =
-    let y = passed (advanceChecks room a s) _ _ _ b 0 h _ new e in
-    sym (y .leaves) ∙ advance-idle (room .cells) m s w (let z = y .words in omega arith)
-no-words room (commit a) s m w b h new e =
-    let y = passed (commitChecks a s) _ _ _ b 0 h _ new e in
-    absurd (let z = y .words in omega arith)
-no-words room (restore a) s m w b h new e =
-    let y = passed (restoreChecks a s) _ _ _ b 0 h _ new e in
-    sym (y .leaves) ∙ restore-idle (room .cells) (named a s) s (y .words)
-no-words room (look a c) s m w b h new e =
-    let y = passed (lookChecks (room .cells) a c s) _ _ _ b 0 h _ new e in
-    sym (y .leaves)
-
--- what any call on a store leaves to be seen, at any budget and in any room, is a move of a session, and leaves the opening due that its effect
--- says
-pub every-view-moves : (k : ℕ) (room : Room) (c : Request) (s : State) (m : List ℕ) → length m ≡ 64 * room .cells → Within (room .cells) s
-    → Move (room .cells) (world (some s) m nothingDue) (call c k) ((viewOf room c k s m) .report)
-    (world ((viewOf room c k s m) .state) ((viewOf room c k s m) .memory) (dueAfter (effectOf room m c s) k))
-every-view-moves k room c s m size w = view-moves (room .cells) k room c s m refl size (no-words room c s m w)

@@ -4,7 +4,9 @@ pub mod Byte
 pub mod Agree
 pub mod Bytes
 pub mod Invariant
+pub mod Sound
+pub mod Idle
+pub mod Lawful
 pub mod Demand
 pub mod Views
-pub mod Idle
 pub mod Samples

@@ -11,7 +11,7 @@ use Rattle.model.specs.Answer.{isDone, isStopped, Report, done}
 use Rattle.model.specs.Calls.{fresh, created}
 use Rattle.model.specs.Holdings.{Room, liveEntries, copiesInUse, addTo, addChecks, advanceChecks}
 use Rattle.model.specs.Restore.{restoredMemory}
-use Rattle.model.specs.History.{create, add, delete, advance, commit, restore, Event, called, opened, written, Observation, observed, begun, counts}
+use Rattle.model.specs.History.{Changing, create, add, delete, advance, commit, changes, restore, Event, called, opened, written, Observation, observed, begun, counts}
 use Rattle.model.specs.Session.{call, opening, write, World, memoryOf, call-done, call-late, open-finishes, open-stopped, written-to, Session, end, next, afterMake}
 
 -- memory of one cell, filled with one byte; all its places
@@ -24,47 +24,51 @@ places = tab 64 (λ x. x)
 abbrev does : Event → ℕ → Observation
 does e v = observed e (filled v)
 
+-- a changing call done
+abbrev changed : Changing → Event
+changed c = called (changes c) 100 isDone
+
 -- domain 1 copies cell 0 = 7 read-write, write 9, restore 1: memory is 7, or was left at 9
-kept : counts begun (does (called create 100 isDone) 7 ∷ does (called (add 1 0 1 0 1) 100 isDone) 7 ∷ does (written places) 9
+kept : counts begun (does (changed create) 7 ∷ does (changed (add 1 0 1 0 1)) 7 ∷ does (written places) 9
     ∷ does (called (restore 1) 100 isDone) 7 ∷ []) ≡ 0 ∷ []
 unfolding count
 kept = refl
 
-lost : counts begun (does (called create 100 isDone) 7 ∷ does (called (add 1 0 1 0 1) 100 isDone) 7 ∷ does (written places) 9
+lost : counts begun (does (changed create) 7 ∷ does (changed (add 1 0 1 0 1)) 7 ∷ does (written places) 9
     ∷ does (called (restore 1) 100 isDone) 9 ∷ []) ≡ 64 ∷ []
 unfolding count
 lost = refl
 
 -- held read-only: the write leaves the cell unprotected, and nothing is asked of it
-unheld : counts begun (does (called create 100 isDone) 7 ∷ does (called (add 1 0 1 0 0) 100 isDone) 7 ∷ does (written places) 9
+unheld : counts begun (does (changed create) 7 ∷ does (changed (add 1 0 1 0 0)) 7 ∷ does (written places) 9
     ∷ does (called (restore 1) 100 isDone) 9 ∷ []) ≡ 0 ∷ []
 unfolding count
 unheld = refl
 
 -- the restore of 1 cut late, with 2 inside: counted at the opening that carries it out, though that was cut itself
-late : counts begun (does (called create 100 isDone) 7 ∷ does (called (add 1 0 1 0 1) 100 isDone) 7 ∷ does (written places) 9
-    ∷ does (called create 100 isDone) 9 ∷ does (called (restore 1) 70 isStopped) 7 ∷ does (opened 1 isStopped 1) 7 ∷ does (opened 100 isDone 3) 7
+late : counts begun (does (changed create) 7 ∷ does (changed (add 1 0 1 0 1)) 7 ∷ does (written places) 9
+    ∷ does (changed create) 9 ∷ does (called (restore 1) 70 isStopped) 7 ∷ does (opened 1 isStopped 1) 7 ∷ does (opened 100 isDone 3) 7
     ∷ does (called (restore 0) 100 isDone) 7 ∷ []) ≡ 0 ∷ 0 ∷ []
 unfolding count
 late = refl
 
 -- cut early, with memory mixed: 2 is excluded and its own restore not counted, 1 is counted
-early : counts begun (does (called create 100 isDone) 7 ∷ does (called (add 1 0 1 0 1) 100 isDone) 7 ∷ does (written places) 9
-    ∷ does (called create 100 isDone) 9 ∷ does (called (restore 1) 3 isStopped) 8 ∷ does (opened 100 isDone 0) 8
+early : counts begun (does (changed create) 7 ∷ does (changed (add 1 0 1 0 1)) 7 ∷ does (written places) 9
+    ∷ does (changed create) 9 ∷ does (called (restore 1) 3 isStopped) 8 ∷ does (opened 100 isDone 0) 8
     ∷ does (called (restore 2) 100 isDone) 8 ∷ does (called (restore 1) 100 isDone) 7 ∷ []) ≡ 0 ∷ []
 unfolding count
 early = refl
 
 -- 1 holds 7 read-only, 2 copies it read-write, write 9, commit, advance 1, write 11, restore 1: 9; a stale 7 is counted
-moved-on : counts begun (does (called create 100 isDone) 7 ∷ does (called (add 1 0 1 0 0) 100 isDone) 7 ∷ does (called create 100 isDone) 7
-    ∷ does (called (add 2 0 1 0 1) 100 isDone) 7 ∷ does (written places) 9 ∷ does (called (commit 2) 100 isDone) 9
-    ∷ does (called (advance 1) 100 isDone) 9 ∷ does (written places) 11 ∷ does (called (restore 1) 100 isDone) 9 ∷ []) ≡ 0 ∷ []
+moved-on : counts begun (does (changed create) 7 ∷ does (changed (add 1 0 1 0 0)) 7 ∷ does (changed create) 7
+    ∷ does (changed (add 2 0 1 0 1)) 7 ∷ does (written places) 9 ∷ does (changed (commit 2)) 9
+    ∷ does (changed (advance 1)) 9 ∷ does (written places) 11 ∷ does (called (restore 1) 100 isDone) 9 ∷ []) ≡ 0 ∷ []
 unfolding count
 moved-on = refl
 
-stale : counts begun (does (called create 100 isDone) 7 ∷ does (called (add 1 0 1 0 0) 100 isDone) 7 ∷ does (called create 100 isDone) 7
-    ∷ does (called (add 2 0 1 0 1) 100 isDone) 7 ∷ does (written places) 9 ∷ does (called (commit 2) 100 isDone) 9
-    ∷ does (called (advance 1) 100 isDone) 9 ∷ does (written places) 11 ∷ does (called (restore 1) 100 isDone) 7 ∷ []) ≡ 64 ∷ []
+stale : counts begun (does (changed create) 7 ∷ does (changed (add 1 0 1 0 0)) 7 ∷ does (changed create) 7
+    ∷ does (changed (add 2 0 1 0 1)) 7 ∷ does (written places) 9 ∷ does (changed (commit 2)) 9
+    ∷ does (changed (advance 1)) 9 ∷ does (written places) 11 ∷ does (called (restore 1) 100 isDone) 7 ∷ []) ≡ 64 ∷ []
 unfolding count
 stale = refl
 
@@ -74,31 +78,31 @@ abbrev twoCells : Event → (v w : ℕ) → Observation
 twoCells e v w = observed e (filled v ++ filled w)
 
 -- nobody holds a cell, write 9 to cell 0: nothing is asked of it, and a wrong cell 1 is counted
-beside : counts begun (twoCells (called create 100 isDone) 7 7 ∷ twoCells (written places) 9 7 ∷ twoCells (called (restore 1) 100 isDone) 9 8 ∷ []) ≡ 64 ∷ []
+beside : counts begun (twoCells (changed create) 7 7 ∷ twoCells (written places) 9 7 ∷ twoCells (called (restore 1) 100 isDone) 9 8 ∷ []) ≡ 64 ∷ []
 unfolding count
 beside = refl
 
 -- 1 holds both read-write, write 9, delete cell 0: nothing is asked of it any more, and a cell 1 left at 9 is counted
-deleted : counts begun (twoCells (called create 100 isDone) 7 7 ∷ twoCells (called (add 1 0 2 0 1) 100 isDone) 7 7 ∷ twoCells (written (places ++ tab 64 (λ x. x + 64))) 9 9
-    ∷ twoCells (called (delete 1 0 1) 100 isDone) 9 9 ∷ twoCells (called (restore 1) 100 isDone) 9 9 ∷ []) ≡ 64 ∷ []
+deleted : counts begun (twoCells (changed create) 7 7 ∷ twoCells (changed (add 1 0 2 0 1)) 7 7 ∷ twoCells (written (places ++ tab 64 (λ x. x + 64))) 9 9
+    ∷ twoCells (changed (delete 1 0 1)) 9 9 ∷ twoCells (called (restore 1) 100 isDone) 9 9 ∷ []) ≡ 64 ∷ []
 unfolding count
 deleted = refl
 
 -- 1 and 2 hold cell 0 read-write, write 9, delete it from 1: a restore of 2 that leaves 9 is counted, and one of 1 asks nothing of it
-deleted-outside : counts begun (does (called create 100 isDone) 7 ∷ does (called (add 1 0 1 0 1) 100 isDone) 7 ∷ does (called create 100 isDone) 7
-    ∷ does (called (add 2 0 1 0 1) 100 isDone) 7 ∷ does (written places) 9 ∷ does (called (delete 1 0 1) 100 isDone) 9
+deleted-outside : counts begun (does (changed create) 7 ∷ does (changed (add 1 0 1 0 1)) 7 ∷ does (changed create) 7
+    ∷ does (changed (add 2 0 1 0 1)) 7 ∷ does (written places) 9 ∷ does (changed (delete 1 0 1)) 9
     ∷ does (called (restore 2) 100 isDone) 9 ∷ does (called (restore 1) 100 isDone) 9 ∷ []) ≡ 64 ∷ 0 ∷ []
 unfolding count
 deleted-outside = refl
 
 -- 2 inside 1 holds cell 0 read-write, and it is deleted from 2: nothing is asked of it by 1 either, which is around it
-deleted-inside : counts begun (does (called create 100 isDone) 7 ∷ does (called create 100 isDone) 7 ∷ does (called (add 2 0 1 0 1) 100 isDone) 7
-    ∷ does (called (delete 2 0 1) 100 isDone) 7 ∷ does (called (restore 1) 100 isDone) 9 ∷ []) ≡ 0 ∷ []
+deleted-inside : counts begun (does (changed create) 7 ∷ does (changed create) 7 ∷ does (changed (add 2 0 1 0 1)) 7
+    ∷ does (changed (delete 2 0 1)) 7 ∷ does (called (restore 1) 100 isDone) 9 ∷ []) ≡ 0 ∷ []
 unfolding count
 deleted-inside = refl
 
 -- the restore of 2 cut early: 3 inside it is excluded, 2 and 1 around it are counted
-cut-inside : counts begun (does (called create 100 isDone) 7 ∷ does (called create 100 isDone) 7 ∷ does (called create 100 isDone) 7
+cut-inside : counts begun (does (changed create) 7 ∷ does (changed create) 7 ∷ does (changed create) 7
     ∷ does (called (restore 2) 3 isStopped) 7 ∷ does (opened 100 isDone 0) 7 ∷ does (called (restore 3) 100 isDone) 9
     ∷ does (called (restore 2) 100 isDone) 9 ∷ does (called (restore 1) 100 isDone) 9 ∷ []) ≡ 64 ∷ 64 ∷ []
 unfolding count
@@ -146,8 +150,8 @@ unfolding count all sameCell restoredMemory
 session-kept = (
   _,
   _,
-  next {i = call create 100} (call-done room refl refl)
-      (next {i = call (add 1 0 1 0 1) 100} (call-done room refl refl)
+  next {i = call (changes create) 100} (call-done room refl refl)
+      (next {i = call (changes (add 1 0 1 0 1)) 100} (call-done room refl refl)
       (next {i = write (fill 9)} (written-to {r = none-given})
       (next {i = call (restore 1) 100} (call-done room refl refl) end))),
   refl,
@@ -159,13 +163,13 @@ unfolding count all sameCell restoredMemory
 session-moved-on = (
   _,
   _,
-  next {i = call create 100} (call-done room refl refl)
-      (next {i = call (add 1 0 1 0 0) 100} (call-done room refl refl)
-      (next {i = call create 100} (call-done room refl refl)
-      (next {i = call (add 2 0 1 0 1) 100} (call-done room refl refl)
+  next {i = call (changes create) 100} (call-done room refl refl)
+      (next {i = call (changes (add 1 0 1 0 0)) 100} (call-done room refl refl)
+      (next {i = call (changes create) 100} (call-done room refl refl)
+      (next {i = call (changes (add 2 0 1 0 1)) 100} (call-done room refl refl)
       (next {i = write (fill 9)} (written-to {r = none-given})
-      (next {i = call (commit 2) 100} (call-done room refl refl)
-      (next {i = call (advance 1) 200} (call-done room refl refl)
+      (next {i = call (changes (commit 2)) 100} (call-done room refl refl)
+      (next {i = call (changes (advance 1)) 200} (call-done room refl refl)
       (next {i = write (fill 11)} (written-to {r = none-given})
       (next {i = call (restore 1) 100} (call-done room refl refl) end)))))))),
   refl,
@@ -178,12 +182,12 @@ unfolding count all sameCell restoredMemory
 session-via = (
   _,
   _,
-  next {i = call create 100} (call-done room refl refl)
-      (next {i = call (add 1 0 1 0 1) 100} (call-done room refl refl)
-      (next {i = call create 100} (call-done room refl refl)
-      (next {i = call (add 2 0 1 1 1) 100} (call-done room refl refl)
+  next {i = call (changes create) 100} (call-done room refl refl)
+      (next {i = call (changes (add 1 0 1 0 1)) 100} (call-done room refl refl)
+      (next {i = call (changes create) 100} (call-done room refl refl)
+      (next {i = call (changes (add 2 0 1 1 1)) 100} (call-done room refl refl)
       (next {i = write (fill 9)} (written-to {r = none-given})
-      (next {i = call (add 2 0 1 0 1) 100} (call-done room refl refl)
+      (next {i = call (changes (add 2 0 1 0 1)) 100} (call-done room refl refl)
       (next {i = call (restore 2) 100} (call-done room refl refl) end)))))),
   refl,
   refl,
@@ -195,11 +199,11 @@ unfolding count all sameCell restoredMemory
 session-late = (
   _,
   _,
-  next {i = call create 100} (call-done room refl refl)
-      (next {i = call (add 1 0 1 0 1) 100} (call-done room refl refl)
+  next {i = call (changes create) 100} (call-done room refl refl)
+      (next {i = call (changes (add 1 0 1 0 1)) 100} (call-done room refl refl)
       (next {i = write (fill 9)} (written-to {r = none-given})
-      (next {i = call create 100} (call-done room refl refl)
-      (next {i = call (add 2 0 1 0 1) 100} (call-done room refl refl)
+      (next {i = call (changes create) 100} (call-done room refl refl)
+      (next {i = call (changes (add 2 0 1 0 1)) 100} (call-done room refl refl)
       (next {i = call (restore 1) 75} (call-late room refl refl)
       (next {i = opening 1} open-stopped
       (next {i = opening 100} (open-finishes {n = 4} {h = 0}) end))))))),

@@ -21,10 +21,11 @@ use Rattle.model.specs.Answer.{Report, done, stopped, ended, View, view,
 use Rattle.model.specs.Calls.{Effect, refuse, change, viewed, makeSteps, makeState, makeView, openSteps, openView}
 use Rattle.model.specs.Holdings.{Room, named, holdingAt, isHeld, valueOr}
 use Rattle.model.specs.Restore.{cellOfByte, placeInCell, orInner, firstHeld, outermost, restoredByte, restoredMemory, cellsPutBack, restoreChecks, memoryAfterSteps, viewedWith}
-use Rattle.model.specs.History.{Request, create, list, add, delete, advance, commit, restore, look}
-use Rattle.model.specs.Session.{make, call, opening, Due, nothingDue, dropDue, finishDue, world, effectOf, memoryAfter, memoryAt, viewOf, Mixed, Move, make-done, make-stopped, call-refused, call-done, call-early, call-late, open-idle, open-drops, open-finishes, open-stopped}
+use Rattle.model.specs.History.{Request, changes, restore, reads}
+use Rattle.model.specs.Session.{make, call, opening, Due, nothingDue, dropDue, finishDue, world, effectOf, memoryAfter, memoryAt, viewOf, Mixed, Move, make-done, make-stopped, call-refused, call-done, call-early, call-late, open-idle, open-drops, open-finishes, open-stopped, Within}
 use Rattle.model.proofs.Bytes.{cell-byte}
 use Rattle.model.proofs.Effects.{passed}
+use Rattle.model.proofs.Lawful.{no-words}
 
 -- ---- memory after k steps of a restore
 
@@ -91,29 +92,19 @@ viewed-plain (change b w h new) k s m = refl
 
 pub memory-whole : (room : Room) (c : Request) (s new : State) (m : List ℕ) (k b w h : ℕ) → length m ≡ 64 * room .cells
     → effectOf room m c s ≡ change b w h new → b ≤ k → memoryAt k c s m ≡ memoryAfter c s m
-memory-whole room create s new m k b w h size e l = refl
-memory-whole room list s new m k b w h size e l = refl
-memory-whole room (add a first n i j) s new m k b w h size e l = refl
-memory-whole room (delete a first n) s new m k b w h size e l = refl
-memory-whole room (advance a) s new m k b w h size e l = refl
-memory-whole room (commit a) s new m k b w h size e l = refl
+memory-whole room (changes c) s new m k b w h size e l = refl
 memory-whole room (restore a) s new m k b w h size e l =
     let y : 64 * cellsPutBack (room .cells) (named a s) s ≡ b = passed (restoreChecks a s) _ _ _ b w h _ new e .bytes in
     all-stored (room .cells) k (named a s) s m size (omega arith)
-memory-whole room (look a n) s new m k b w h size e l = refl
+memory-whole room (reads r) s new m k b w h size e l = refl
 
 unmoved : (m : List ℕ) → Mixed m m m
 unmoved m = record { same-length = refl; each-byte = λ x. inl refl }
 
 pub memory-mixed : (c : Request) (s : State) (m : List ℕ) (k : ℕ) → Mixed m (memoryAfter c s m) (memoryAt k c s m)
-memory-mixed create s m k = unmoved m
-memory-mixed list s m k = unmoved m
-memory-mixed (add a first n i j) s m k = unmoved m
-memory-mixed (delete a first n) s m k = unmoved m
-memory-mixed (advance a) s m k = unmoved m
-memory-mixed (commit a) s m k = unmoved m
+memory-mixed (changes c) s m k = unmoved m
 memory-mixed (restore a) s m k = part-stored k (named a s) s m
-memory-mixed (look a n) s m k = unmoved m
+memory-mixed (reads r) s m k = unmoved m
 
 bytes-first : (b w : ℕ) → b ≤ stepsOf b w
 bytes-first b w = omega arith
@@ -127,39 +118,34 @@ abbrev pub dueAfter : Effect → (k : ℕ) → Due
 dueAfter (refuse n) k = nothingDue
 dueAfter (change b w h new) k = cond (leb (stepsOf b w) k) nothingDue (cond (ltb (b + 2 * w) k) finishDue dropDue)
 
--- What a call at budget k leaves to be seen is a move of a session, and leaves that opening due. A call that replaces no word leaves the state
--- as it is: that is asked of it.
-pub view-moves : (cells k : ℕ) (room : Room) (c : Request) (s : State) (m : List ℕ) → room .cells ≡ cells → length m ≡ 64 * cells
-    → ((b h : ℕ) (new : State) → effectOf room m c s ≡ change b 0 h new → new ≡ s)
-    → Move cells (world (some s) m nothingDue) (call c k) ((viewOf room c k s m) .report)
+-- What any call on a store leaves to be seen, at any budget and in any room, is a move of a session, and leaves that opening due.
+pub view-moves : (k : ℕ) (room : Room) (c : Request) (s : State) (m : List ℕ) → length m ≡ 64 * room .cells → Within (room .cells) s
+    → Move (room .cells) (world (some s) m nothingDue) (call c k) ((viewOf room c k s m) .report)
     (world ((viewOf room c k s m) .state) ((viewOf room c k s m) .memory) (dueAfter (effectOf room m c s) k))
 unfolding ended
-view-moves cells k room c s m f size idle = go (effectOf room m c s) refl
+view-moves k room c s m size within = go (effectOf room m c s) refl
   where
     Goal : View → Due → Type 0
-    Goal v d = Move cells (world (some s) m nothingDue) (call c k) (v .report) (world (v .state) (v .memory) d)
-
-    size′ : length m ≡ 64 * room .cells
-    size′ = size ∙ ap (λ (n : ℕ). 64 * n) (sym f)
+    Goal v d = Move (room .cells) (world (some s) m nothingDue) (call c k) (v .report) (world (v .state) (v .memory) d)
 
     finished : (b w h : ℕ) (new : State) → effectOf room m c s ≡ change b w h new → stepsOf b w ≤ k
         → Goal (view (done (stepsOf b w) h) (some (cond (ltb (b + 2 * w) k) new s)) (memoryAt k c s m)) nothingDue
     finished b w h new e l =
-        let whole = memory-whole room c s new m k b w h size′ e (let z = bytes-first b w in omega arith) in
+        let whole = memory-whole room c s new m k b w h size e (let z = bytes-first b w in omega arith) in
         let state : cond (ltb (b + 2 * w) k) new s ≡ new =
         by-bool (ltb (b + 2 * w) k) (λ t. rw t)
-        (λ t. rw t (by-bool (eqb w 0) (λ z. sym (idle b h new (e ∙ ap (λ (n : ℕ). change b n h new) (eqb-true w 0 z))))
+        (λ t. rw t (by-bool (eqb w 0) (λ z. sym (no-words room c s m within b h new (e ∙ ap (λ (n : ℕ). change b n h new) (eqb-true w 0 z))))
         (λ z. absurd (let past = steps-past b w (eqb-false w 0 z) in let not-yet = ltb-false (b + 2 * w) k t in omega arith)))) in
         subst (λ (t : State). Goal (view (done (stepsOf b w) h) (some t) (memoryAt k c s m)) nothingDue) (sym state)
-        (subst (λ (n : List ℕ). Goal (view (done (stepsOf b w) h) (some new) n) nothingDue) (sym whole) (call-done room f e))
+        (subst (λ (n : List ℕ). Goal (view (done (stepsOf b w) h) (some new) n) nothingDue) (sym whole) (call-done room refl e))
 
     cut : (b w h : ℕ) (new : State) (t : Bool) → effectOf room m c s ≡ change b w h new → ltb (b + 2 * w) k ≡ t
         → Goal (view (stopped k) (some (cond t new s)) (memoryAt k c s m)) (cond t finishDue dropDue)
     cut b w h new true e t =
         let past = ltb-true (b + 2 * w) k t in
-        subst (λ (n : List ℕ). Goal (view (stopped k) (some new) n) finishDue) (sym (memory-whole room c s new m k b w h size′ e (omega arith)))
-        (call-late room f e)
-    cut b w h new false e t = call-early room f e (memory-mixed c s m k)
+        subst (λ (n : List ℕ). Goal (view (stopped k) (some new) n) finishDue) (sym (memory-whole room c s new m k b w h size e (omega arith)))
+        (call-late room refl e)
+    cut b w h new false e t = call-early room refl e (memory-mixed c s m k)
 
     go : (e : Effect) → effectOf room m c s ≡ e → Goal (viewedWith e k s m (memoryAt k c s m)) (dueAfter e k)
     go (refuse q) e = call-refused

@@ -1,12 +1,13 @@
 -- Document 01, "The calls": what each call means for the state, with its questions and its number of steps.
 use Prim.Native.Nat.{ℕ, _+_, _*_, _-_}
-use mathlib.Core.Bool.{Bool, cond}
+use mathlib.Core.Bool.{cond}
 use mathlib.Core.List.{List, [], _∷_, _++_, map}
 use mathlib.Core.Option.{Option, none, some}
 use lib.Dec.{leb, ltb, eqb}
 use lib.ListN.{length, replicate}
-use Rattle.model.specs.State.{Domain, State}
-use Rattle.model.specs.Answer.{Report, done, stopped, refused, ended, ask, View, view, stepsOf}
+use Rattle.words.specs.Layout.{pairsAt}
+use Rattle.model.specs.State.{State}
+use Rattle.model.specs.Answer.{Report, done, refused, ended, ask, View, view, stepsOf}
 
 -- ---- a changing call: refused, or so many bytes stored, so many words replaced by the journal, a handle to name, and the state after it
 
@@ -32,7 +33,7 @@ abbrev pub fresh : State
 fresh = record { next = 1; domains = [] }
 
 abbrev pub makeSteps : ℕ → ℕ
-makeSteps slots = 2 * slots + 17
+makeSteps slots = pairsAt slots + 1
 
 -- stopped at budget 0 it leaves the old store, at any other no store
 abbrev pub makeState : (slots budget : ℕ) → Option State → Option State
@@ -54,10 +55,11 @@ openView p k s m = view (ended (openSteps p) 0 k) (some s) m
 abbrev pub created : State → State
 created s = record { next = s .next + 1; domains = s .domains ++ (record { handle = s .next; holds = λ c. none } ∷ []) }
 
+abbrev pub createChecks : State → ℕ
+createChecks s = ask (ltb (length (s .domains)) 8) 9 (ask (ltb (s .next) 4_294_967_295) 10 0)
+
 abbrev pub createEffect : State → Effect
-createEffect s =
-    orRefuse (ask (ltb (length (s .domains)) 8) 9 (ask (ltb (s .next) 4_294_967_295) 10 0))
-    (change 0 3 (s .next) (created s))
+createEffect s = orRefuse (createChecks s) (change 0 3 (s .next) (created s))
 
 -- ---- list: "gives the number of live domains and their handles"
 

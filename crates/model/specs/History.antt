@@ -16,13 +16,22 @@ use Rattle.model.specs.Restore.{cellOfByte}
 -- ---- "It is fed each call's arguments, whether the call was done, stopped or refused, opening's step count, the place of each program write,
 -- and memory as it stands after each of these"
 
--- the calls on a store with their arguments: all but make and open
+-- the calls on a store with their arguments, all but make and open: those that change the store and never memory; those that change nothing; and
+-- restore, which alone changes memory
+pub data Changing : Type 0 where
+  create : Changing
+  add : (h first n kind label : ℕ) → Changing
+  delete : (h first n : ℕ) → Changing
+  advance commit : (h : ℕ) → Changing
+
+pub data Reading : Type 0 where
+  list : Reading
+  look : (h c : ℕ) → Reading
+
 pub data Request : Type 0 where
-  create list : Request
-  add : (h first n kind label : ℕ) → Request
-  delete : (h first n : ℕ) → Request
-  advance commit restore : (h : ℕ) → Request
-  look : (h c : ℕ) → Request
+  changes : Changing → Request
+  restore : (h : ℕ) → Request
+  reads : Reading → Request
 
 -- make, the other calls and opening, each with its budget; steps are an opening's; and a program write to these places
 pub data Event : Type 0 where
@@ -222,15 +231,17 @@ writeLine places (q ∷ qs) = unprotect (λ x. isIn x places && not (anyWritable
 
 -- ---- the lines together: "Refused calls, list, look, and an opening in itself: nothing"
 
+abbrev pub changeLine : Changing → List ℕ → History → History
+changeLine create memory n = createLine memory n
+changeLine (add h first c k l) memory n = withDomains (addLine memory h first c l (n .domains)) n
+changeLine (delete h first c) memory n = withDomains (deleteLine h first c (n .domains)) n
+changeLine (advance h) memory n = withDomains (advanceLine memory (n .domains)) n
+changeLine (commit h) memory n = withDomains (commitLine (n .domains)) n
+
 abbrev pub line : Request → List ℕ → History → History
-line create memory n = createLine memory n
-line list memory n = n
-line (add h first c k l) memory n = withDomains (addLine memory h first c l (n .domains)) n
-line (delete h first c) memory n = withDomains (deleteLine h first c (n .domains)) n
-line (advance h) memory n = withDomains (advanceLine memory (n .domains)) n
-line (commit h) memory n = withDomains (commitLine (n .domains)) n
+line (changes c) memory n = changeLine c memory n
 line (restore h) memory n = withDomains (restoreLine h (n .domains)) n
-line (look h c) memory n = n
+line (reads r) memory n = n
 
 -- ---- "Any other stopped call: nothing, save that a stopped restore marks the domains inside the named one"
 
@@ -249,14 +260,9 @@ excludeInside zero qs = qs
 excludeInside (suc d) qs = excludeAfter (suc d) qs
 
 abbrev pub stopLine : Request → List Tracked → List Tracked
-stopLine create qs = qs
-stopLine list qs = qs
-stopLine (add h first c k l) qs = qs
-stopLine (delete h first c) qs = qs
-stopLine (advance h) qs = qs
-stopLine (commit h) qs = qs
+stopLine (changes c) qs = qs
 stopLine (restore h) qs = excludeInside (namedBy h qs) qs
-stopLine (look h c) qs = qs
+stopLine (reads r) qs = qs
 
 -- ---- "If the first opening done after it takes a step, the call's line above is carried out there": it waits through stopped openings, and the
 -- first one done ends its wait
@@ -317,14 +323,9 @@ countOf memory (some q) = cond (q .excluded) [] (mismatches memory q ∷ [])
 
 -- the count taken when a call is completed
 abbrev pub completed : Request → List ℕ → List Tracked → List ℕ
-completed create memory qs = []
-completed list memory qs = []
-completed (add h first c k l) memory qs = []
-completed (delete h first c) memory qs = []
-completed (advance h) memory qs = []
-completed (commit h) memory qs = []
+completed (changes c) memory qs = []
 completed (restore h) memory qs = countOf memory (trackedAt (namedBy h qs) qs)
-completed (look h c) memory qs = []
+completed (reads r) memory qs = []
 
 abbrev pub completedWaiting : Option Request → List ℕ → List Tracked → List ℕ
 completedWaiting none memory qs = []

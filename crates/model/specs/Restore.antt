@@ -101,9 +101,6 @@ restoreView m h k s memory = viewedWith (restoreEffect m h s) k s memory (memory
 abbrev pub lookChecks : (m h c : ℕ) → State → ℕ
 lookChecks m h c s = ask (isLive h s) 5 (ask (rangeOk m c 1) 8 0)
 
-abbrev pub lookEffect : (m h c : ℕ) → State → Effect
-lookEffect m h c s = orRefuse (lookChecks m h c s) (change 0 0 0 s)
-
 -- what it answers, and the part that it shows
 pub record Looked : Type 0 where
   pub report : Report

@@ -12,10 +12,10 @@ use lib.ListN.{length, getD}
 use Rattle.words.specs.Stores.{Store, stores}
 use Rattle.model.specs.State.{Holding, Domain, State}
 use Rattle.model.specs.Answer.{Report, done, stopped, refused, View, stepsOf}
-use Rattle.model.specs.Calls.{Effect, change, fresh, makeSteps, makeState, createEffect}
+use Rattle.model.specs.Calls.{Effect, change, orRefuse, fresh, makeSteps, makeState, createEffect}
 use Rattle.model.specs.Holdings.{Room, named, holdingAt, addEffect, deleteEffect, advanceEffect, commitEffect}
-use Rattle.model.specs.Restore.{restoredMemory, restoreEffect, memoryAfterSteps, viewedWith, lookEffect}
-use Rattle.model.specs.History.{Request, create, list, add, delete, advance, commit, restore, look, Event, made, called, opened, written, Observation, observed, Kept, Tracked, History, withWaiting, finished}
+use Rattle.model.specs.Restore.{restoredMemory, restoreEffect, memoryAfterSteps, viewedWith, lookChecks}
+use Rattle.model.specs.History.{Changing, create, add, delete, advance, commit, Reading, list, look, Request, changes, restore, reads, Event, made, called, opened, written, Observation, observed, Kept, Tracked, History, withWaiting, finished}
 
 -- ---- inputs
 
@@ -47,36 +47,33 @@ memoryOf (world o m d) = m
 
 -- ---- what a call does to a state, and to memory
 
+abbrev pub changeEffect : Room → List ℕ → Changing → State → Effect
+changeEffect room memory create s = createEffect s
+changeEffect room memory (add h first n k l) s = addEffect room memory h first n k l s
+changeEffect room memory (delete h first n) s = deleteEffect (room .cells) h first n s
+changeEffect room memory (advance h) s = advanceEffect room memory h s
+changeEffect room memory (commit h) s = commitEffect (room .cells) h s
+
+-- the number of its questions, for a call that changes nothing
+abbrev pub readChecks : (m : ℕ) → Reading → State → ℕ
+readChecks m list s = 0
+readChecks m (look h c) s = lookChecks m h c s
+
 abbrev pub effectOf : Room → List ℕ → Request → State → Effect
-effectOf room memory create s = createEffect s
-effectOf room memory list s = change 0 0 0 s
-effectOf room memory (add h first n k l) s = addEffect room memory h first n k l s
-effectOf room memory (delete h first n) s = deleteEffect (room .cells) h first n s
-effectOf room memory (advance h) s = advanceEffect room memory h s
-effectOf room memory (commit h) s = commitEffect (room .cells) h s
+effectOf room memory (changes c) s = changeEffect room memory c s
 effectOf room memory (restore h) s = restoreEffect (room .cells) h s
-effectOf room memory (look h c) s = lookEffect (room .cells) h c s
+effectOf room memory (reads r) s = orRefuse (readChecks (room .cells) r s) (change 0 0 0 s)
 
 abbrev pub memoryAfter : Request → State → List ℕ → List ℕ
-memoryAfter create s memory = memory
-memoryAfter list s memory = memory
-memoryAfter (add h first n k l) s memory = memory
-memoryAfter (delete h first n) s memory = memory
-memoryAfter (advance h) s memory = memory
-memoryAfter (commit h) s memory = memory
+memoryAfter (changes c) s memory = memory
 memoryAfter (restore h) s memory = restoredMemory (named h s) s memory
-memoryAfter (look h c) s memory = memory
+memoryAfter (reads r) s memory = memory
 
 -- what a call at budget k leaves to be seen: of memory, what k steps leave
 abbrev pub memoryAt : (k : ℕ) → Request → State → List ℕ → List ℕ
-memoryAt k create s memory = memory
-memoryAt k list s memory = memory
-memoryAt k (add h first n i l) s memory = memory
-memoryAt k (delete h first n) s memory = memory
-memoryAt k (advance h) s memory = memory
-memoryAt k (commit h) s memory = memory
+memoryAt k (changes c) s memory = memory
 memoryAt k (restore h) s memory = memoryAfterSteps k (named h s) s memory
-memoryAt k (look h c) s memory = memory
+memoryAt k (reads r) s memory = memory
 
 abbrev pub viewOf : Room → Request → (k : ℕ) → State → List ℕ → View
 viewOf room c k s memory = viewedWith (effectOf room memory c s) k s memory (memoryAt k c s memory)

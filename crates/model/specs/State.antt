@@ -1,6 +1,6 @@
 -- The abstract state: what a table and its bodies stand for.
 use Prim.Native.Nat.{ℕ}
-use mathlib.Core.List.{List, []}
+use mathlib.Core.List.{List}
 use mathlib.Core.Option.{Option}
 
 pub data Label : Type 0 where
