@@ -6,13 +6,14 @@ use mathlib.Core.Bool.{true, cond}
 use mathlib.Core.List.{List, [], _∷_, map}
 use mathlib.Core.Logic.{_⊎_, ⊎-elim}
 use mathlib.Core.Option.{some}
-use mathlib.Core.Path.{_≡_, refl, sym, ap, _∙_}
+use mathlib.Core.Path.{_≡_, refl, sym, ap, ap₂, _∙_}
+use native.Mathlib.Nat.{zero-add}
 use native.Mathlib.Omega.{arith}
 use borrow.Author.Tests.{eq-eqb, ne-eqb, lt-ltb, le-ltb}
 use lib.Dec.{ltb}
 use lib.ListN.{length, take, drop, length-append, length-map, length-take, length-drop}
 use lib.Seq.{take-all, ext-getD, getD-take, getD-drop}
-use Rattle.words.specs.Layout.{cellAt, cellsOf, slotsOf, pairsAt, maxPairs, tableWords}
+use Rattle.words.specs.Layout.{cellAt, cellsOf, bodiesOf, slotsOf, pairsAt, maxPairs, tableWords}
 use Rattle.words.specs.Stores.{Store, store, stores}
 use Rattle.words.specs.Journal.{pending, namesOk, effective, journal}
 use Rattle.words.specs.Cells.{cellBytes}
@@ -41,13 +42,17 @@ pub steps-inBodies : (ps : List Store) (m b t : List ℕ) → steps (map inBodie
 steps-inBodies [] m b t = refl
 steps-inBodies (p ∷ ps) m b t = steps-inBodies ps m (store p b) t
 
+-- the steps told by the writer, with those of the bytes before it
+pub steps-needed : (first : ℕ) (bytes ws : List Store) → length bytes + length (journal first ws) ≡ stepsOf (length bytes) (length ws)
+steps-needed first bytes ws =
+    by-le (length ws) 0
+    (λ l. let z : length ws ≡ 0 = omega arith in rw (journal-none first ws z, eq-eqb (length ws) 0 z))
+    (λ l. rw (length-journal first ws l, ne-eqb (length ws) 0 (λ z. omega arith)))
+
 pub change-length : (first : ℕ) (bytes ws : List Store) → length (changePlan first bytes ws) ≡ stepsOf (length bytes) (length ws)
 change-length first bytes ws =
     length-append (map inBodies bytes) (map inTable (journal first ws))
-    ∙ rw (length-map, length-map)
-    (by-le (length ws) 0
-    (λ l. let z : length ws ≡ 0 = omega arith in rw (journal-none first ws z, eq-eqb (length ws) 0 z))
-    (λ l. rw (length-journal first ws l, ne-eqb (length ws) 0 (λ z. omega arith))))
+    ∙ rw (length-map, length-map) (steps-needed first bytes ws)
 
 pub change-steps : (first k : ℕ) (bytes ws : List Store) (m b t : List ℕ)
     → steps (take k (changePlan first bytes ws)) (buffers m b t) ≡ buffers m (stores (take k bytes) b) (stores (take (k - length bytes) (journal first ws)) t)
@@ -62,6 +67,18 @@ pub change-performed : (first need h k : ℕ) (bytes ws : List Store) (m b t b�
 unfolding outcome
 change-performed first need h k bytes ws m b t b′ t′ r n p q e =
     rw (p, q, e, n, ← change-length first bytes ws, ← change-steps first k bytes ws m b t)
+
+-- the same of a call that stores no byte of a body: its code took e for the number of slots and wrote the words ws₀
+pub words-performed : (h k : ℕ) (ws : List Store) (m b t : List ℕ) {e need : ℕ} {ws₀ : List Store} {t′ : List ℕ} {r : Report} → e ≡ slotsOf (length t) → ws₀ ≡ ws
+    → need ≡ length (journal (pairsAt e) ws₀) → t′ ≡ stores (take k (journal (pairsAt e) ws₀)) t → r ≡ ended need h k
+    → leaves r (buffers m b t′) ≡ outcome (perform (changePlan (pairsAt (slotsOf (length t))) [] ws) h) k (buffers m b t)
+words-performed h k ws m b t {e} {need} {ws₀} {t′} {r} slots same steps made told =
+    let z : k - 0 ≡ k = omega arith in
+    change-performed (pairsAt (slotsOf (length t))) need h k [] ws m b t b t′ r
+    (steps ∙ ap₂ (λ (x : ℕ) (l : List Store). length (journal (pairsAt x) l)) slots same ∙ sym (zero-add _) ∙ steps-needed (pairsAt (slotsOf (length t))) [] ws)
+    (stores-none k b)
+    (made ∙ ap₂ (λ (x : ℕ) (l : List Store). stores (take k (journal (pairsAt x) l)) t) slots same ∙ rw z)
+    told
 
 -- ---- bytes that spare the bodies in use
 
@@ -89,7 +106,7 @@ spared e t bytes bodies free i c =
 module _ (memory bodies t : List ℕ) (yes : storeCheck (length memory) (length bodies) t ≡ 0) (bytes ws : List Store)
     (spare : Each (Spares (slotsOf (length t)) (take (pairsAt (slotsOf (length t))) t)) bytes)
     (few : length ws ≤ maxPairs (slotsOf (length t))) (names : namesOk (pairsAt (slotsOf (length t))) 0 ws ≡ true)
-    (next : Rule (cellsOf (length memory)) (slotsOf (length t)) (cellsOf (length bodies)) (stores ws (take (pairsAt (slotsOf (length t))) t))) where
+    (next : Rule (cellsOf (length memory)) (slotsOf (length t)) (bodiesOf (length bodies)) (stores ws (take (pairsAt (slotsOf (length t))) t))) where
   abbrev e : ℕ
   e = slotsOf (length t)
 
@@ -105,7 +122,7 @@ module _ (memory bodies t : List ℕ) (yes : storeCheck (length memory) (length 
   t-long : length t ≡ tableWords (slotsOf (length t))
   t-long = long (length memory) (length bodies) t (shape-lengths (length memory) (length bodies) t (store-shape (length memory) (length bodies) t yes))
 
-  right : Rule (cellsOf (length memory)) (slotsOf (length t)) (cellsOf (length bodies)) head
+  right : Rule (cellsOf (length memory)) (slotsOf (length t)) (bodiesOf (length bodies)) head
   right = store-rule memory bodies t yes
 
   -- the bodies after some of the bytes
@@ -119,7 +136,7 @@ module _ (memory bodies t : List ℕ) (yes : storeCheck (length memory) (length 
   -- bytes in free bodies do not matter to the old table
   pub old-state : (k : ℕ) → stateIn (slotsOf (length t)) (take (pairsAt (slotsOf (length t))) t) (filled k) ≡ stateOf (buffers memory bodies t)
   old-state k =
-      state-kept (cellsOf (length memory)) e (cellsOf (length bodies)) head head bodies (filled k) right (λ i l. refl) (λ i c. refl)
+      state-kept (cellsOf (length memory)) e (bodiesOf (length bodies)) head head bodies (filled k) right (λ i l. refl) (λ i c. refl)
       (spared e head (take k bytes) bodies (each-take (Spares e head) k bytes spare)) refl refl (λ k l. refl)
       ∙ sym (store-state memory bodies t yes)
 

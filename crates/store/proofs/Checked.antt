@@ -7,7 +7,7 @@ use borrow.Author.Tests.{eqb-true, eqb-false}
 use lib.Dec.{eqb}
 use lib.ListN.{length}
 use lib.Seq.{getD-take}
-use Rattle.words.specs.Layout.{cellsOf, slotsOf, pairsAt, maxCells}
+use Rattle.words.specs.Layout.{cellsOf, bodiesOf, slotsOf, pairsAt, maxCells}
 use Rattle.words.specs.Journal.{effective}
 use Rattle.words.proofs.Journal.{effective-idle}
 use Rattle.words.proofs.Scan.{by-bool}
@@ -20,11 +20,11 @@ use Rattle.store.specs.Checks.{storeCheck}
 use Rattle.store.proofs.Checks.{shape-facts, store-shape, store-idle, store-table, table-rule}
 
 module _ (memory bodies : ℕ) (t : List ℕ) (yes : storeCheck memory bodies t ≡ 0) where
-  pub checked-rule : Rule (cellsOf memory) (slotsOf (length t)) (cellsOf bodies) t
+  pub checked-rule : Rule (cellsOf memory) (slotsOf (length t)) (bodiesOf bodies) t
   checked-rule =
       let m : ℕ = cellsOf memory in
       let e : ℕ = slotsOf (length t) in
-      let b : ℕ = cellsOf bodies in
+      let b : ℕ = bodiesOf bodies in
       ok-facts m e b t
       (sym (ok-agree m e b _ t (λ k l. getD-take (pairsAt e) t k 0 l))
       ∙ sym (ap (ruleOk m e b) (effective-idle (pairsAt e) t (store-idle memory bodies t yes)))

@@ -1,24 +1,23 @@
 -- Laws of the questions: what a passed question tells, and that the questions on the shape read no word that a pair may name.
 -- Assumes nothing.
-use Prim.Native.Nat.{ℕ, zero, suc, _+_, _-_, _*_, _≤_, _<_}
-use mathlib.Core.Bool.{Bool, true, false, cond, _&&_}
+use Prim.Native.Nat.{ℕ, zero, suc, _-_, _≤_, _<_}
+use mathlib.Core.Bool.{Bool, true, false}
 use mathlib.Core.List.{List}
-use mathlib.Core.Path.{_≡_, refl, sym, ap, subst, _∙_}
+use mathlib.Core.Path.{_≡_, refl, sym}
 use native.Mathlib.Omega.{arith}
-use borrow.Author.Tests.{eq-eqb, eqb-true, eqb-false, ltb-true}
+use borrow.Author.Tests.{eqb-true, eqb-false, ltb-true}
 use lib.Dec.{eqb, ltb}
 use lib.ListN.{length, getD}
-use Rattle.words.specs.Layout.{cellsOf, slotsOf, maxLive, magicAt, cellsAt, slotsAt, bodiesAt, zeroAt, handleAt, pairsAt}
+use Rattle.words.specs.Layout.{cellsOf, bodiesOf, slotsOf, maxLive, magicAt, cellsAt, slotsAt, bodiesAt, zeroAt, pairsAt}
 use Rattle.words.specs.Journal.{pending, effective}
-use Rattle.words.proofs.Scan.{and-split, and-join}
-use Rattle.words.proofs.Journal.{effective-idle}
+use Rattle.words.proofs.Scan.{and-split}
 use Rattle.table.specs.Entry.{live, nextHandle}
 use Rattle.table.specs.Checks.{lengthsOk, headerOk}
-use Rattle.table.specs.Rule.{pairsOk, ruleOk, tableOk}
+use Rattle.table.specs.Rule.{pairsOk, tableOk}
 use Rattle.table.proofs.Rule.{Rule, ok-facts, ok-make}
 use Rattle.table.proofs.Checks.{Lengths, lengths-facts}
 use Rattle.model.specs.Answer.{ask, orElse}
-use Rattle.store.specs.Checks.{shapeCheck, tableCheck, makeCheck, openCheck, idleCheck, storeCheck, createCheck}
+use Rattle.store.specs.Checks.{shapeCheck, tableCheck, openCheck, idleCheck, storeCheck, createCheck}
 
 -- ---- one question after another
 
@@ -88,20 +87,20 @@ module _ (memory bodies : ℕ) (t : List ℕ) where
       let both = orElse-both (shapeCheck memory bodies t) (ask (eqb (pending t) 0) 3 0) e in
       (both .0, eqb-true (pending t) 0 (ask-yes (eqb (pending t) 0) 3 0 (omega arith) (both .1)))
 
-  pub table-yes : tableCheck memory bodies t ≡ 0 → tableOk (cellsOf memory) (slotsOf (length t)) (cellsOf bodies) t ≡ true
+  pub table-yes : tableCheck memory bodies t ≡ 0 → tableOk (cellsOf memory) (slotsOf (length t)) (bodiesOf bodies) t ≡ true
   unfolding tableCheck
-  table-yes e = ask-yes (tableOk (cellsOf memory) (slotsOf (length t)) (cellsOf bodies) t) 4 0 (omega arith) e
+  table-yes e = ask-yes (tableOk (cellsOf memory) (slotsOf (length t)) (bodiesOf bodies) t) 4 0 (omega arith) e
 
   -- the two parts of question 4
   pub table-pairs : tableCheck memory bodies t ≡ 0 → pairsOk (slotsOf (length t)) t ≡ true
   unfolding tableOk
   table-pairs e = and-split (pairsOk (slotsOf (length t)) t) _ (table-yes e) .0
 
-  pub table-rule : tableCheck memory bodies t ≡ 0 → Rule (cellsOf memory) (slotsOf (length t)) (cellsOf bodies) (effective (pairsAt (slotsOf (length t))) t)
+  pub table-rule : tableCheck memory bodies t ≡ 0 → Rule (cellsOf memory) (slotsOf (length t)) (bodiesOf bodies) (effective (pairsAt (slotsOf (length t))) t)
   unfolding tableOk
   table-rule e = ok-facts _ _ _ _ (and-split (pairsOk (slotsOf (length t)) t) _ (table-yes e) .1)
 
-  pub table-make : pairsOk (slotsOf (length t)) t ≡ true → Rule (cellsOf memory) (slotsOf (length t)) (cellsOf bodies) (effective (pairsAt (slotsOf (length t))) t)
+  pub table-make : pairsOk (slotsOf (length t)) t ≡ true → Rule (cellsOf memory) (slotsOf (length t)) (bodiesOf bodies) (effective (pairsAt (slotsOf (length t))) t)
       → tableCheck memory bodies t ≡ 0
   unfolding tableCheck tableOk
   table-make p r = rw (p, ok-make _ _ _ _ r)

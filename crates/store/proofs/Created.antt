@@ -1,5 +1,5 @@
 -- Create, from its stores to what it means and to what opening finds after every cut of it. Assumes nothing.
-use Prim.Native.Nat.{ℕ, suc, _-_, _≤_, _<_}
+use Prim.Native.Nat.{ℕ, suc, _≤_, _<_}
 use mathlib.Core.Bool.{true}
 use mathlib.Core.List.{List, []}
 use mathlib.Core.Option.{Option}
@@ -9,10 +9,9 @@ use borrow.Author.Tests.{ltb-true}
 use lib.Dec.{ltb}
 use lib.ListN.{length, take, length-take}
 use lib.Seq.{getD-take}
-use Rattle.words.specs.Layout.{liveAt, nextAt, pairsAt, slotsOf, cellsOf, maxLive}
+use Rattle.words.specs.Layout.{liveAt, nextAt, pairsAt, slotsOf, cellsOf, bodiesOf, maxLive}
 use Rattle.words.specs.Stores.{stores}
 use Rattle.words.specs.Journal.{pending, namesOk, journal}
-use Rattle.words.proofs.Plans.{stores-none}
 use Rattle.table.specs.Entry.{live, nextHandle}
 use Rattle.table.proofs.Rule.{Rule}
 use Rattle.model.specs.State.{State}
@@ -27,7 +26,7 @@ use Rattle.store.proofs.Checks.{ask-yes, orElse-go}
 use Rattle.store.proofs.Outcome.{refuses}
 use Rattle.store.proofs.Means.{seenOf, by-check, t-long, store-rule, store-state, store-standing, live-count, next-is}
 use Rattle.store.proofs.Creating.{create-rule, create-state, create-names}
-use Rattle.store.proofs.Changes.{change-performed, change-seen}
+use Rattle.store.proofs.Changes.{words-performed, change-seen}
 use Rattle.store.proofs.Pending.{pendingAfter, afterPending, performed-pending, call-pending}
 
 pub create-words : (t : List ℕ) → length (createWords t) ≡ 3
@@ -48,16 +47,16 @@ module _ (memory bodies t : List ℕ) (yes : storeCheck (length memory) (length 
   long-head = rw length-take (omega (arith, t-long memory bodies t yes))
 
   -- the new table is right
-  pub new-rule : Rule (cellsOf (length memory)) (slotsOf (length t)) (cellsOf (length bodies)) (stores (createWords t) (take (pairsAt (slotsOf (length t))) t))
+  pub new-rule : Rule (cellsOf (length memory)) (slotsOf (length t)) (bodiesOf (length bodies)) (stores (createWords t) (take (pairsAt (slotsOf (length t))) t))
   unfolding createWords
   new-rule =
-      rw (same-live, same-next) at (create-rule (cellsOf (length memory)) (slotsOf (length t)) (cellsOf (length bodies)) (take first t) (store-rule memory bodies t yes) long-head (rw same-live few))
+      rw (same-live, same-next) at (create-rule (cellsOf (length memory)) (slotsOf (length t)) (bodiesOf (length bodies)) (take first t) (store-rule memory bodies t yes) long-head (rw same-live few))
 
   -- and stands for the state with one domain more
   pub new-state : stateIn (slotsOf (length t)) (stores (createWords t) (take (pairsAt (slotsOf (length t))) t)) bodies ≡ created (stateOf (buffers memory bodies t))
   unfolding createWords
   new-state =
-      (rw (same-live, same-next) at (create-state (cellsOf (length memory)) (slotsOf (length t)) (cellsOf (length bodies)) (take first t) (store-rule memory bodies t yes) long-head (rw same-live few) bodies))
+      (rw (same-live, same-next) at (create-state (cellsOf (length memory)) (slotsOf (length t)) (bodiesOf (length bodies)) (take first t) (store-rule memory bodies t yes) long-head (rw same-live few) bodies))
       ∙ ap created (sym (store-state memory bodies t yes))
 
   new-names : namesOk (pairsAt (slotsOf (length t))) 0 (createWords t) ≡ true
@@ -124,11 +123,8 @@ module _ (m b t : List ℕ) (k : ℕ) where
   unfolding createCall
   create-refused q e h = refuses q (createCheck (length m) (length b) t) _ k (buffers m b t) e h
 
-  pub create-performed : (h : ℕ) (t′ : List ℕ) (r : Report) → createCheck (length m) (length b) t ≡ 0 → h ≡ nextHandle t
-      → t′ ≡ stores (take k (journal (pairsAt (slotsOf (length t))) (createWords t))) t → r ≡ ended 11 h k
+  pub create-performed : (need h : ℕ) (t′ : List ℕ) (r : Report) → createCheck (length m) (length b) t ≡ 0 → h ≡ nextHandle t
+      → need ≡ length (journal (pairsAt (slotsOf (length t))) (createWords t)) → t′ ≡ stores (take k (journal (pairsAt (slotsOf (length t))) (createWords t))) t → r ≡ ended need h k
       → leaves r (buffers m b t′) ≡ outcome (createCall (buffers m b t)) k (buffers m b t)
-  unfolding createCall createWords
-  create-performed h t′ r yes10 p w q =
-      let z : k - 0 ≡ k = omega arith in
-      let none-stored : b ≡ stores (take k []) b = stores-none k b in
-      rw yes10 (change-performed (pairsAt (slotsOf (length t))) 11 (nextHandle t) k [] (createWords t) m b t b t′ r refl none-stored (rw z w) (q ∙ rw p))
+  unfolding createCall
+  create-performed need h t′ r yes10 p n w q = rw yes10 (words-performed (nextHandle t) k (createWords t) m b t refl refl n w (q ∙ rw p))

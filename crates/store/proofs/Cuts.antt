@@ -1,28 +1,27 @@
 -- What a cut of any call's journal leaves, and what opening then finds. Every changing call gets its own law of cuts from this one.
 -- Assumes nothing.
 use Prim.Native.Nat.{ℕ, zero, suc, _+_, _-_, _*_, _≤_, _<_}
-use mathlib.Core.Bool.{Bool, true, false, cond}
+use mathlib.Core.Bool.{true, false, cond}
 use mathlib.Core.List.{List, [], _∷_}
-use mathlib.Core.Option.{Option, none, some}
+use mathlib.Core.Option.{none, some}
 use mathlib.Core.Path.{_≡_, refl, sym, ap, subst, _∙_}
 use native.Mathlib.Omega.{arith}
-use borrow.Author.Tests.{le-leb, lt-ltb, le-ltb, eq-eqb, leb-true}
-use lib.Dec.{leb, ltb, eqb}
+use borrow.Author.Tests.{lt-ltb, le-ltb, eq-eqb}
+use lib.Dec.{ltb}
 use lib.ListN.{length, getD, take}
-use Rattle.words.specs.Layout.{cellsOf, slotsOf, pairsAt, maxPairs, tableWords, pendingAt, bodiesAt, zeroAt}
+use Rattle.words.specs.Layout.{cellsOf, bodiesOf, slotsOf, pairsAt, maxPairs, tableWords, pendingAt, bodiesAt, zeroAt}
 use Rattle.words.specs.Stores.{Store, stores}
 use Rattle.words.specs.Journal.{pending, pairs, nameOk, namesOk, effective, openPlan, journaled, journal, openings}
-use Rattle.words.proofs.Scan.{and-split, and-join, by-le, true≢}
-use Rattle.words.proofs.Plans.{Each, each-map, length-stores}
+use Rattle.words.proofs.Scan.{by-le, true≢}
+use Rattle.words.proofs.Plans.{Each, each-map}
 use Rattle.words.proofs.Places.{pendingAt-below}
 use Rattle.words.proofs.Names.{names-each}
-use Rattle.words.proofs.Pairs.{journal-some}
 use Rattle.words.proofs.Journal as law
 use Rattle.table.specs.Rule.{pairsOk}
 use Rattle.table.proofs.Rule.{Rule}
 use Rattle.table.proofs.Pairs.{pairs-make, pairs-few, pairs-names}
-use Rattle.store.specs.Outcome.{Buffers, buffers}
-use Rattle.store.specs.Checks.{shapeCheck, tableCheck, openCheck}
+use Rattle.store.specs.Outcome.{buffers}
+use Rattle.store.specs.Checks.{shapeCheck, openCheck}
 use Rattle.store.specs.State.{stateIn, stateOf, standing}
 use Rattle.store.proofs.Checks.{open-make, open-shape, open-table, table-make, table-pairs, table-rule, shape-kept}
 
@@ -63,7 +62,7 @@ module _ (memory bodies : ℕ) (t u : List ℕ) (long : length u ≡ length t) (
       (kept zeroAt (unnamed-zero (pairsAt (slotsOf (length t)))) (omega arith) (λ z. omega arith)) ∙ shape
 
   pub still-opens : pending u ≤ maxPairs (slotsOf (length t)) → namesOk (pairsAt (slotsOf (length t))) 0 (pairs u (pairsAt (slotsOf (length t))) (pending u)) ≡ true
-      → Rule (cellsOf memory) (slotsOf (length t)) (cellsOf bodies) (effective (pairsAt (slotsOf (length t))) u) → openCheck memory bodies u ≡ 0
+      → Rule (cellsOf memory) (slotsOf (length t)) (bodiesOf bodies) (effective (pairsAt (slotsOf (length t))) u) → openCheck memory bodies u ≡ 0
   still-opens few names rule =
       open-make memory bodies u still-shaped
       (table-make memory bodies u (rw long (pairs-make (slotsOf (length t)) u few names)) (rw long rule))
@@ -73,8 +72,8 @@ module _ (memory bodies : ℕ) (t u : List ℕ) (long : length u ≡ length t) (
 module _ (memory bodies : ℕ) (t : List ℕ) (ws : List Store) (shape : shapeCheck memory bodies t ≡ 0) (long : length t ≡ tableWords (slotsOf (length t)))
     (idle : pending t ≡ 0) (some-change : 0 < length ws) (few : length ws ≤ maxPairs (slotsOf (length t)))
     (names : namesOk (pairsAt (slotsOf (length t))) 0 ws ≡ true)
-    (right : Rule (cellsOf memory) (slotsOf (length t)) (cellsOf bodies) (take (pairsAt (slotsOf (length t))) t))
-    (next : Rule (cellsOf memory) (slotsOf (length t)) (cellsOf bodies) (stores ws (take (pairsAt (slotsOf (length t))) t))) where
+    (right : Rule (cellsOf memory) (slotsOf (length t)) (bodiesOf bodies) (take (pairsAt (slotsOf (length t))) t))
+    (next : Rule (cellsOf memory) (slotsOf (length t)) (bodiesOf bodies) (stores ws (take (pairsAt (slotsOf (length t))) t))) where
   abbrev first : ℕ
   first = pairsAt (slotsOf (length t))
 
@@ -102,7 +101,7 @@ module _ (memory bodies : ℕ) (t : List ℕ) (ws : List Store) (shape : shapeCh
       (λ l. rw (le-ltb (2 * length ws) k l) (law.cut-old first ws t front room idle some-change names k l))
       (λ l. rw (lt-ltb (2 * length ws) k l) (law.cut-new first ws t front room idle some-change names k l))
 
-  cut-rule : (k : ℕ) → Rule (cellsOf memory) (slotsOf (length t)) (cellsOf bodies) (effective first (cut k))
+  cut-rule : (k : ℕ) → Rule (cellsOf memory) (slotsOf (length t)) (bodiesOf bodies) (effective first (cut k))
   cut-rule k =
       by-le k (2 * length ws)
       (λ l. rw (law.cut-old first ws t front room idle some-change names k l) right)

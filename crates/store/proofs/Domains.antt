@@ -1,23 +1,23 @@
 -- The model's operations on the list of live domains, said of the domains that a table's words give. Assumes nothing.
-use Prim.Native.Nat.{ℕ, zero, suc, _+_, _-_, _*_, _≤_, _<_}
-use mathlib.Core.Bool.{Bool, true, false, cond, not, _&&_, _||_}
-use mathlib.Core.List.{List, [], _∷_, _++_}
+use Prim.Native.Nat.{ℕ, zero, suc, _+_, _-_, _≤_, _<_}
+use mathlib.Core.Bool.{Bool, true, false, cond, not, _&&_}
+use mathlib.Core.List.{List, [], _∷_}
 use mathlib.Core.Option.{Option, none, some}
-use mathlib.Core.Path.{_≡_, refl, sym, ap, subst, _∙_}
+use mathlib.Core.Path.{_≡_, refl, sym, ap, _∙_}
 use native.Mathlib.Nat.{not-suc-le-zero, le-of-suc-le-suc, zero-add}
 use native.Mathlib.Omega.{arith}
-use borrow.Author.Tests.{eq-eqb, ne-eqb, eqb-true, eqb-false, le-leb, lt-leb, lt-ltb, le-ltb}
-use lib.Dec.{leb, ltb, eqb}
-use lib.ListN.{length, getD}
-use Rattle.words.specs.Layout.{pairsAt, slotsOf, maxLive}
+use borrow.Author.Tests.{eq-eqb, ne-eqb, eqb-true, eqb-false, lt-ltb, le-ltb}
+use lib.Dec.{ltb, eqb}
+use lib.ListN.{length}
 use Rattle.words.specs.Scan.{first}
 use Rattle.words.specs.Stores.{tab, tabFrom}
-use Rattle.words.proofs.Scan.{by-bool, by-le, first-at}
+use Rattle.words.proofs.Scan.{by-bool, by-le}
 use Rattle.words.proofs.Plans.{length-tab, tab-below}
 use Rattle.table.specs.Entry.{live, nextHandle, handle, word1, writableOf, viaOf, findIn, holdsIn}
+use Rattle.table.proofs.Entry.{holds-true}
 use Rattle.search.specs.Search.{valueIn}
 use Rattle.search.specs.Domain.{placeOf, depthNamed}
-use Rattle.model.specs.State.{Label, readOnly, readWrite, Kind, copy, viaParent, Holding, Domain, State}
+use Rattle.model.specs.State.{Holding, Domain}
 use Rattle.model.specs.Holdings.{deeper, depthIn, named, holdingAt, isHeld, heldWritable, heldVia, onDepth, onInnermost, onCommit, holding}
 use Rattle.store.specs.State.{labelOf, kindOf, heldIn, domainIn, stateIn}
 
@@ -104,8 +104,18 @@ module _ (g : ℕ → Domain) where
         let one : g at ≡ merge (at + suc n) at = rw z in
         λ i. one i ∷ (commit-from (suc at) n ∙ ap (λ (x : ℕ). tabFrom (merge x) (suc at) (suc n)) y) i
 
-    pub on-commit : (n : ℕ) → onCommit f (tab (suc (suc n)) g) ≡ tab (suc n) (λ k. cond (eqb k n) (f (g n) (g (suc n))) (g k))
-    on-commit n = commit-from 0 n ∙ ap (λ (x : ℕ). tab (suc n) (merge x)) (zero-add n)
+    -- of n domains the last but one, if any, is changed by the last
+    pub on-commit : (n : ℕ) → onCommit f (tab n g) ≡ tab (n - 1) (λ k. cond (eqb (suc k) (n - 1)) (f (g k) (g (n - 1))) (g k))
+    on-commit zero = refl
+    on-commit (suc zero) = refl
+    on-commit (suc (suc n)) =
+        let less : suc (suc n) - 1 ≡ suc n = omega arith in
+        rw less
+        (commit-from 0 n ∙ ap (λ (x : ℕ). tab (suc n) (merge x)) (zero-add n)
+        ∙ tab-below (merge n) (λ k. cond (eqb (suc k) (suc n)) (f (g k) (g (suc n))) (g k)) (suc n) (λ k l.
+        by-bool (eqb k n)
+        (λ z. let q = eqb-true k n z in rw (z, eq-eqb (suc k) (suc n) (ap suc q), q))
+        (λ z. let ne = eqb-false k n z in rw (z, ne-eqb (suc k) (suc n) (λ p. ne (omega arith))))))
 
 -- ---- the state of a table's words
 
@@ -132,7 +142,16 @@ module _ (e : ℕ) (t bodies : List ℕ) where
   unfolding stateIn
   state-zero c = holding-zero (domainIn e t bodies) (live t) c
 
-  -- held, held read-write and held via parent, by the words
+  -- not held, held, held read-write and held via parent, by the words
+  pub held-none : (d c : ℕ) → holdsIn e t d c ≡ false → heldIn e t bodies d c ≡ none
+  unfolding heldIn
+  held-none d c z = rw z
+
+  pub held-some : (d c : ℕ) → findIn e t d c < e
+      → heldIn e t bodies d c ≡ some (record { label = labelOf (word1 e t (findIn e t d c)); kind = kindOf (word1 e t (findIn e t d c)); value = valueIn e t bodies d c })
+  unfolding heldIn
+  held-some d c h = rw (holds-true e t d c h)
+
   pub held-holds : (d c : ℕ) → isHeld (heldIn e t bodies d c) ≡ holdsIn e t d c
   unfolding heldIn
   held-holds d c = by-bool (holdsIn e t d c) (λ z. rw z) (λ z. rw z)
@@ -187,11 +206,12 @@ state-named e t bodies h =
 module _ (e : ℕ) (t u old new : List ℕ) (same-live : live u ≡ live t) (same-next : nextHandle u ≡ nextHandle t)
     (same-handles : (k : ℕ) → k < live t → handle u k ≡ handle t k) where
   -- the domain at one depth has other holdings
-  pub depth-state : (d : ℕ) (f : Domain → ℕ → Option Holding)
-      → ((k c : ℕ) → k < live t → heldIn e u new (suc k) c ≡ cond (eqb (suc k) (suc d)) (f (domainIn e t old k) c) (heldIn e t old (suc k) c))
-      → stateIn e u new ≡ record { next = stateIn e t old .next; domains = onDepth (suc d) (λ x. holding (f x) x) (stateIn e t old .domains) }
+  pub depth-state : (d : ℕ) → 1 ≤ d → (f : Domain → ℕ → Option Holding)
+      → ((k c : ℕ) → k < live t → heldIn e u new (suc k) c ≡ cond (eqb (suc k) d) (f (domainIn e t old k) c) (heldIn e t old (suc k) c))
+      → stateIn e u new ≡ record { next = stateIn e t old .next; domains = onDepth d (λ x. holding (f x) x) (stateIn e t old .domains) }
   unfolding stateIn
-  depth-state d f h =
+  depth-state zero low f h = absurd (not-suc-le-zero low)
+  depth-state (suc d) low f h =
       let doms : tab (live u) (domainIn e u new) ≡ onDepth (suc d) (λ x. holding (f x) x) (tab (live t) (domainIn e t old)) =
       ap (λ (n : ℕ). tab n (domainIn e u new)) same-live
       ∙ tab-below (domainIn e u new) (λ k. cond (eqb (suc k) (suc d)) (holding (f (domainIn e t old k)) (domainIn e t old k)) (domainIn e t old k)) (live t)
@@ -219,21 +239,19 @@ module _ (e : ℕ) (t u old new : List ℕ) (same-live : live u ≡ live t) (sam
       λ i. record { next = same-next i; domains = doms i }
 
 -- the innermost domain has left, and its parent has other holdings
-pub commit-state : (e n : ℕ) (t u old new : List ℕ) → live t ≡ suc (suc n) → live u ≡ suc n → nextHandle u ≡ nextHandle t → ((k : ℕ) → k ≤ n → handle u k ≡ handle t k)
+pub commit-state : (e : ℕ) (t u old new : List ℕ) → live u ≡ live t - 1 → nextHandle u ≡ nextHandle t → ((k : ℕ) → k < live t - 1 → handle u k ≡ handle t k)
     → (f : Domain → Domain → ℕ → Option Holding)
-    → ((k c : ℕ) → k ≤ n → heldIn e u new (suc k) c ≡ cond (eqb k n) (f (domainIn e t old n) (domainIn e t old (suc n)) c) (heldIn e t old (suc k) c))
+    → ((k c : ℕ) → k < live t - 1
+    → heldIn e u new (suc k) c ≡ cond (eqb (suc k) (live t - 1)) (f (domainIn e t old k) (domainIn e t old (live t - 1)) c) (heldIn e t old (suc k) c))
     → stateIn e u new ≡ record { next = stateIn e t old .next; domains = onCommit (λ o i. holding (f o i) o) (stateIn e t old .domains) }
 unfolding stateIn
-commit-state e n t u old new lt lu same-next same-handles f h =
+commit-state e t u old new lu same-next same-handles f h =
     let doms : tab (live u) (domainIn e u new) ≡ onCommit (λ o i. holding (f o i) o) (tab (live t) (domainIn e t old)) =
     ap (λ (x : ℕ). tab x (domainIn e u new)) lu
-    ∙ tab-below (domainIn e u new) (λ k. cond (eqb k n) (holding (f (domainIn e t old n) (domainIn e t old (suc n))) (domainIn e t old n)) (domainIn e t old k)) (suc n)
+    ∙ tab-below (domainIn e u new) (λ k. cond (eqb (suc k) (live t - 1)) (holding (f (domainIn e t old k) (domainIn e t old (live t - 1))) (domainIn e t old k)) (domainIn e t old k)) (live t - 1)
     (λ k l.
-    by-bool (eqb k n)
-    (λ z.
-    let q = eqb-true k n z in
-    rw z (λ i. record { handle = (same-handles k (omega arith) ∙ ap (handle t) q) i; holds = λ c. (rw z at (h k c (omega arith))) i }))
-    (λ z. rw z (λ i. record { handle = same-handles k (omega arith) i; holds = λ c. (rw z at (h k c (omega arith))) i })))
-    ∙ sym (on-commit (domainIn e t old) (λ o i. holding (f o i) o) n)
-    ∙ ap (λ (x : ℕ). onCommit (λ o i. holding (f o i) o) (tab x (domainIn e t old))) (sym lt) in
+    by-bool (eqb (suc k) (live t - 1))
+    (λ z. rw z (λ i. record { handle = same-handles k l i; holds = λ c. (rw z at (h k c l)) i }))
+    (λ z. rw z (λ i. record { handle = same-handles k l i; holds = λ c. (rw z at (h k c l)) i })))
+    ∙ sym (on-commit (domainIn e t old) (λ o i. holding (f o i) o) (live t)) in
     λ i. record { next = same-next i; domains = doms i }

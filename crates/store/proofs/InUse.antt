@@ -8,7 +8,7 @@ use native.Mathlib.Omega.{arith}
 use borrow.Author.Tests.{eq-eqb, ne-eqb, eqb-true, eqb-false, lt-ltb, le-ltb}
 use lib.Dec.{ltb, eqb}
 use lib.ListN.{length, drop}
-use Rattle.words.specs.Layout.{cellsOf}
+use Rattle.words.specs.Layout.{cellsOf, bodiesOf}
 use Rattle.words.specs.Scan.{count}
 use Rattle.words.specs.Stores.{tabFrom}
 use Rattle.words.proofs.Scan.{by-bool, by-le, count-ext}
@@ -149,9 +149,9 @@ module _ (b : Buffers) (yes : storeCheck (length (b .memory)) (length (b .bodies
   pub store-entries : liveEntries (cellsOf (length (b .memory))) (stateOf b) ≡ usedSlots (slots b) (b .table)
   store-entries =
       ap (liveEntries (cellsOf (length (b .memory)))) (raw-state (b .memory) (b .bodies) (b .table) yes)
-      ∙ entries-in-use (cellsOf (length (b .memory))) (slots b) (cellsOf (length (b .bodies))) (b .table) (raw-rule (b .memory) (b .bodies) (b .table) yes) (b .bodies)
+      ∙ entries-in-use (cellsOf (length (b .memory))) (slots b) (bodiesOf (length (b .bodies))) (b .table) (raw-rule (b .memory) (b .bodies) (b .table) yes) (b .bodies)
 
   pub store-copies : copiesInUse (cellsOf (length (b .memory))) (stateOf b) ≡ copies (slots b) (b .table)
   store-copies =
       ap (copiesInUse (cellsOf (length (b .memory)))) (raw-state (b .memory) (b .bodies) (b .table) yes)
-      ∙ copies-in-use (cellsOf (length (b .memory))) (slots b) (cellsOf (length (b .bodies))) (b .table) (raw-rule (b .memory) (b .bodies) (b .table) yes) (b .bodies)
+      ∙ copies-in-use (cellsOf (length (b .memory))) (slots b) (bodiesOf (length (b .bodies))) (b .table) (raw-rule (b .memory) (b .bodies) (b .table) yes) (b .bodies)

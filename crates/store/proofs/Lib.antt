@@ -2,6 +2,7 @@
 pub mod Checks
 pub mod Outcome
 pub mod State
+pub mod Becoming
 pub mod Cuts
 pub mod Creating
 pub mod Making

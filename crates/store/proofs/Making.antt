@@ -1,35 +1,33 @@
 -- Make: what every cut of it leaves. Assumes nothing.
 use Prim.Native.Nat.{ℕ, zero, suc, _+_, _-_, _*_, _≤_, _<_}
-use mathlib.Core.Bool.{Bool, true, false, cond}
-use mathlib.Core.List.{List, [], _∷_, _++_}
-use mathlib.Core.Option.{Option, none, some}
+use mathlib.Core.Bool.{true}
+use mathlib.Core.List.{List, [], _∷_}
+use mathlib.Core.Option.{none, some}
 use mathlib.Core.Path.{_≡_, refl, sym, ap, subst, _∙_}
 use native.Mathlib.Nat.{not-suc-le-zero}
-use native.Mathlib.Numerals.{add-one}
 use native.Mathlib.Omega.{arith}
-use borrow.Author.Tests.{eqb-true, eqb-false, eq-eqb, ne-eqb, le-leb, lt-leb}
-use lib.Dec.{leb, eqb}
+use borrow.Author.Tests.{eqb-true, eqb-false, ne-eqb}
+use lib.Dec.{eqb}
 use lib.ListN.{length, getD, set, take, length-set, length-append}
 use lib.Seq.{getD-set-same, getD-set-other, getD-take, take-append-le, take-all}
-use Rattle.words.specs.Layout.{magic, magicAt, cellsAt, slotsAt, bodiesAt, liveAt, nextAt, pendingAt, zeroAt, handleAt, firstAt, secondAt, pairsAt, maxLive, maxPairs, tableWords, slotsOf, cellsOf}
-use Rattle.words.specs.Stores.{Store, _≔_, store, stores, tab, tabFrom, run}
-use Rattle.words.specs.Journal.{pending, pairs, namesOk, effective}
-use Rattle.words.proofs.Scan.{by-bool, by-le}
-use Rattle.words.proofs.Plans.{Each, each-take, each-tab, length-tab, length-stores, getD-stores, run-append, run-take-tab, run-take-append}
+use Rattle.words.specs.Layout.{magic, magicAt, cellsAt, slotsAt, bodiesAt, liveAt, nextAt, pendingAt, zeroAt, handleAt, firstAt, secondAt, pairsAt, maxPairs, tableWords, slotsOf, cellsOf, bodiesOf}
+use Rattle.words.specs.Stores.{Store, _≔_, store, stores, tab, tabFrom}
+use Rattle.words.specs.Journal.{pending, pairs, effective}
+use Rattle.words.proofs.Scan.{by-bool}
+use Rattle.words.proofs.Plans.{each-take, each-tab, length-tab, length-stores, getD-stores, run-append, run-take-tab}
 use Rattle.words.proofs.Names.{names-none}
 use Rattle.words.proofs.Journal.{effective-idle}
-use Rattle.table.specs.Entry.{live, nextHandle, handle, word1, word2, viaOf}
-use Rattle.table.specs.Rule.{handleOk}
+use Rattle.table.specs.Entry.{live, nextHandle, word1, word2, viaOf}
 use Rattle.table.proofs.Rule.{Rule}
 use Rattle.table.proofs.Head.{handle-make}
 use Rattle.table.proofs.Checks.{header-make, header-none}
 use Rattle.model.specs.Calls.{fresh}
-use Rattle.store.specs.Outcome.{Buffers, buffers}
+use Rattle.store.specs.Outcome.{buffers}
 use Rattle.store.specs.Checks.{shapeCheck, openCheck}
 use Rattle.store.specs.State.{stateIn, standing, domainIn}
 use Rattle.store.specs.Calls.{freshWord, makePlan}
-use Rattle.table.specs.Checks.{lengthsOk, headerOk}
-use Rattle.store.proofs.Checks.{open-make, shape-make, table-make, orElse-stop, ask-go, ask-stop}
+use Rattle.table.specs.Checks.{lengthsOk}
+use Rattle.store.proofs.Checks.{open-make, shape-make, table-make}
 use Rattle.table.proofs.Pairs.{pairs-make}
 use Rattle.store.proofs.Cuts.{stands-open}
 
@@ -77,7 +75,7 @@ module _ (m e b : ℕ) (t : List ℕ) (long : length t ≡ tableWords e) where
   abbrev middle : List Store
   middle = words (freshWord m e b) (15 + 2 * e)
 
-  pub make-length : length (makePlan m e b) ≡ 2 * e + 17
+  pub make-length : length (makePlan m e b) ≡ pairsAt e + 1
   unfolding makePlan
   make-length = simp (length-append, length-tab) (omega arith)
 
@@ -85,7 +83,7 @@ module _ (m e b : ℕ) (t : List ℕ) (long : length t ≡ tableWords e) where
   after-make k = stores (take k (makePlan m e b)) t
 
   -- from the first store to the last, word 0 is cleared
-  pub make-gone : (k : ℕ) → 0 < k → k < 2 * e + 17 → getD (stores (take k (makePlan m e b)) t) magicAt 0 ≡ 0
+  pub make-gone : (k : ℕ) → 0 < k → k < pairsAt e + 1 → getD (stores (take k (makePlan m e b)) t) magicAt 0 ≡ 0
   unfolding makePlan
   make-gone zero pos l = absurd (not-suc-le-zero pos)
   make-gone (suc k) pos l =
@@ -97,7 +95,7 @@ module _ (m e b : ℕ) (t : List ℕ) (long : length t ≡ tableWords e) where
   pub whole : List ℕ
   whole = set (stores (words (freshWord m e b) (15 + 2 * e)) (set t magicAt 0)) magicAt magic
 
-  pub make-whole : (k : ℕ) → 2 * e + 17 ≤ k → stores (take k (makePlan m e b)) t ≡ whole
+  pub make-whole : (k : ℕ) → pairsAt e + 1 ≤ k → stores (take k (makePlan m e b)) t ≡ whole
   unfolding makePlan whole
   make-whole k l =
       let all : take k (makePlan m e b) ≡ makePlan m e b = take-all k (makePlan m e b) (rw make-length l) in
@@ -196,27 +194,27 @@ module _ (memory bodies t : List ℕ) (lengths : lengthsOk (length memory) (leng
   e = slotsOf (length t)
 
   abbrev plan : List Store
-  plan = makePlan (cellsOf (length memory)) (slotsOf (length t)) (cellsOf (length bodies))
+  plan = makePlan (cellsOf (length memory)) (slotsOf (length t)) (bodiesOf (length bodies))
 
-  pub make-none : (k : ℕ) → 0 < k → k < 2 * slotsOf (length t) + 17 → openCheck (length memory) (length bodies) (stores (take k plan) t) ≡ 2
+  pub make-none : (k : ℕ) → 0 < k → k < pairsAt (slotsOf (length t)) + 1 → openCheck (length memory) (length bodies) (stores (take k plan) t) ≡ 2
   unfolding openCheck shapeCheck
   make-none k pos l =
-      let gone = make-gone (cellsOf (length memory)) e (cellsOf (length bodies)) t long k pos l in
+      let gone = make-gone (cellsOf (length memory)) e (bodiesOf (length bodies)) t long k pos l in
       let yes1 : lengthsOk (length memory) (length bodies) (length (stores (take k plan) t)) ≡ true = rw (length-stores (take k plan) t) lengths in
       rw (yes1, header-none (length memory) (length bodies) (stores (take k plan) t) gone)
 
   -- done, it leaves nothing pending
-  pub make-idle : (k : ℕ) → 2 * slotsOf (length t) + 17 ≤ k → pending (stores (take k plan) t) ≡ 0
+  pub make-idle : (k : ℕ) → pairsAt (slotsOf (length t)) + 1 ≤ k → pending (stores (take k plan) t) ≡ 0
   make-idle k l =
       let m = cellsOf (length memory) in
-      let b = cellsOf (length bodies) in
+      let b = bodiesOf (length bodies) in
       ap (λ (u : List ℕ). pending u) (make-whole m e b t long k l) ∙ idle m e b t long
 
-  pub make-fresh : (k : ℕ) → 2 * slotsOf (length t) + 17 ≤ k
+  pub make-fresh : (k : ℕ) → pairsAt (slotsOf (length t)) + 1 ≤ k
       → standing (buffers memory bodies (stores (take k plan) t)) ≡ some fresh
   make-fresh k l =
       let m = cellsOf (length memory) in
-      let b = cellsOf (length bodies) in
+      let b = bodiesOf (length bodies) in
       let w : List ℕ = whole m e b t long in
       let n : length w ≡ length t = whole-length m e b t long in
       let lw : lengthsOk (length memory) (length bodies) (length w) ≡ true = rw n lengths in

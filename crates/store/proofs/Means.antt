@@ -8,7 +8,7 @@ use native.Mathlib.Omega.{arith}
 use borrow.Author.Tests.{eq-eqb, ne-eqb, le-leb, lt-leb}
 use lib.ListN.{length, take}
 use lib.Seq.{getD-take, take-nil}
-use Rattle.words.specs.Layout.{liveAt, nextAt, pairsAt, slotsOf, cellsOf, tableWords}
+use Rattle.words.specs.Layout.{liveAt, nextAt, pairsAt, slotsOf, cellsOf, bodiesOf, tableWords}
 use Rattle.words.specs.Stores.{Store, stores}
 use Rattle.words.specs.Journal.{pending, effective, openPlan, applyPlan}
 use Rattle.words.proofs.Scan.{by-bool, by-le}
@@ -45,26 +45,26 @@ long memory bodies t h = lengths-facts memory bodies (length t) h .table-exact
 
 module _ (memory bodies t : List ℕ) (k : ℕ) (yes : lengthsOk (length memory) (length bodies) (length t) ≡ true) where
   abbrev plan : List Store
-  plan = makePlan (cellsOf (length memory)) (slotsOf (length t)) (cellsOf (length bodies))
+  plan = makePlan (cellsOf (length memory)) (slotsOf (length t)) (bodiesOf (length bodies))
 
   make-standing : standing (buffers memory bodies (stores (take k plan) t)) ≡ makeState (slotsOf (length t)) k (standing (buffers memory bodies t))
   unfolding standing
   make-standing =
       let w = long (length memory) (length bodies) t yes in
-      by-le (2 * slotsOf (length t) + 17) k
-      (λ l. make-fresh memory bodies t yes w k l ∙ rw (le-leb (2 * slotsOf (length t) + 17) k l))
+      by-le (pairsAt (slotsOf (length t)) + 1) k
+      (λ l. make-fresh memory bodies t yes w k l ∙ rw (le-leb (pairsAt (slotsOf (length t)) + 1) k l))
       (λ l.
       by-le k 0
       (λ z.
       let q : k ≡ 0 = omega arith in
-      rw (lt-leb (2 * slotsOf (length t) + 17) k l, q))
-      (λ z. rw (lt-leb (2 * slotsOf (length t) + 17) k l, ne-eqb k 0 (λ q. omega arith), make-none memory bodies t yes w k z l)))
+      rw (lt-leb (pairsAt (slotsOf (length t)) + 1) k l, q))
+      (λ z. rw (lt-leb (pairsAt (slotsOf (length t)) + 1) k l, ne-eqb k 0 (λ q. omega arith), make-none memory bodies t yes w k z l)))
 
   make-seen : seenOf (outcome (perform (map inTable plan) 0) k (buffers memory bodies t))
       ≡ view (ended (makeSteps (slotsOf (length t))) 0 k) (makeState (slotsOf (length t)) k (standing (buffers memory bodies t))) memory
   make-seen =
       ap seenOf (table-after plan 0 k memory bodies t)
-      ∙ rw (make-length (cellsOf (length memory)) (slotsOf (length t)) (cellsOf (length bodies)) t (long (length memory) (length bodies) t yes), make-standing)
+      ∙ rw (make-length (cellsOf (length memory)) (slotsOf (length t)) (bodiesOf (length bodies)) t (long (length memory) (length bodies) t yes), make-standing)
 
 pub make-means : (k : ℕ) (b : Buffers) → seenOf (outcome (makeCall b) k b) ≡ makeMeans k b
 unfolding makeCall makeMeans makeCheck outcome
@@ -123,8 +123,8 @@ module _ (memory bodies t : List ℕ) (yes : storeCheck (length memory) (length 
   pub store-effective : effective (pairsAt (slotsOf (length t))) t ≡ take (pairsAt (slotsOf (length t))) t
   store-effective = effective-idle first t (store-idle (length memory) (length bodies) t yes)
 
-  pub store-rule : Rule (cellsOf (length memory)) (slotsOf (length t)) (cellsOf (length bodies)) (take (pairsAt (slotsOf (length t))) t)
-  store-rule = subst (λ (l : List ℕ). Rule (cellsOf (length memory)) (slotsOf (length t)) (cellsOf (length bodies)) l) store-effective
+  pub store-rule : Rule (cellsOf (length memory)) (slotsOf (length t)) (bodiesOf (length bodies)) (take (pairsAt (slotsOf (length t))) t)
+  store-rule = subst (λ (l : List ℕ). Rule (cellsOf (length memory)) (slotsOf (length t)) (bodiesOf (length bodies)) l) store-effective
       (table-rule (length memory) (length bodies) t (store-table (length memory) (length bodies) t yes))
 
   -- the state of a table with nothing pending is that of its own words
@@ -153,16 +153,16 @@ module _ (m b t : List ℕ) (k : ℕ) where
   make-refused no1 = rw no1
 
   pub make-performed : (cells slots bodies : ℕ) (t′ : List ℕ) (r : Report) → lengthsOk (length m) (length b) (length t) ≡ true
-      → cells ≡ cellsOf (length m) → slots ≡ slotsOf (length t) → bodies ≡ cellsOf (length b)
-      → t′ ≡ stores (take k (makePlan cells slots bodies)) t → r ≡ ended (2 * slots + 17) 0 k
+      → cells ≡ cellsOf (length m) → slots ≡ slotsOf (length t) → bodies ≡ bodiesOf (length b)
+      → t′ ≡ stores (take k (makePlan cells slots bodies)) t → r ≡ ended (pairsAt slots + 1) 0 k
       → leaves r (buffers m b t′) ≡ outcome (makeCall (buffers m b t)) k (buffers m b t)
   unfolding makeCall makeCheck
   make-performed cells slots bodies t′ r yes1 p q s w e =
-      let w′ : t′ ≡ stores (take k (makePlan (cellsOf (length m)) (slotsOf (length t)) (cellsOf (length b)))) t = w ∙ rw (p, q, s) in
-      let e′ : r ≡ ended (2 * slotsOf (length t) + 17) 0 k = e ∙ rw q in
+      let w′ : t′ ≡ stores (take k (makePlan (cellsOf (length m)) (slotsOf (length t)) (bodiesOf (length b)))) t = w ∙ rw (p, q, s) in
+      let e′ : r ≡ ended (pairsAt (slotsOf (length t)) + 1) 0 k = e ∙ rw q in
       rw yes1
-      (performed (makePlan (cellsOf (length m)) (slotsOf (length t)) (cellsOf (length b))) 0 (2 * slotsOf (length t) + 17) k m b t t′ r
-      (make-length (cellsOf (length m)) (slotsOf (length t)) (cellsOf (length b)) t (long (length m) (length b) t yes1)) w′ e′)
+      (performed (makePlan (cellsOf (length m)) (slotsOf (length t)) (bodiesOf (length b))) 0 (pairsAt (slotsOf (length t)) + 1) k m b t t′ r
+      (make-length (cellsOf (length m)) (slotsOf (length t)) (bodiesOf (length b)) t (long (length m) (length b) t yes1)) w′ e′)
 
   pub open-refused : (q : ℕ) → q ≡ openCheck (length m) (length b) t → (q ≡ 0 → ⊥) → leaves (refused q) (buffers m b t) ≡ outcome (openCall (buffers m b t)) k (buffers m b t)
   unfolding openCall

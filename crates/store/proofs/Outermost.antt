@@ -6,17 +6,14 @@ use mathlib.Core.List.{List}
 use mathlib.Core.Option.{none}
 use mathlib.Core.Path.{_≡_, sym, ap, _∙_}
 use native.Mathlib.Omega.{arith}
-use borrow.Author.Tests.{ltb-true, ltb-false}
 use lib.ListN.{length}
-use Rattle.words.specs.Layout.{cellAt, cellsOf, slotsOf}
+use Rattle.words.specs.Layout.{cellAt, cellsOf, bodiesOf, slotsOf}
 use Rattle.words.specs.Scan.{first}
 use Rattle.words.specs.Cells.{cellBytes}
-use Rattle.words.proofs.Scan.{by-bool, first-hit, first-ext}
+use Rattle.words.proofs.Scan.{by-bool, first-ext}
 use Rattle.table.specs.Entry.{live, word2, holdsIn}
-use Rattle.table.proofs.Entry.{holds-found}
-use Rattle.table.proofs.Rule.{Rule}
 use Rattle.search.specs.Search.{stepsIn, heldFrom, sourceIn, valueIn, bodyFrom}
-use Rattle.search.proofs.Value.{Copy, ends-in-copy, body-fits}
+use Rattle.search.proofs.Behind.{steps-within, steps-past, steps-hold, from-slot, from-fits}
 use Rattle.model.specs.State.{State}
 use Rattle.model.specs.Holdings.{holdingAt, isHeld, valueOr}
 use Rattle.model.specs.Restore.{outermost}
@@ -31,17 +28,6 @@ use Rattle.store.proofs.Raw.{raw-rule, raw-state}
 -- ---- of the words of any table
 
 module _ (e : ℕ) (t : List ℕ) (d c : ℕ) where
-  -- the first holder is one of the live domains, and it holds the cell
-  pub steps-within : heldFrom e t d c ≡ true → d + stepsIn e t d c ≤ live t
-  steps-within h = omega (arith, ltb-true (stepsIn e t d c) (suc (live t) - d) h)
-
-  pub steps-past : heldFrom e t d c ≡ false → live t < d + stepsIn e t d c
-  steps-past h = omega (arith, ltb-false (stepsIn e t d c) (suc (live t) - d) h)
-
-  pub steps-hold : heldFrom e t d c ≡ true → holdsIn e t (d + stepsIn e t d c) c ≡ true
-  unfolding stepsIn
-  steps-hold h = first-hit (suc (live t) - d) (λ k. holdsIn e t (d + k) c) (ltb-true (first (suc (live t) - d) (λ k. holdsIn e t (d + k) c)) (suc (live t) - d) h)
-
   module _ (bodies : List ℕ) (low : 1 ≤ d) where
     abbrev s : State
     s = stateIn e t bodies
@@ -60,10 +46,10 @@ module _ (e : ℕ) (t : List ℕ) (d c : ℕ) where
 
     -- what the first holder holds
     pub outermost-found : heldFrom e t d c ≡ true → outermost d c (stateIn e t bodies) ≡ heldIn e t bodies (d + stepsIn e t d c) c
-    outermost-found h = outermost-at ∙ state-holding e t bodies (d + stepsIn e t d c) c (omega arith) (steps-within h)
+    outermost-found h = outermost-at ∙ state-holding e t bodies (d + stepsIn e t d c) c (omega arith) (steps-within e t d c h)
 
     pub outermost-none : heldFrom e t d c ≡ false → outermost d c (stateIn e t bodies) ≡ none
-    outermost-none h = outermost-at ∙ state-past e t bodies (d + stepsIn e t d c) c (steps-past h)
+    outermost-none h = outermost-at ∙ state-past e t bodies (d + stepsIn e t d c) c (steps-past e t d c h)
 
     pub outermost-is : outermost d c (stateIn e t bodies) ≡ cond (heldFrom e t d c) (heldIn e t bodies (d + stepsIn e t d c) c) none
     outermost-is = by-bool (heldFrom e t d c) (λ h. rw h (outermost-found h)) (λ h. rw h (outermost-none h))
@@ -72,7 +58,7 @@ module _ (e : ℕ) (t : List ℕ) (d c : ℕ) where
     pub outermost-held : isHeld (outermost d c (stateIn e t bodies)) ≡ heldFrom e t d c
     outermost-held =
         by-bool (heldFrom e t d c)
-        (λ h. ap isHeld (outermost-found h) ∙ held-holds e t bodies (d + stepsIn e t d c) c ∙ steps-hold h ∙ sym h)
+        (λ h. ap isHeld (outermost-found h) ∙ held-holds e t bodies (d + stepsIn e t d c) c ∙ steps-hold e t d c h ∙ sym h)
         (λ h. ap isHeld (outermost-none h) ∙ sym h)
 
     -- its value: the body behind the chain that begins at its entry
@@ -81,25 +67,13 @@ module _ (e : ℕ) (t : List ℕ) (d c : ℕ) where
     held-value v x h = rw h
 
     pub outermost-value : (v : List ℕ) → heldFrom e t d c ≡ true → valueOr v (outermost d c (stateIn e t bodies)) ≡ cellBytes bodies (bodyFrom e t d c)
-    outermost-value v h = ap (valueOr v) (outermost-found h) ∙ held-value v (d + stepsIn e t d c) (steps-hold h)
+    outermost-value v h = ap (valueOr v) (outermost-found h) ∙ held-value v (d + stepsIn e t d c) (steps-hold e t d c h)
 
     pub outermost-other : (v : List ℕ) → heldFrom e t d c ≡ false → valueOr v (outermost d c (stateIn e t bodies)) ≡ v
     outermost-other v h = ap (valueOr v) (outermost-none h)
 
     pub outermost-bytes : (v : List ℕ) → valueOr v (outermost d c (stateIn e t bodies)) ≡ cond (heldFrom e t d c) (cellBytes bodies (bodyFrom e t d c)) v
     outermost-bytes v = by-bool (heldFrom e t d c) (λ h. rw h (outermost-value v h)) (λ h. rw h (outermost-other v h))
-
--- ---- of a table that is right: behind the first holder there is a copy, whose body fits
-
-module _ (m e b : ℕ) (t : List ℕ) (ok : Rule m e b t) (d c : ℕ) (low : 1 ≤ d) (h : heldFrom e t d c ≡ true) where
-  pub from-copy : Copy e t (sourceIn e t (d + stepsIn e t d c) c)
-  from-copy = ends-in-copy m e b t ok (d + stepsIn e t d c) c (omega arith) (holds-found e t (d + stepsIn e t d c) c (steps-hold e t d c h))
-
-  pub from-slot : sourceIn e t (d + stepsIn e t d c) c < e
-  from-slot = from-copy .slot
-
-  pub from-fits : bodyFrom e t d c < b
-  from-fits = body-fits m e b t ok (sourceIn e t (d + stepsIn e t d c) c) from-copy
 
 -- ---- of lent buffers that pass questions 1 to 4, by the words of the table as it is lent
 
@@ -121,10 +95,10 @@ module _ (memory bodies t : List ℕ) (yes : storeCheck (length memory) (length 
     store-value v = ap (λ (s : State). valueOr v (outermost d c s)) (raw-state memory bodies t yes) ∙ outermost-value (slotsOf (length t)) t d c bodies low v h
 
     pub store-slot : sourceIn (slotsOf (length t)) t (d + stepsIn (slotsOf (length t)) t d c) c < slotsOf (length t)
-    store-slot = from-slot (cellsOf (length memory)) (slotsOf (length t)) (cellsOf (length bodies)) t (raw-rule memory bodies t yes) d c low h
+    store-slot = from-slot (cellsOf (length memory)) (slotsOf (length t)) (bodiesOf (length bodies)) t (raw-rule memory bodies t yes) d c low h
 
-    pub store-fits : bodyFrom (slotsOf (length t)) t d c < cellsOf (length bodies)
-    store-fits = from-fits (cellsOf (length memory)) (slotsOf (length t)) (cellsOf (length bodies)) t (raw-rule memory bodies t yes) d c low h
+    pub store-fits : bodyFrom (slotsOf (length t)) t d c < bodiesOf (length bodies)
+    store-fits = from-fits (cellsOf (length memory)) (slotsOf (length t)) (bodiesOf (length bodies)) t (raw-rule memory bodies t yes) d c low h
 
     -- the body lies in the bodies
     pub store-within : cellAt (bodyFrom (slotsOf (length t)) t d c) + 64 ≤ length bodies

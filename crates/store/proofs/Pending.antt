@@ -9,7 +9,7 @@ use borrow.Author.Tests.{ne-eqb, le-leb, lt-leb, lt-ltb, le-ltb}
 use lib.Dec.{leb, ltb, eqb}
 use lib.ListN.{length, take}
 use lib.Seq.{take-all}
-use Rattle.words.specs.Layout.{cellsOf, slotsOf, pairsAt, maxPairs}
+use Rattle.words.specs.Layout.{cellsOf, bodiesOf, slotsOf, pairsAt, maxPairs}
 use Rattle.words.specs.Stores.{Store, stores}
 use Rattle.words.specs.Journal.{pending, namesOk, openPlan, journal, journaled}
 use Rattle.words.proofs.Scan.{by-bool, by-le}
@@ -108,7 +108,7 @@ pub make-pending : (k : ℕ) (b : Buffers) → lengthsOk (length (b .memory)) (l
 unfolding makeCall makeCheck
 make-pending k b good enough =
     rw good
-    (ap leftPending (table-after (makePlan (cellsOf (length (b .memory))) (slotsOf (length (b .table))) (cellsOf (length (b .bodies)))) 0 k (b .memory) (b .bodies) (b .table))
+    (ap leftPending (table-after (makePlan (cellsOf (length (b .memory))) (slotsOf (length (b .table))) (bodiesOf (length (b .bodies)))) 0 k (b .memory) (b .bodies) (b .table))
     ∙ make-idle (b .memory) (b .bodies) (b .table) good (long (length (b .memory)) (length (b .bodies)) (b .table) good) k enough)
 
 -- an opening leaves nothing pending where it is done, and else as many pairs as there were

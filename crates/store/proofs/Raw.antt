@@ -5,7 +5,7 @@ use mathlib.Core.Path.{_≡_, refl, sym, ap, subst, _∙_}
 use native.Mathlib.Omega.{arith}
 use lib.ListN.{length, take}
 use lib.Seq.{getD-take}
-use Rattle.words.specs.Layout.{cellsOf, slotsOf, pairsAt, liveAt, nextAt, handleAt, firstAt, secondAt}
+use Rattle.words.specs.Layout.{cellsOf, bodiesOf, slotsOf, pairsAt, liveAt, nextAt, handleAt, firstAt, secondAt}
 use Rattle.words.specs.Stores.{Store, stores}
 use Rattle.words.proofs.Plans.{Each, take-stores}
 use Rattle.words.proofs.Journal.{effective-idle}
@@ -53,19 +53,19 @@ front-copy e t i c =
 pub front-second : (e : ℕ) (t : List ℕ) (i : ℕ) → i < e → word2 e (take (pairsAt e) t) i ≡ word2 e t i
 front-second e t i l = getD-take (pairsAt e) t (secondAt e i) 0 (omega arith)
 
-pub check-rule : (memory bodies : ℕ) (t : List ℕ) → storeCheck memory bodies t ≡ 0 → Rule (cellsOf memory) (slotsOf (length t)) (cellsOf bodies) t
+pub check-rule : (memory bodies : ℕ) (t : List ℕ) → storeCheck memory bodies t ≡ 0 → Rule (cellsOf memory) (slotsOf (length t)) (bodiesOf bodies) t
 check-rule memory bodies t pass =
-    rule-front (cellsOf memory) (slotsOf (length t)) (cellsOf bodies) t
-    (subst (λ (l : List ℕ). Rule (cellsOf memory) (slotsOf (length t)) (cellsOf bodies) l)
+    rule-front (cellsOf memory) (slotsOf (length t)) (bodiesOf bodies) t
+    (subst (λ (l : List ℕ). Rule (cellsOf memory) (slotsOf (length t)) (bodiesOf bodies) l)
     (effective-idle (pairsAt (slotsOf (length t))) t (store-idle memory bodies t pass))
     (table-rule memory bodies t (store-table memory bodies t pass)))
 
 module _ (memory bodies t : List ℕ) (yes : storeCheck (length memory) (length bodies) t ≡ 0) where
-  pub raw-rule : Rule (cellsOf (length memory)) (slotsOf (length t)) (cellsOf (length bodies)) t
+  pub raw-rule : Rule (cellsOf (length memory)) (slotsOf (length t)) (bodiesOf (length bodies)) t
   raw-rule = check-rule (length memory) (length bodies) t yes
 
   pub raw-state : stateOf (buffers memory bodies t) ≡ stateIn (slotsOf (length t)) t bodies
-  raw-state = store-state memory bodies t yes ∙ front-state (cellsOf (length memory)) (slotsOf (length t)) (cellsOf (length bodies)) t bodies raw-rule
+  raw-state = store-state memory bodies t yes ∙ front-state (cellsOf (length memory)) (slotsOf (length t)) (bodiesOf (length bodies)) t bodies raw-rule
 
   -- a handle names the same depth
   pub raw-named : (h : ℕ) → named h (stateOf (buffers memory bodies t)) ≡ depthNamed t h
@@ -73,16 +73,16 @@ module _ (memory bodies t : List ℕ) (yes : storeCheck (length memory) (length 
 
   -- changes of words in front of the pairs
   module _ (ws : List Store) (below : Each (λ s. s .at < pairsAt (slotsOf (length t))) ws)
-      (next : Rule (cellsOf (length memory)) (slotsOf (length t)) (cellsOf (length bodies)) (stores ws t)) where
+      (next : Rule (cellsOf (length memory)) (slotsOf (length t)) (bodiesOf (length bodies)) (stores ws t)) where
     same-stores : take (pairsAt (slotsOf (length t))) (stores ws t) ≡ stores ws (take (pairsAt (slotsOf (length t))) t)
     same-stores = take-stores ws t (pairsAt (slotsOf (length t))) below
 
-    pub raw-next : Rule (cellsOf (length memory)) (slotsOf (length t)) (cellsOf (length bodies)) (stores ws (take (pairsAt (slotsOf (length t))) t))
+    pub raw-next : Rule (cellsOf (length memory)) (slotsOf (length t)) (bodiesOf (length bodies)) (stores ws (take (pairsAt (slotsOf (length t))) t))
     raw-next =
-        subst (λ (l : List ℕ). Rule (cellsOf (length memory)) (slotsOf (length t)) (cellsOf (length bodies)) l) same-stores
-        (front-rule (cellsOf (length memory)) (slotsOf (length t)) (cellsOf (length bodies)) (stores ws t) next)
+        subst (λ (l : List ℕ). Rule (cellsOf (length memory)) (slotsOf (length t)) (bodiesOf (length bodies)) l) same-stores
+        (front-rule (cellsOf (length memory)) (slotsOf (length t)) (bodiesOf (length bodies)) (stores ws t) next)
 
     pub raw-after : (new : List ℕ) → stateIn (slotsOf (length t)) (stores ws (take (pairsAt (slotsOf (length t))) t)) new ≡ stateIn (slotsOf (length t)) (stores ws t) new
     raw-after new =
         ap (λ (l : List ℕ). stateIn (slotsOf (length t)) l new) (sym same-stores)
-        ∙ front-state (cellsOf (length memory)) (slotsOf (length t)) (cellsOf (length bodies)) (stores ws t) new next
+        ∙ front-state (cellsOf (length memory)) (slotsOf (length t)) (bodiesOf (length bodies)) (stores ws t) new next

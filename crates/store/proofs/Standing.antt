@@ -6,7 +6,7 @@ use mathlib.Core.Path.{_≡_, refl, subst}
 use borrow.Author.Tests.{eqb-true}
 use lib.Dec.{eqb}
 use lib.ListN.{length}
-use Rattle.words.specs.Layout.{cellsOf}
+use Rattle.words.specs.Layout.{cellsOf, bodiesOf}
 use Rattle.words.specs.Cells.{cellBytes}
 use Rattle.words.proofs.Scan.{by-bool}
 use Rattle.table.specs.Entry.{word2}
@@ -38,16 +38,16 @@ standing-opens b s e =
     (λ t. let f = rw t at e in absurd (subst None f tt))
 
 module _ (b : Buffers) (opens : Opens b) where
-  pub right : Rule (cellsOf (length (b .memory))) (slots b) (cellsOf (length (b .bodies))) (effectiveTable b)
+  pub right : Rule (cellsOf (length (b .memory))) (slots b) (bodiesOf (length (b .bodies))) (effectiveTable b)
   right = table-rule (length (b .memory)) (length (b .bodies)) (b .table) (open-table (length (b .memory)) (length (b .bodies)) (b .table) opens)
 
   pub stands-for : StandsFor (slots b) (effectiveTable b) (b .bodies) (stateOf b)
   unfolding stateOf
-  stands-for = stands (cellsOf (length (b .memory))) (slots b) (cellsOf (length (b .bodies))) (effectiveTable b) right (b .bodies)
+  stands-for = stands (cellsOf (length (b .memory))) (slots b) (bodiesOf (length (b .bodies))) (effectiveTable b) right (b .bodies)
 
   pub only-state : (s : State) → StandsFor (slots b) (effectiveTable b) (b .bodies) s → s ≡ stateOf b
   unfolding stateOf
-  only-state = only (cellsOf (length (b .memory))) (slots b) (cellsOf (length (b .bodies))) (effectiveTable b) right (b .bodies)
+  only-state = only (cellsOf (length (b .memory))) (slots b) (bodiesOf (length (b .bodies))) (effectiveTable b) right (b .bodies)
 
   pub is-standing : standing b ≡ some (stateOf b)
   unfolding stateOf
@@ -59,7 +59,7 @@ module _ (b : Buffers) (opens : Opens b) where
       → stateOf (buffers (b .memory) new (b .table)) ≡ stateOf b
   unfolding stateOf
   free-bodies new same =
-      state-kept (cellsOf (length (b .memory))) (slots b) (cellsOf (length (b .bodies))) (effectiveTable b) (effectiveTable b) (b .bodies) new right
+      state-kept (cellsOf (length (b .memory))) (slots b) (bodiesOf (length (b .bodies))) (effectiveTable b) (effectiveTable b) (b .bodies) new right
       (λ i l. refl) (λ i c. refl) same refl refl (λ k l. refl)
 
 -- nothing but the effective table and the bodies is read

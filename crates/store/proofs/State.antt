@@ -23,7 +23,7 @@ use Rattle.search.proofs.Value.{Copy, value-copy, value-via, value-kept}
 use Rattle.model.specs.State.{Holding, Domain, State}
 use Rattle.store.specs.State.{labelOf, kindOf, ValueIs, ofCopy, ofParent, HoldingIs, nothing, entry, DomainIs, noDomain, StandsFor, heldIn, domainIn, stateIn}
 
-bit : (w : ℕ) → (viaOf w ≡ 0 → ⊥) → viaOf w ≡ 1
+pub bit : (w : ℕ) → (viaOf w ≡ 0 → ⊥) → viaOf w ≡ 1
 bit w h = omega (arith, h)
 
 module _ (m e b : ℕ) (t : List ℕ) (ok : Rule m e b t) where

@@ -1,29 +1,29 @@
 -- The calls as plans: their questions, and the exact stores in their order.
-use Prim.Native.Nat.{ℕ, _+_, _*_}
+use Prim.Native.Nat.{ℕ, _+_}
 use mathlib.Core.Bool.{cond}
 use mathlib.Core.List.{List, [], _∷_, _++_, map}
 use lib.Dec.{eqb}
 use lib.ListN.{length}
-use Rattle.words.specs.Layout.{magic, magicAt, cellsAt, slotsAt, bodiesAt, liveAt, nextAt, handleAt, pairsAt, cellsOf, slotsOf}
+use Rattle.words.specs.Layout.{magic, magicAt, cellsAt, slotsAt, bodiesAt, liveAt, nextAt, handleAt, lastAt, pairsAt, cellsOf, bodiesOf, slotsOf}
 use Rattle.words.specs.Stores.{Store, _≔_, tab}
 use Rattle.words.specs.Journal.{openPlan}
 use Rattle.table.specs.Entry.{live, nextHandle}
 use Rattle.store.specs.Outcome.{Buffers, inTable, changePlan, Call, perform, unless, Outcome, outcome}
 use Rattle.store.specs.Checks.{makeCheck, openCheck, createCheck}
 
--- ---- make: word 0 cleared, words 1 to 15 + 2E once each, rising, then word 0
+-- ---- make: word 0 cleared, the words from 1 to the last in front of the pairs once each, rising, then word 0
 
 -- word i of a fresh table for m cells, e slots and b bodies
 unfoldable pub freshWord : (m e b i : ℕ) → ℕ
 freshWord m e b i = cond (eqb i cellsAt) m (cond (eqb i slotsAt) e (cond (eqb i bodiesAt) b (cond (eqb i nextAt) 1 0)))
 
 unfoldable pub makePlan : (m e b : ℕ) → List Store
-makePlan m e b = (magicAt ≔ 0) ∷ (tab (15 + 2 * e) (λ j. j + 1 ≔ freshWord m e b (j + 1)) ++ (magicAt ≔ magic) ∷ [])
+makePlan m e b = (magicAt ≔ 0) ∷ (tab (lastAt e) (λ j. j + 1 ≔ freshWord m e b (j + 1)) ++ (magicAt ≔ magic) ∷ [])
 
 unfoldable pub makeCall : Buffers → Call
 makeCall b =
     unless (makeCheck (length (b .memory)) (length (b .bodies)) (b .table))
-    (perform (map inTable (makePlan (cellsOf (length (b .memory))) (slotsOf (length (b .table))) (cellsOf (length (b .bodies))))) 0)
+    (perform (map inTable (makePlan (cellsOf (length (b .memory))) (slotsOf (length (b .table))) (bodiesOf (length (b .bodies))))) 0)
 
 -- ---- open: the pending pairs, then word 6
 

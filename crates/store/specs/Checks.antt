@@ -3,7 +3,7 @@ use Prim.Native.Nat.{ℕ}
 use mathlib.Core.List.{List}
 use lib.Dec.{eqb, ltb}
 use lib.ListN.{length}
-use Rattle.words.specs.Layout.{cellsOf, slotsOf, maxLive}
+use Rattle.words.specs.Layout.{cellsOf, bodiesOf, slotsOf, maxLive}
 use Rattle.words.specs.Journal.{pending}
 use Rattle.table.specs.Entry.{live, nextHandle}
 use Rattle.table.specs.Checks.{lengthsOk, headerOk}
@@ -16,7 +16,7 @@ shapeCheck memory bodies t = ask (lengthsOk memory bodies (length t)) 1 (ask (he
 
 -- question 4
 unfoldable pub tableCheck : ℕ → ℕ → List ℕ → ℕ
-tableCheck memory bodies t = ask (tableOk (cellsOf memory) (slotsOf (length t)) (cellsOf bodies) t) 4 0
+tableCheck memory bodies t = ask (tableOk (cellsOf memory) (slotsOf (length t)) (bodiesOf bodies) t) 4 0
 
 -- "Make is put question 1 alone"
 unfoldable pub makeCheck : ℕ → ℕ → List ℕ → ℕ

@@ -5,7 +5,7 @@ use mathlib.Core.List.{List}
 use mathlib.Core.Path.{_≡_}
 use lib.Dec.{ltb}
 use lib.ListN.{length}
-use Rattle.words.specs.Layout.{cellsOf}
+use Rattle.words.specs.Layout.{cellsOf, bodiesOf}
 use Rattle.words.specs.Journal.{pending}
 use Rattle.model.specs.State.{State}
 use Rattle.model.specs.Answer.{isDone, Report, done, refused, View, view, stepsOf}
@@ -87,4 +87,4 @@ listMeans b = orListRefused (storeCheck (length (b .memory)) (length (b .bodies)
 -- ---- m, E and B, by the lengths
 
 abbrev pub roomOf : Buffers → Room
-roomOf b = record { cells = cellsOf (length (b .memory)); slots = slots b; bodies = cellsOf (length (b .bodies)) }
+roomOf b = record { cells = cellsOf (length (b .memory)); slots = slots b; bodies = bodiesOf (length (b .bodies)) }

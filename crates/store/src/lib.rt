@@ -3,6 +3,10 @@
 // Every call may be given any buffers and any numbers. It puts document 01's questions first, in one function that only reads, and
 // refuses with the number of the first no. A changing call takes a budget of steps; it makes as many of its stores as the budget
 // allows, and whether it was done or stopped is decided once, at the end.
+use changes::Head;
+use changes::no_head;
+use changes::with_word;
+use changes::write_head_words;
 use table::FEW_CELLS;
 use table::few_marks;
 use table::header_ok;
@@ -11,7 +15,6 @@ use table::many_marks;
 use table::no_bodies;
 use table::table_ok;
 use words::apply_pending;
-use words::finish_journal;
 use words::layout::BODIES_AT;
 use words::layout::CELLS_AT;
 use words::layout::LIVE_AT;
@@ -21,22 +24,23 @@ use words::layout::MAX_LIVE;
 use words::layout::NEXT_AT;
 use words::layout::PENDING_AT;
 use words::layout::SLOTS_AT;
+use words::layout::bodies_of;
 use words::layout::cells_of;
 use words::layout::handle_at;
 use words::layout::pairs_at;
 use words::layout::slots_of;
 use words::least;
-use words::remaining;
 use words::wide;
-use words::write_pair;
 ghost use mathlib.Core.Path.{_≡_};
-ghost use Prim.Native.Nat.{ℕ, _+_, _-_, _*_, _≤_, _<_, min};
+ghost use mathlib.Core.Bool.{cond};
+ghost use Prim.Native.Nat.{_+_, _-_, _≤_, _<_, min};
 ghost use lib.ListN.{length, take, getD};
 ghost use Rattle.words.specs.Layout.{pairsAt, cellsOf, slotsOf, tableWords, maxSlots, maxLive, maxCells, maxBodies, handleAt};
 ghost use Rattle.words.specs.Stores.{stores, tab};
 ghost use Rattle.table.specs.Entry.{handle};
 ghost use Rattle.table.specs.Marks.{Blank, AllMarked};
-ghost use Rattle.words.specs.Journal.{pairPlans, journal, pending};
+ghost use Rattle.words.specs.Journal.{journal, pending};
+ghost use Rattle.changes.specs.Staged.{HeadOk, headStores};
 ghost use Rattle.model.specs.Answer.{ended};
 ghost use Rattle.store.specs.Outcome.{buffers, report, leaves, outcome};
 ghost use Rattle.store.specs.Checks.{shapeCheck, tableCheck, openCheck, idleCheck, storeCheck, createCheck};
@@ -84,53 +88,24 @@ fn table_check(memory: usize, bodies: usize, table: &[u32], seen: &mut [u8], use
         table,
         cells_of(memory),
         slots_of(table.len()),
-        cells_of(bodies),
+        bodies_of(bodies),
         seen,
         used,
     );
     if right { 0 } else { 4 }
 }
 
-// The same with marks of its own, for a small memory.
-fn table_few(memory: usize, bodies: usize, table: &[u32]) -> u32
-    requires { ⌜ (shapeCheck memory bodies (now table) ≡ 0) × (cellsOf memory ≤ 1024) ⌝ }
-    ensures { λ r. ⌜ r ≡ tableCheck memory bodies (now (table .entry)) ⌝ }
-{
-    let mut seen = few_marks();
-    let mut used = no_bodies();
-    table_check(memory, bodies, table, &mut seen, &mut used)
-}
-
-// And for any memory.
-fn table_many(memory: usize, bodies: usize, table: &[u32]) -> u32
-    requires { ⌜ shapeCheck memory bodies (now table) ≡ 0 ⌝ }
-    ensures { λ r. ⌜ r ≡ tableCheck memory bodies (now (table .entry)) ⌝ }
-{
-    let mut seen = many_marks();
-    let mut used = no_bodies();
-    table_check(memory, bodies, table, &mut seen, &mut used)
-}
-
-// Question 4 for a call that needs no marks.
-fn table_plain(memory: usize, bodies: usize, table: &[u32]) -> u32
-    requires { ⌜ shapeCheck memory bodies (now table) ≡ 0 ⌝ }
-    ensures { λ r. ⌜ r ≡ tableCheck memory bodies (now (table .entry)) ⌝ }
-{
-    if cells_of(memory) <= FEW_CELLS {
-        return table_few(memory, bodies, table);
-    }
-    table_many(memory, bodies, table)
-}
-
-// The questions put to open.
-fn open_check(memory: usize, bodies: usize, table: &[u32]) -> u32
+// The questions put to open, with room for marks.
+fn open_marked(memory: usize, bodies: usize, table: &[u32], seen: &mut [u8], used: &mut [u8]) -> u32
+    requires room { ⌜ (min (cellsOf memory) maxCells ≤ length (now seen)) × (length (now used) ≡ maxBodies) ⌝ }
+    requires blank { ⌜ Blank (now seen) × Blank (now used) ⌝ }
     ensures { λ r. ⌜ r ≡ openCheck memory bodies (now (table .entry)) ⌝ }
 {
     let no = shape_check(memory, bodies, table);
     if no != 0 {
         return no;
     }
-    table_plain(memory, bodies, table)
+    table_check(memory, bodies, table, seen, used)
 }
 
 // Questions 1 to 3.
@@ -168,15 +143,53 @@ pub fn store_check(
     table_check(memory, bodies, table, seen, used)
 }
 
-// The same for a call that needs no marks.
+// The questions of open, or of a call that needs no marks afterwards, with marks of its own for a small memory. The marks come first, so that
+// the frame is made where the function begins: behind a question, the compiler made it over a register in use.
+fn ask_few(memory: usize, bodies: usize, table: &[u32], opening: bool) -> u32
+    requires { ⌜ cellsOf memory ≤ 1024 ⌝ }
+    ensures { λ r. ⌜ r ≡ cond opening (openCheck memory bodies (now (table .entry))) (storeCheck memory bodies (now (table .entry))) ⌝ }
+{
+    let mut seen = few_marks();
+    let mut used = no_bodies();
+    if opening {
+        return open_marked(memory, bodies, table, &mut seen, &mut used);
+    }
+    store_check(memory, bodies, table, &mut seen, &mut used)
+}
+
+// And for any memory.
+fn ask_many(memory: usize, bodies: usize, table: &[u32], opening: bool) -> u32
+    ensures { λ r. ⌜ r ≡ cond opening (openCheck memory bodies (now (table .entry))) (storeCheck memory bodies (now (table .entry))) ⌝ }
+{
+    let mut seen = many_marks();
+    let mut used = no_bodies();
+    if opening {
+        return open_marked(memory, bodies, table, &mut seen, &mut used);
+    }
+    store_check(memory, bodies, table, &mut seen, &mut used)
+}
+
+fn ask_plain(memory: usize, bodies: usize, table: &[u32], opening: bool) -> u32
+    ensures { λ r. ⌜ r ≡ cond opening (openCheck memory bodies (now (table .entry))) (storeCheck memory bodies (now (table .entry))) ⌝ }
+{
+    if cells_of(memory) <= FEW_CELLS {
+        return ask_few(memory, bodies, table, opening);
+    }
+    ask_many(memory, bodies, table, opening)
+}
+
+// The questions put to open.
+fn open_check(memory: usize, bodies: usize, table: &[u32]) -> u32
+    ensures { λ r. ⌜ r ≡ openCheck memory bodies (now (table .entry)) ⌝ }
+{
+    ask_plain(memory, bodies, table, true)
+}
+
+// Those put to a call that needs no marks.
 pub fn plain_check(memory: usize, bodies: usize, table: &[u32]) -> u32
     ensures { λ r. ⌜ r ≡ storeCheck memory bodies (now (table .entry)) ⌝ }
 {
-    let no = idle_check(memory, bodies, table);
-    if no != 0 {
-        return no;
-    }
-    table_plain(memory, bodies, table)
+    ask_plain(memory, bodies, table, false)
 }
 
 // The questions put to create.
@@ -264,11 +277,11 @@ pub fn make(memory: &[u8], bodies: &[u8], table: &mut [u32], budget: usize) -> A
     if !lengths_ok(memory.len(), bodies.len(), table.len()) {
         return Answer::Refused(1);
     }
-    let cells = (memory.len() / 64) as u32;
-    let places = (bodies.len() / 64) as u32;
+    let cells = cells_of(memory.len()) as u32;
+    let places = bodies_of(bodies.len()) as u32;
     let slots = slots_of(table.len());
     make_words(table, cells, slots as u32, places, budget);
-    answer_of(2 * slots + 17, 0, budget)
+    answer_of(pairs_at(slots) + 1, 0, budget)
 }
 
 // ---- open
@@ -298,38 +311,27 @@ pub fn open(memory: &[u8], bodies: &[u8], table: &mut [u32], budget: usize) -> A
 
 // ---- create
 
-// The pairs of create: the number of live domains, the next handle, and the new domain's handle.
-fn create_pairs(table: &mut [u32], first: usize, live: u32, handle: u32, budget: usize)
-    requires { ⌜ (first + 6 ≤ length (now table)) × (live < maxLive) × (handle < 4294967295) ⌝ }
-    ensures { λ _. ⌜ now (table .exit) ≡ stores (take budget (pairPlans first (domainWords live handle))) (now (table .entry)) ⌝ }
+// The words of create: the number of live domains, the next handle, and the new domain's handle.
+fn create_head(live: u32, handle: u32) -> Head
+    requires { ⌜ (live < maxLive) × (handle < 4294967295) ⌝ }
+    ensures right { λ r. ⌜ HeadOk r ⌝ }
+    ensures stored { λ r. ⌜ headStores r ≡ domainWords live handle ⌝ }
 {
-    write_pair(table, first, LIVE_AT as u32, live + 1, budget);
-    write_pair(
-        table,
-        first + 2,
-        NEXT_AT as u32,
-        handle + 1,
-        remaining(budget, 2),
-    );
-    write_pair(
-        table,
-        first + 4,
-        handle_at(live as usize) as u32,
-        handle,
-        remaining(budget, 4),
-    );
+    let one = with_word(no_head(), LIVE_AT as u32, live + 1);
+    let two = with_word(one, NEXT_AT as u32, handle + 1);
+    with_word(two, handle_at(live as usize) as u32, handle)
 }
 
-// Create's part on the table.
-fn create_words(table: &mut [u32], budget: usize)
-    requires { ⌜ (length (now table) ≡ tableWords (slotsOf (length (now table)))) × (slotsOf (length (now table)) ≤ maxSlots) × (getD (now table) 4 0 < maxLive) × (getD (now table) 5 0 < 4294967295) ⌝ }
-    ensures { λ _. ⌜ now (table .exit) ≡ stores (take budget (journal (pairsAt (slotsOf (length (now (table .entry))))) (createWords (now (table .entry))))) (now (table .entry)) ⌝ }
+// Create's part on the table. Returns its steps uncut.
+fn create_words(table: &mut [u32], budget: usize) -> usize
+    requires long { ⌜ (length (now table) ≡ tableWords (slotsOf (length (now table)))) × (slotsOf (length (now table)) ≤ maxSlots) ⌝ }
+    requires few { ⌜ (getD (now table) 4 0 < maxLive) × (getD (now table) 5 0 < 4294967295) ⌝ }
+    ensures made { λ r. ⌜ r ≡ length (journal (pairsAt (slotsOf (length (now (table .entry))))) (createWords (now (table .entry)))) ⌝ }
+    ensures words { λ _. ⌜ now (table .exit) ≡ stores (take budget (journal (pairsAt (slotsOf (length (now (table .entry))))) (createWords (now (table .entry))))) (now (table .entry)) ⌝ }
 {
-    let live = table[LIVE_AT];
-    let handle = table[NEXT_AT];
-    let first = pairs_at(slots_of(table.len()));
-    create_pairs(table, first, live, handle, budget);
-    finish_journal(table, first, 3, budget);
+    let head = create_head(table[LIVE_AT], table[NEXT_AT]);
+    let slots = slots_of(table.len());
+    write_head_words(table, slots, head, budget)
 }
 
 // Adds a domain inside the innermost, and names its handle.
@@ -345,8 +347,8 @@ pub fn create(memory: &[u8], bodies: &[u8], table: &mut [u32], budget: usize) ->
         return Answer::Refused(no);
     }
     let handle = table[NEXT_AT];
-    create_words(table, budget);
-    answer_of(11, handle, budget)
+    let need = create_words(table, budget);
+    answer_of(need, handle, budget)
 }
 
 // ---- list
