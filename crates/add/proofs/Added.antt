@@ -2,22 +2,23 @@
 -- free slots and bodies; the call takes the lowest ones. Assumes nothing.
 use Prim.Native.Nat.{ℕ, suc, _+_, _-_, _*_, _≤_, _<_}
 use mathlib.Core.Bool.{true}
-use mathlib.Core.List.{List}
+use mathlib.Core.List.{List, []}
 use mathlib.Core.Option.{Option}
 use mathlib.Core.Path.{_≡_, refl, sym, ap, subst, _∙_}
 use native.Mathlib.Omega.{arith}
 use borrow.Author.Tests.{eq-eqb, ne-eqb}
 use lib.Dec.{eqb}
-use lib.ListN.{length, getD, take}
+use lib.ListN.{length, take}
 use lib.Seq.{getD-take}
-use Rattle.words.specs.Layout.{liveAt, nextAt, handleAt, firstAt, secondAt, pairsAt, slotsOf, cellsOf, maxPairs}
+use Rattle.words.specs.Layout.{firstAt, secondAt, pairsAt, slotsOf, cellsOf, bodiesOf, maxPairs}
 use Rattle.words.specs.Stores.{Store, stores}
 use Rattle.words.specs.Journal.{pending, namesOk, journal}
 use Rattle.words.proofs.Scan.{by-le, by-bool}
-use Rattle.words.proofs.Plans.{Each, take-stores}
-use Rattle.table.specs.Entry.{live}
-use Rattle.table.proofs.Rule.{Rule, ok-facts, ok-make}
-use Rattle.table.proofs.Agree.{ok-agree}
+use Rattle.words.proofs.Places.{pendingAt-below}
+use Rattle.words.proofs.Names.{names-below}
+use Rattle.words.proofs.Plans.{Each}
+use Rattle.table.proofs.Rule.{Rule}
+use Rattle.table.proofs.Entries.{changes-names}
 use Rattle.model.specs.State.{State}
 use Rattle.model.specs.Answer.{Report, refused, ended, stepsOf, view, View}
 use Rattle.model.specs.Calls.{viewed, change, orRefuse}
@@ -28,44 +29,26 @@ use Rattle.store.specs.State.{stateIn, stateOf}
 use Rattle.store.specs.Means.{seenOf, orRefused, callMeans, roomOf, leftPending, pendingAfter, afterPending, Reopens}
 use Rattle.store.proofs.Checks.{orElse-go, orElse-stop}
 use Rattle.store.proofs.Outcome.{refuses}
-use Rattle.store.proofs.State.{state-kept}
-use Rattle.store.proofs.Means.{by-check, store-state, store-standing}
+use Rattle.store.proofs.Means.{by-check, store-standing}
 use Rattle.store.proofs.Changes.{Spares, spared, change-performed, change-seen}
 use Rattle.store.proofs.Pending.{performed-pending, call-pending}
 use Rattle.store.proofs.Reopened.{changes-shaped, shape-reopens, unless-reopens}
 use Rattle.store.proofs.Standing.{standing-opens}
+use Rattle.store.proofs.Raw.{raw-rule, raw-state, raw-next, raw-after}
 use Rattle.add.specs.Add.{addCheck, addBytes, addWords, addCall, addMeans}
 use Rattle.add.specs.Walking.{Ready}
 use Rattle.add.specs.Choice.{Choice, slotFor, bodyFor, changeWith, wordsWith, bytesWith, addWith, MayTake}
-use Rattle.add.proofs.Asking.{lengths, table-right, add-ready}
-use Rattle.add.proofs.Choices.{rule-after}
-use Rattle.add.proofs.Meaning.{state-after}
-use Rattle.add.proofs.Passing.{changes-ok, changes-below}
+use Rattle.add.proofs.Asking.{lengths, add-ready}
+use Rattle.add.proofs.Meaning.{rule-after, state-after}
 use Rattle.add.proofs.Chosen.{taking, words-told, lowest, words-chosen, bytes-chosen}
 use Rattle.add.proofs.Filling.{rests-with, bytes-filled, bytes-spare}
 use Rattle.add.proofs.Numbers.{words-many, bytes-many, changed-few}
 use Rattle.add.proofs.Questions.{asked, questions-same}
 
--- ---- the words in front of the pairs say all that is read
-
-module _ (memory bodies t : List ℕ) (yes : storeCheck (length memory) (length bodies) t ≡ 0) where
-  abbrev first : ℕ
-  first = pairsAt (slotsOf (length t))
-
-  pub head-word : (x : ℕ) → x < pairsAt (slotsOf (length t)) → getD (take (pairsAt (slotsOf (length t))) t) x 0 ≡ getD t x 0
-  head-word x h = getD-take first t x 0 h
-
-  pub state-whole : stateOf (buffers memory bodies t) ≡ stateIn (slotsOf (length t)) t bodies
-  state-whole =
-      store-state memory bodies t yes
-      ∙ state-kept (cellsOf (length memory)) (slotsOf (length t)) (cellsOf (length bodies)) t (take first t) bodies bodies (table-right memory bodies t yes)
-      (λ i h. head-word (firstAt (slotsOf (length t)) i) (omega arith)) (λ i c. let h = c .slot in head-word (secondAt (slotsOf (length t)) i) (omega arith)) (λ i c. refl)
-      (head-word liveAt (omega arith)) (head-word nextAt (omega arith)) (λ x h. let top = table-right memory bodies t yes .live in head-word (handleAt x) (omega arith))
-
 -- ---- the call, once no question refuses it, for any choice of places
 
 module _ (memory bodies t : List ℕ) (base n k l : ℕ) (r : Ready memory bodies t base n k l)
-    {slot body : ℕ → ℕ} (choice : Choice (slotsOf (length t)) (cellsOf (length bodies)) t base n k slot body) where
+    {slot body : ℕ → ℕ} (choice : Choice (slotsOf (length t)) (bodiesOf (length bodies)) t base n k slot body) where
   abbrev e : ℕ
   e = slotsOf (length t)
 
@@ -86,30 +69,24 @@ module _ (memory bodies t : List ℕ) (base n k l : ℕ) (r : Ready memory bodie
   small = lengths memory bodies t (r .store) .cells-high
 
   pub with-names : namesOk (pairsAt (slotsOf (length t))) 0 words ≡ true
-  with-names = changes-ok e (changeWith e t base n k l slot body)
+  unfolding namesOk
+  with-names = changes-names e (changeWith e t base n k l slot body) [] refl tt
 
   below : Each (λ s. s .at < pairsAt (slotsOf (length t))) words
-  below = changes-below e (changeWith e t base n k l slot body)
+  below = names-below (pairsAt e) 0 words (pendingAt-below e) with-names
 
   with-few : length words ≤ maxPairs (slotsOf (length t))
   with-few = rw (words-many memory bodies t base n k l r choice) (omega (arith, changed-few memory bodies t base n k l r choice))
 
-  rule-whole : Rule (cellsOf (length memory)) (slotsOf (length t)) (cellsOf (length bodies)) (stores words t)
+  rule-whole : Rule (cellsOf (length memory)) (slotsOf (length t)) (bodiesOf (length bodies)) (stores words t)
   rule-whole =
-      subst (λ (ws : List Store). Rule (cellsOf (length memory)) (slotsOf (length t)) (cellsOf (length bodies)) (stores ws t)) (words-told choice l)
-      (rule-after (cellsOf (length memory)) e (cellsOf (length bodies)) t (table-right memory bodies t (r .store)) long base n k l (r .inner) (r .kind) (r .label) (r .range) small
+      subst (λ (ws : List Store). Rule (cellsOf (length memory)) (slotsOf (length t)) (bodiesOf (length bodies)) (stores ws t)) (words-told choice l)
+      (rule-after (cellsOf (length memory)) e (bodiesOf (length bodies)) t (raw-rule memory bodies t (r .store)) long base n k l (r .inner) (r .kind) (r .label) (r .range) small
       (taking choice) (rests-with memory bodies t base n k l r choice))
 
-  -- the table that opening finds: its words in front of the pairs
-  head-after : (x : ℕ) → x < pairsAt (slotsOf (length t)) → getD (stores words (take (pairsAt (slotsOf (length t))) t)) x 0 ≡ getD (stores words t) x 0
-  head-after x h = ap (λ (u : List ℕ). getD u x 0) (sym (take-stores words t (pairsAt e) below)) ∙ getD-take (pairsAt e) (stores words t) x 0 h
-
   -- the new table is right
-  pub with-rule : Rule (cellsOf (length memory)) (slotsOf (length t)) (cellsOf (length bodies)) (stores words (take (pairsAt (slotsOf (length t))) t))
-  with-rule =
-      ok-facts _ _ _ _
-      (ok-agree (cellsOf (length memory)) e (cellsOf (length bodies)) (stores words (take (pairsAt e) t)) (stores words t) head-after
-      ∙ ok-make _ _ _ _ rule-whole)
+  pub with-rule : Rule (cellsOf (length memory)) (slotsOf (length t)) (bodiesOf (length bodies)) (stores words (take (pairsAt (slotsOf (length t))) t))
+  with-rule = raw-next memory bodies t (r .store) words below rule-whole
 
   -- the bytes spare the bodies in use
   pub with-spares : Each (Spares (slotsOf (length t)) (take (pairsAt (slotsOf (length t))) t)) bytes
@@ -120,7 +97,7 @@ module _ (memory bodies t : List ℕ) (base n k l : ℕ) (r : Ready memory bodie
       ≡ addTo memory base n (kindNumbered k) (labelNumbered l) (stateIn (slotsOf (length t)) t bodies)
   state-new =
       ap (λ (ws : List Store). stateIn e (stores ws t) (stores bytes bodies)) (sym (words-told choice l))
-      ∙ state-after (cellsOf (length memory)) e (cellsOf (length bodies)) t (table-right memory bodies t (r .store)) long base n k l (r .inner) (r .kind) (r .label) (r .range) small
+      ∙ state-after (cellsOf (length memory)) e (bodiesOf (length bodies)) t (raw-rule memory bodies t (r .store)) long base n k l (r .inner) (r .kind) (r .label) (r .range) small
       (taking choice) (rests-with memory bodies t base n k l r choice) memory bodies (stores bytes bodies)
       (spared e t bytes bodies (bytes-spare memory bodies t base n k l r choice t (λ i h. refl) (λ i h. refl)))
       (bytes-filled memory bodies t base n k l r choice)
@@ -129,19 +106,17 @@ module _ (memory bodies t : List ℕ) (base n k l : ℕ) (r : Ready memory bodie
   pub with-state : stateIn (slotsOf (length t)) (stores words (take (pairsAt (slotsOf (length t))) t)) (stores bytes bodies)
       ≡ addTo memory base n (kindNumbered k) (labelNumbered l) (stateOf (buffers memory bodies t))
   with-state =
-      state-kept (cellsOf (length memory)) e (cellsOf (length bodies)) (stores words t) (stores words (take (pairsAt e) t)) (stores bytes bodies) (stores bytes bodies) rule-whole
-      (λ i h. head-after (firstAt e i) (omega arith)) (λ i c. let h = c .slot in head-after (secondAt e i) (omega arith)) (λ i c. refl)
-      (head-after liveAt (omega arith)) (head-after nextAt (omega arith)) (λ x h. let top = rule-whole .live in head-after (handleAt x) (omega arith))
+      raw-after memory bodies t (r .store) words below rule-whole (stores bytes bodies)
       ∙ state-new
-      ∙ ap (addTo memory base n (kindNumbered k) (labelNumbered l)) (sym (state-whole memory bodies t (r .store)))
+      ∙ ap (addTo memory base n (kindNumbered k) (labelNumbered l)) (sym (raw-state memory bodies t (r .store)))
 
   -- as many bytes and words as the model says
   pub with-bytes : length bytes ≡ 64 * newBodies (kindNumbered k) (newlyHeld base n (stateOf (buffers memory bodies t)))
-  with-bytes = bytes-many memory bodies t base n k l r choice ∙ ap (λ (s : State). 64 * newBodies (kindNumbered k) (newlyHeld base n s)) (sym (state-whole memory bodies t (r .store)))
+  with-bytes = bytes-many memory bodies t base n k l r choice ∙ ap (λ (s : State). 64 * newBodies (kindNumbered k) (newlyHeld base n s)) (sym (raw-state memory bodies t (r .store)))
 
   pub with-words : length words
       ≡ 2 * (newlyHeld base n (stateOf (buffers memory bodies t)) + relabelled base n (labelNumbered l) (stateOf (buffers memory bodies t)))
-  with-words = words-many memory bodies t base n k l r choice ∙ ap (λ (s : State). 2 * (newlyHeld base n s + relabelled base n (labelNumbered l) s)) (sym (state-whole memory bodies t (r .store)))
+  with-words = words-many memory bodies t base n k l r choice ∙ ap (λ (s : State). 2 * (newlyHeld base n s + relabelled base n (labelNumbered l) s)) (sym (raw-state memory bodies t (r .store)))
 
   pub with-seen : (budget : ℕ) → seenOf (outcome (perform (changePlan (pairsAt (slotsOf (length t))) bytes words) 0) budget (buffers memory bodies t))
       ≡ viewed (change (64 * newBodies (kindNumbered k) (newlyHeld base n (stateOf (buffers memory bodies t)))) (2 * (newlyHeld base n (stateOf (buffers memory bodies t)) + relabelled base n (labelNumbered l) (stateOf (buffers memory bodies t)))) 0
@@ -184,16 +159,16 @@ module _ (memory bodies t : List ℕ) (base n k l : ℕ) (r : Ready memory bodie
 
 module _ (memory bodies t : List ℕ) (base n k l : ℕ) (r : Ready memory bodies t base n k l) where
   abbrev ws : List Store
-  ws = addWords (cellsOf (length bodies)) t base n k l
+  ws = addWords (bodiesOf (length bodies)) t base n k l
 
   abbrev bs : List Store
-  bs = addBytes (cellsOf (length bodies)) memory t base n k
+  bs = addBytes (bodiesOf (length bodies)) memory t base n k
 
   abbrev lowestSlot : ℕ → ℕ
   lowestSlot = slotFor (slotsOf (length t)) t base
 
   abbrev lowestBody : ℕ → ℕ
-  lowestBody = bodyFor (slotsOf (length t)) (cellsOf (length bodies)) t base
+  lowestBody = bodyFor (slotsOf (length t)) (bodiesOf (length bodies)) t base
 
   -- a law of the stores of every choice is one of the call's
   of-call : (P : List Store → List Store → Type 0) → P (bytesWith memory t base n k lowestBody) (wordsWith t base n k l lowestSlot lowestBody) → P bs ws
@@ -202,7 +177,7 @@ module _ (memory bodies t : List ℕ) (base n k l : ℕ) (r : Ready memory bodie
       (subst (λ (x : List Store). P (bytesWith memory t base n k lowestBody) x) (sym (words-chosen memory bodies t base n k l r)) h)
 
   -- "every other call at most 70E + 32"
-  pub add-bound : stepsOf (length (addBytes (cellsOf (length bodies)) memory t base n k)) (length (addWords (cellsOf (length bodies)) t base n k l)) ≤ 70 * slotsOf (length t) + 32
+  pub add-bound : stepsOf (length (addBytes (bodiesOf (length bodies)) memory t base n k)) (length (addWords (bodiesOf (length bodies)) t base n k l)) ≤ 70 * slotsOf (length t) + 32
   add-bound =
       of-call (λ x y. stepsOf (length x) (length y) ≤ 70 * slotsOf (length t) + 32)
       (with-bound memory bodies t base n k l r (lowest memory bodies t base n k l r))
@@ -212,7 +187,7 @@ module _ (memory bodies t : List ℕ) (base n k l : ℕ) (r : Ready memory bodie
 -- the questions on the words, those on the shape passed, and on the state
 module _ (h base n k l : ℕ) (b : Buffers) where
   rest : ℕ
-  rest = asked (b .memory) (slotsOf (length (b .table))) (b .table) (b .bodies) h base n k l (cellsOf (length (b .memory))) (cellsOf (length (b .bodies)))
+  rest = asked (b .memory) (slotsOf (length (b .table))) (b .table) (b .bodies) h base n k l (cellsOf (length (b .memory))) (bodiesOf (length (b .bodies)))
 
   stops : (x : ℕ) → storeCheck (length (b .memory)) (length (b .bodies)) (b .table) ≡ suc x → addCheck (b .memory) (b .bodies) (b .table) h base n k l ≡ suc x
   unfolding addCheck
@@ -226,9 +201,9 @@ module _ (h base n k l : ℕ) (b : Buffers) where
     same-rest : rest ≡ addChecks (roomOf b) (b .memory) h base n k l (stateOf b)
     unfolding rest
     same-rest =
-        questions-same (b .memory) (slotsOf (length (b .table))) (b .table) (b .bodies) h base n k l (cellsOf (length (b .memory))) (cellsOf (length (b .bodies)))
-        (table-right (b .memory) (b .bodies) (b .table) good)
-        ∙ ap (addChecks (roomOf b) (b .memory) h base n k l) (sym (state-whole (b .memory) (b .bodies) (b .table) good))
+        questions-same (b .memory) (slotsOf (length (b .table))) (b .table) (b .bodies) h base n k l (cellsOf (length (b .memory))) (bodiesOf (length (b .bodies)))
+        (raw-rule (b .memory) (b .bodies) (b .table) good)
+        ∙ ap (addChecks (roomOf b) (b .memory) h base n k l) (sym (raw-state (b .memory) (b .bodies) (b .table) good))
 
 module _ (h base n k l : ℕ) (b : Buffers) (slot body : ℕ → ℕ) (may : MayTake h base n k l b slot body) where
   abbrev plan-with : Call
@@ -285,18 +260,18 @@ module _ (h base n k l : ℕ) (b : Buffers) (slot body : ℕ → ℕ) (may : May
 
 module _ (h base n k l : ℕ) (b : Buffers) where
   -- they were free before the call, and differ
-  pub add-takes : MayTake h base n k l b (slotFor (slotsOf (length (b .table))) (b .table) base) (bodyFor (slotsOf (length (b .table))) (cellsOf (length (b .bodies))) (b .table) base)
+  pub add-takes : MayTake h base n k l b (slotFor (slotsOf (length (b .table))) (b .table) base) (bodyFor (slotsOf (length (b .table))) (bodiesOf (length (b .bodies))) (b .table) base)
   add-takes pass = lowest (b .memory) (b .bodies) (b .table) base n k l (add-ready (b .memory) (b .bodies) (b .table) h base n k l pass)
 
   pub add-is : addCall h base n k l b
-      ≡ addWith (slotFor (slotsOf (length (b .table))) (b .table) base) (bodyFor (slotsOf (length (b .table))) (cellsOf (length (b .bodies))) (b .table) base) h base n k l b
+      ≡ addWith (slotFor (slotsOf (length (b .table))) (b .table) base) (bodyFor (slotsOf (length (b .table))) (bodiesOf (length (b .bodies))) (b .table) base) h base n k l b
   unfolding addCall addWith
   add-is =
       by-check (λ q. (q ≡ 0 → addCheck (b .memory) (b .bodies) (b .table) h base n k l ≡ 0)
-      → unless q (perform (changePlan (pairsAt (slotsOf (length (b .table)))) (addBytes (cellsOf (length (b .bodies))) (b .memory) (b .table) base n k) (addWords (cellsOf (length (b .bodies))) (b .table) base n k l)) 0)
+      → unless q (perform (changePlan (pairsAt (slotsOf (length (b .table)))) (addBytes (bodiesOf (length (b .bodies))) (b .memory) (b .table) base n k) (addWords (bodiesOf (length (b .bodies))) (b .table) base n k l)) 0)
       ≡ unless q (perform (changePlan (pairsAt (slotsOf (length (b .table))))
-      (bytesWith (b .memory) (b .table) base n k (bodyFor (slotsOf (length (b .table))) (cellsOf (length (b .bodies))) (b .table) base))
-      (wordsWith (b .table) base n k l (slotFor (slotsOf (length (b .table))) (b .table) base) (bodyFor (slotsOf (length (b .table))) (cellsOf (length (b .bodies))) (b .table) base))) 0))
+      (bytesWith (b .memory) (b .table) base n k (bodyFor (slotsOf (length (b .table))) (bodiesOf (length (b .bodies))) (b .table) base))
+      (wordsWith (b .table) base n k l (slotFor (slotsOf (length (b .table))) (b .table) base) (bodyFor (slotsOf (length (b .table))) (bodiesOf (length (b .bodies))) (b .table) base))) 0))
       (addCheck (b .memory) (b .bodies) (b .table) h base n k l)
       (λ x q go. refl)
       (λ q go.
@@ -322,11 +297,11 @@ module _ (m b t : List ℕ) (h base n k l budget : ℕ) where
   add-refused q e z = refuses q (addCheck m b t h base n k l) _ budget (buffers m b t) e z
 
   pub add-performed : (need : ℕ) (b′ t′ : List ℕ) (r : Report) → addCheck m b t h base n k l ≡ 0
-      → need ≡ stepsOf (length (addBytes (cellsOf (length b)) m t base n k)) (length (addWords (cellsOf (length b)) t base n k l))
-      → b′ ≡ stores (take budget (addBytes (cellsOf (length b)) m t base n k)) b
-      → t′ ≡ stores (take (budget - length (addBytes (cellsOf (length b)) m t base n k)) (journal (pairsAt (slotsOf (length t))) (addWords (cellsOf (length b)) t base n k l))) t
+      → need ≡ stepsOf (length (addBytes (bodiesOf (length b)) m t base n k)) (length (addWords (bodiesOf (length b)) t base n k l))
+      → b′ ≡ stores (take budget (addBytes (bodiesOf (length b)) m t base n k)) b
+      → t′ ≡ stores (take (budget - length (addBytes (bodiesOf (length b)) m t base n k)) (journal (pairsAt (slotsOf (length t))) (addWords (bodiesOf (length b)) t base n k l))) t
       → r ≡ ended need 0 budget
       → leaves r (buffers m b′ t′) ≡ outcome (addCall h base n k l (buffers m b t)) budget (buffers m b t)
   unfolding addCall
   add-performed need b′ t′ r good steps p q e =
-      rw good (change-performed (pairsAt (slotsOf (length t))) need 0 budget (addBytes (cellsOf (length b)) m t base n k) (addWords (cellsOf (length b)) t base n k l) m b t b′ t′ r steps p q e)
+      rw good (change-performed (pairsAt (slotsOf (length t))) need 0 budget (addBytes (bodiesOf (length b)) m t base n k) (addWords (bodiesOf (length b)) t base n k l) m b t b′ t′ r steps p q e)

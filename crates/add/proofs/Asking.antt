@@ -6,19 +6,16 @@ use mathlib.Core.Path.{_≡_, refl, sym, ap, _∙_}
 use native.Mathlib.Omega.{arith}
 use borrow.Author.Tests.{eq-eqb, ne-eqb, eqb-true, le-leb, lt-leb, lt-ltb, le-ltb, ltb-true, leb-true}
 use lib.Dec.{leb, ltb, eqb}
-use lib.ListN.{length, getD, take}
-use lib.Seq.{getD-take}
-use Rattle.words.specs.Layout.{cellsOf, slotsOf, pairsAt}
+use lib.ListN.{length, getD}
+use Rattle.words.specs.Layout.{cellsOf, bodiesOf, slotsOf}
 use Rattle.words.specs.Scan.{all, count}
 use Rattle.words.specs.Cells.{cellBytes, sameCell}
 use Rattle.words.proofs.Scan.{by-bool, by-le, and-split, true≢, all-at, all-ext, count-ext, count-le, count-more}
-use Rattle.table.specs.Entry.{live, word2, parent, findIn, holdsIn}
-use Rattle.table.specs.Marks.{has, Marked, IsCopy}
+use Rattle.table.specs.Entry.{live, parent, findIn, holdsIn}
+use Rattle.table.specs.Marks.{has, Marked}
 use Rattle.table.proofs.Digits.{has-zero}
 use Rattle.table.proofs.Marks.{marked-holds}
 use Rattle.table.proofs.Entry.{holds-found}
-use Rattle.table.proofs.Rule.{Rule, ok-facts, ok-make}
-use Rattle.table.proofs.Agree.{ok-agree}
 use Rattle.table.proofs.Checks.{Lengths}
 use Rattle.search.specs.Search.{sourceIn, valueIn}
 use Rattle.search.specs.Domain.{depthNamed}
@@ -29,9 +26,9 @@ use Rattle.model.specs.Answer.{ask, orElse}
 use Rattle.model.specs.Holdings.{rangeOk}
 use Rattle.store.specs.Checks.{storeCheck}
 use Rattle.store.proofs.Checks.{ask-yes, ask-go, ask-stop, ask-rest, orElse-go, orElse-stop, orElse-both, store-shape, shape-facts}
-use Rattle.store.proofs.Means.{store-rule}
+use Rattle.store.proofs.Raw.{raw-rule}
 use Rattle.add.specs.Add.{isNew, parentHas, addCheck}
-use Rattle.add.specs.Walking.{unheld, rangeCheck, parentCheck, roomCheck, Source, Ready}
+use Rattle.add.specs.Walking.{unheld, rangeCheck, parentCheck, roomCheck, heldCheck, backed, alike, Source, Ready}
 
 -- ---- Bools
 
@@ -86,6 +83,16 @@ pub count-add : (j new : ℕ) (f : ℕ → Bool) → new ≡ count j f → new +
 count-add j new f q = sym (count-more j f ∙ by-bool (f j) (λ h. rw (h, q)) (λ h. rw (h, q) (omega arith)))
 
 -- ---- questions 5 to 8
+
+module _ (m base n : ℕ) where
+  pub range-over : m < n → false ≡ rangeOk m base n
+  range-over h = by-bool (leb 1 n) (λ p. rw (p, lt-leb (base + n) m (omega arith))) (λ p. rw p)
+
+  pub range-within : n ≤ m → (leb 1 n && leb base (m - n)) ≡ rangeOk m base n
+  range-within h =
+      by-le (base + n) m
+      (λ l. rw (le-leb (base + n) m l, le-leb base (m - n) (omega arith)))
+      (λ l. rw (lt-leb (base + n) m l, lt-leb base (m - n) (omega arith)))
 
 module _ (t : List ℕ) (m h base n k l : ℕ) where
   pub range-5 : depthNamed t h ≡ 0 → 5 ≡ rangeCheck t m h base n k l
@@ -218,15 +225,14 @@ module _ (memory bodies : List ℕ) (e : ℕ) (t : List ℕ) (base n k : ℕ) wh
 
 -- the same tests over marks
 module _ (e : ℕ) (t held : List ℕ) (m : Marked e t e held) (inner : 1 ≤ live t) (memory bodies : List ℕ) (base n : ℕ) where
-  pub covered-is : all n (λ j. not (unheld held (live t) base j) || not (unheld held (parent (live t)) base j)) ≡ all n (covered memory bodies e t base n 0)
+  pub covered-is : all n (λ j. backed held (live t) (base + j)) ≡ all n (covered memory bodies e t base n 0)
   covered-is =
-      all-ext n (λ j. not (unheld held (live t) base j) || not (unheld held (parent (live t)) base j)) (covered memory bodies e t base n 0)
+      all-ext n (λ j. backed held (live t) (base + j)) (covered memory bodies e t base n 0)
       (λ j l. rw (held-new e t held m inner base j, twice (has (parent (live t)) (getD held (base + j) 0)), parent-told e t held m inner (base + j)))
 
-  pub agreed-is : all n (λ j. not (unheld held (live t) base j) || sameCell (valueIn e t bodies (parent (live t)) (base + j)) (cellBytes memory (base + j)))
-      ≡ all n (agreed memory bodies e t base n 0)
+  pub agreed-is : all n (λ j. alike memory bodies e t held (live t) (base + j)) ≡ all n (agreed memory bodies e t base n 0)
   agreed-is =
-      all-ext n (λ j. not (unheld held (live t) base j) || sameCell (valueIn e t bodies (parent (live t)) (base + j)) (cellBytes memory (base + j))) (agreed memory bodies e t base n 0)
+      all-ext n (λ j. alike memory bodies e t held (live t) (base + j)) (agreed memory bodies e t base n 0)
       (λ j l. rw (held-new e t held m inner base j))
 
 -- ---- a table that passes questions 1 to 4 is right as it stands
@@ -235,20 +241,11 @@ module _ (memory bodies t : List ℕ) (yes : storeCheck (length memory) (length 
   pub lengths : Lengths (length memory) (length bodies) (length t)
   lengths = shape-facts (length memory) (length bodies) t (store-shape (length memory) (length bodies) t yes)
 
-  pub table-right : Rule (cellsOf (length memory)) (slotsOf (length t)) (cellsOf (length bodies)) t
-  table-right =
-      ok-facts _ _ _ _
-      (sym (ok-agree (cellsOf (length memory)) (slotsOf (length t)) (cellsOf (length bodies)) (take (pairsAt (slotsOf (length t))) t) t (λ k l. getD-take (pairsAt (slotsOf (length t))) t k 0 l))
-      ∙ ok-make _ _ _ _ (store-rule memory bodies t yes))
-
-  pub body-small : (i : ℕ) → i < slotsOf (length t) → IsCopy (slotsOf (length t)) t i → word2 (slotsOf (length t)) t i < cellsOf (length bodies)
-  body-small i l c = table-right .used i l (c .0) .copy (c .1)
-
   -- the copy behind a cell that a domain holds
   pub source-of : (d c : ℕ) → 1 ≤ d → findIn (slotsOf (length t)) t d c < slotsOf (length t) → Source (slotsOf (length t)) t bodies d c
   source-of d c low h =
-      let k = ends-in-copy _ (slotsOf (length t)) _ t table-right d c low h in
-      let f = body-fits _ (slotsOf (length t)) _ t table-right (sourceIn (slotsOf (length t)) t d c) k in
+      let k = ends-in-copy _ (slotsOf (length t)) _ t (raw-rule memory bodies t yes) d c low h in
+      let f = body-fits _ (slotsOf (length t)) _ t (raw-rule memory bodies t yes) (sourceIn (slotsOf (length t)) t d c) k in
       let w = lengths in
       record { slot = k .slot; fits = omega (arith, w .bodies-exact) }
 
@@ -269,9 +266,6 @@ module _ (memory bodies t : List ℕ) (h base n k l : ℕ) where
   abbrev e : ℕ
   e = slotsOf (length t)
 
-  abbrev later : ℕ
-  later = orElse (parentCheck memory bodies (slotsOf (length t)) t base n k) (roomCheck (slotsOf (length t)) t (cellsOf (length bodies)) (count n (isNew (slotsOf (length t)) t base)) k)
-
   chain : (a b c d x y : Bool) (rest : ℕ)
       → orElse (ask a 5 (ask b 6 (ask c 7 (ask d 8 0)))) (orElse (ask x 11 (ask y 12 0)) rest) ≡ ask a 5 (ask b 6 (ask c 7 (ask d 8 (ask x 11 (ask y 12 rest)))))
   chain false b c d x y rest = refl
@@ -284,19 +278,18 @@ module _ (memory bodies t : List ℕ) (h base n k l : ℕ) where
 
   pub add-chain : addCheck memory bodies t h base n k l
       ≡ orElse (storeCheck (length memory) (length bodies) t)
-      (orElse (rangeCheck t (cellsOf (length memory)) h base n k l)
-      (orElse (parentCheck memory bodies (slotsOf (length t)) t base n k) (roomCheck (slotsOf (length t)) t (cellsOf (length bodies)) (count n (isNew (slotsOf (length t)) t base)) k)))
+      (orElse (rangeCheck t (cellsOf (length memory)) h base n k l) (heldCheck memory bodies t base n k))
   unfolding addCheck rangeCheck parentCheck roomCheck
   add-chain = ap (orElse (storeCheck (length memory) (length bodies) t)) (sym
       (chain (ltb 0 (depthNamed t h)) (eqb (depthNamed t h) (live t)) (leb k 1 && leb l 1) (rangeOk (cellsOf (length memory)) base n)
       (eqb k 0 || all n (covered memory bodies (slotsOf (length t)) t base n 0)) (eqb k 0 || all n (agreed memory bodies (slotsOf (length t)) t base n 0))
-      (roomCheck (slotsOf (length t)) t (cellsOf (length bodies)) (count n (isNew (slotsOf (length t)) t base)) k)))
+      (roomCheck (slotsOf (length t)) t (bodiesOf (length bodies)) (count n (isNew (slotsOf (length t)) t base)) k)))
 
   pub add-ready : addCheck memory bodies t h base n k l ≡ 0 → Ready memory bodies t base n k l
   add-ready z =
-      let a = orElse-both (storeCheck (length memory) (length bodies) t) (orElse (rangeCheck t (cellsOf (length memory)) h base n k l) later) (sym add-chain ∙ z) in
-      let b = orElse-both (rangeCheck t (cellsOf (length memory)) h base n k l) later (a .1) in
-      let c = orElse-both (parentCheck memory bodies (slotsOf (length t)) t base n k) (roomCheck (slotsOf (length t)) t (cellsOf (length bodies)) (count n (isNew (slotsOf (length t)) t base)) k) (b .1) in
+      let a = orElse-both (storeCheck (length memory) (length bodies) t) (orElse (rangeCheck t (cellsOf (length memory)) h base n k l) (heldCheck memory bodies t base n k)) (sym add-chain ∙ z) in
+      let b = orElse-both (rangeCheck t (cellsOf (length memory)) h base n k l) (heldCheck memory bodies t base n k) (a .1) in
+      let c = orElse-both (parentCheck memory bodies (slotsOf (length t)) t base n k) (roomCheck (slotsOf (length t)) t (bodiesOf (length bodies)) (count n (isNew (slotsOf (length t)) t base)) k) (b .1) in
       let r = range-facts t (cellsOf (length memory)) h base n k l (b .0) in
       record {
         store = a .0;
@@ -306,8 +299,8 @@ module _ (memory bodies t : List ℕ) (h base n k l : ℕ) where
         some = r .some;
         range = r .range;
         rests = parent-covers memory bodies (slotsOf (length t)) t base n k (c .0);
-        slots = room-slots (slotsOf (length t)) t (cellsOf (length bodies)) (count n (isNew (slotsOf (length t)) t base)) k (c .1);
-        places = room-places (slotsOf (length t)) t (cellsOf (length bodies)) (count n (isNew (slotsOf (length t)) t base)) k (c .1);
+        slots = room-slots (slotsOf (length t)) t (bodiesOf (length bodies)) (count n (isNew (slotsOf (length t)) t base)) k (c .1);
+        places = room-places (slotsOf (length t)) t (bodiesOf (length bodies)) (count n (isNew (slotsOf (length t)) t base)) k (c .1);
       }
 
   -- the code's three parts, one after another
@@ -320,6 +313,6 @@ module _ (memory bodies t : List ℕ) (h base n k l : ℕ) where
       check-range p z = p ∙ sym (add-chain ∙ orElse-go _ _ yes4 ∙ orElse-stop _ _ (λ y. z (p ∙ y)))
 
       pub check-rest : rangeCheck t (cellsOf (length memory)) h base n k l ≡ 0
-          → q ≡ orElse (parentCheck memory bodies (slotsOf (length t)) t base n k) (roomCheck (slotsOf (length t)) t (cellsOf (length bodies)) (count n (isNew (slotsOf (length t)) t base)) k)
+          → q ≡ heldCheck memory bodies t base n k
           → q ≡ addCheck memory bodies t h base n k l
       check-rest yes8 p = p ∙ sym (add-chain ∙ orElse-go _ _ yes4 ∙ orElse-go _ _ yes8)

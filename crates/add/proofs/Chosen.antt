@@ -7,9 +7,10 @@ use native.Mathlib.Omega.{arith}
 use borrow.Author.Tests.{eq-eqb, ne-eqb, eqb-true, lt-ltb, ltb-true, not-true}
 use lib.Dec.{ltb, eqb}
 use lib.ListN.{length}
-use Rattle.words.specs.Layout.{cellsOf, slotsOf}
+use Rattle.words.specs.Layout.{cellsOf, bodiesOf, slotsOf}
 use Rattle.words.specs.Scan.{first, count, nth}
 use Rattle.words.proofs.Scan.{by-bool, by-le, and-split, and-join, is-false, true≢, first-hit, first-miss}
+use Rattle.words.proofs.Gather.{gather-ext}
 use Rattle.words.proofs.Nth.{nth-of, nth-below, nth-holds, nth-rank, count-below}
 use Rattle.table.specs.Entry.{live, word1, holdsIn}
 use Rattle.table.specs.Changes.{entryStores, entryChanges}
@@ -17,12 +18,11 @@ use Rattle.table.proofs.Rule.{Rule}
 use Rattle.search.specs.Free.{slotFree, bodyFree}
 use Rattle.search.proofs.Free.{slots-all, bodies-all, lowest-free}
 use Rattle.model.specs.Holdings.{inRange}
+use Rattle.store.proofs.Raw.{raw-rule}
 use Rattle.add.specs.Add.{isNew, addChange, addWords, addBytes}
 use Rattle.add.specs.Walking.{raiseChange, Ready}
 use Rattle.add.specs.Choice.{Choice, slotFor, bodyFor, takerOf, changeWith, wordsWith, bytesWith}
-use Rattle.add.proofs.Asking.{table-right}
 use Rattle.add.proofs.Choices.{Taking, chosen, range-make, range-low, range-high, rises-free}
-use Rattle.add.proofs.Walks.{gather-ext}
 
 -- ---- slot by slot
 
@@ -98,7 +98,7 @@ module _ (memory bodies t : List ℕ) (base n k l : ℕ) (r : Ready memory bodie
   e = slotsOf (length t)
 
   abbrev b : ℕ
-  b = cellsOf (length bodies)
+  b = bodiesOf (length bodies)
 
   abbrev free : ℕ → Bool
   free = slotFree (slotsOf (length t)) t
@@ -106,17 +106,17 @@ module _ (memory bodies t : List ℕ) (base n k l : ℕ) (r : Ready memory bodie
   abbrev new : ℕ → Bool
   new = isNew (slotsOf (length t)) t base
 
-  right : Rule (cellsOf (length memory)) (slotsOf (length t)) (cellsOf (length bodies)) t
-  right = table-right memory bodies t (r .store)
+  right : Rule (cellsOf (length memory)) (slotsOf (length t)) (bodiesOf (length bodies)) t
+  right = raw-rule memory bodies t (r .store)
 
   -- there are slots and bodies enough
   pub slots-enough : count n (isNew (slotsOf (length t)) t base) ≤ count (slotsOf (length t)) (slotFree (slotsOf (length t)) t)
   slots-enough = omega (arith, r .slots, slots-all (slotsOf (length t)) t)
 
-  pub places-enough : k ≡ 0 → count n (isNew (slotsOf (length t)) t base) ≤ count (cellsOf (length bodies)) (bodyFree (slotsOf (length t)) t)
-  places-enough z = omega (arith, r .places z, bodies-all (cellsOf (length memory)) (slotsOf (length t)) (cellsOf (length bodies)) t right)
+  pub places-enough : k ≡ 0 → count n (isNew (slotsOf (length t)) t base) ≤ count (bodiesOf (length bodies)) (bodyFree (slotsOf (length t)) t)
+  places-enough z = omega (arith, r .places z, bodies-all (cellsOf (length memory)) (slotsOf (length t)) (bodiesOf (length bodies)) t right)
 
-  pub lowest : Choice (slotsOf (length t)) (cellsOf (length bodies)) t base n k (slotFor (slotsOf (length t)) t base) (bodyFor (slotsOf (length t)) (cellsOf (length bodies)) t base)
+  pub lowest : Choice (slotsOf (length t)) (bodiesOf (length bodies)) t base n k (slotFor (slotsOf (length t)) t base) (bodyFor (slotsOf (length t)) (bodiesOf (length bodies)) t base)
   unfolding slotFor bodyFor
   lowest =
       record {
@@ -146,8 +146,8 @@ module _ (memory bodies t : List ℕ) (base n k l : ℕ) (r : Ready memory bodie
       ∙ taker-of lowest j (nth-below n new (count i free) q) (nth-holds n new (count i free) q)
 
   -- its change is the call's
-  change-is : (i : ℕ) → i < slotsOf (length t) → addChange (slotsOf (length t)) (cellsOf (length bodies)) t base n k l i
-      ≡ changeWith (slotsOf (length t)) t base n k l (slotFor (slotsOf (length t)) t base) (bodyFor (slotsOf (length t)) (cellsOf (length bodies)) t base) i
+  change-is : (i : ℕ) → i < slotsOf (length t) → addChange (slotsOf (length t)) (bodiesOf (length bodies)) t base n k l i
+      ≡ changeWith (slotsOf (length t)) t base n k l (slotFor (slotsOf (length t)) t base) (bodyFor (slotsOf (length t)) (bodiesOf (length bodies)) t base) i
   unfolding addChange changeWith raiseChange bodyFor
   change-is i h =
       by-bool (free i)
@@ -164,14 +164,14 @@ module _ (memory bodies t : List ℕ) (base n k l : ℕ) (r : Ready memory bodie
       let none-takes : ltb (takerOf e t base n (slotFor e t base) i) n ≡ false = is-false _ (λ y. true≢ (taker-rank i y .0) p) in
       rw (p, none-takes))
 
-  pub words-chosen : addWords (cellsOf (length bodies)) t base n k l
-      ≡ wordsWith t base n k l (slotFor (slotsOf (length t)) t base) (bodyFor (slotsOf (length t)) (cellsOf (length bodies)) t base)
+  pub words-chosen : addWords (bodiesOf (length bodies)) t base n k l
+      ≡ wordsWith t base n k l (slotFor (slotsOf (length t)) t base) (bodyFor (slotsOf (length t)) (bodiesOf (length bodies)) t base)
   unfolding addWords
   words-chosen =
       gather-ext e (λ i. entryStores e i (addChange e b t base n k l i)) (λ i. entryStores e i (changeWith e t base n k l (slotFor e t base) (bodyFor e b t base) i))
       (λ i h. ap (entryStores e i) (change-is i h))
 
   -- and so are its bytes
-  pub bytes-chosen : addBytes (cellsOf (length bodies)) memory t base n k ≡ bytesWith memory t base n k (bodyFor (slotsOf (length t)) (cellsOf (length bodies)) t base)
+  pub bytes-chosen : addBytes (bodiesOf (length bodies)) memory t base n k ≡ bytesWith memory t base n k (bodyFor (slotsOf (length t)) (bodiesOf (length bodies)) t base)
   unfolding addBytes bodyFor
   bytes-chosen = refl

@@ -1,20 +1,20 @@
 -- Cells copied one after another into different bodies: each body then has its cell's bytes, and the others have theirs. Assumes nothing.
 use Prim.Native.Nat.{ℕ, zero, suc, _+_, _-_, _*_, _≤_, _<_}
-use mathlib.Core.Bool.{Bool, true, false, cond, _&&_}
-use mathlib.Core.List.{List, [], _∷_, _++_}
+use mathlib.Core.Bool.{Bool, true, false, cond}
+use mathlib.Core.List.{List, [], _∷_}
 use mathlib.Core.Logic.{_⊎_, inl, inr, ⊎-elim}
 use mathlib.Core.Path.{_≡_, refl, sym, ap, subst, _∙_}
 use native.Mathlib.Nat.{not-suc-le-zero}
 use native.Mathlib.Omega.{arith}
 use borrow.Author.Tests.{eqb-true, eqb-false}
 use lib.Dec.{eqb}
-use lib.ListN.{length, getD, take, drop, length-take, length-drop, length-append}
+use lib.ListN.{length, getD, drop, length-take, length-drop, length-append}
 use lib.Seq.{ext-getD, getD-take, getD-drop, getD-set-same, getD-set-other}
 use Rattle.words.specs.Layout.{cellAt}
 use Rattle.words.specs.Scan.{count}
 use Rattle.words.specs.Stores.{Store, _≔_, store, stores, tab, gather}
 use Rattle.words.specs.Cells.{cellBytes, cellPlan}
-use Rattle.words.proofs.Scan.{by-bool, by-le, true≢}
+use Rattle.words.proofs.Scan.{by-bool, by-le}
 use Rattle.words.proofs.Plans.{Each, each-map, each-tab, tab-last, length-stores, length-cellPlan, getD-stores, run-append}
 use Rattle.words.proofs.Gather.{each-gather}
 use Rattle.words.proofs.Cells.{cellBytes-length}

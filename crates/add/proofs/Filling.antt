@@ -9,7 +9,7 @@ use native.Mathlib.Omega.{arith}
 use borrow.Author.Tests.{eq-eqb, eqb-true, leb-true, not-true}
 use lib.Dec.{leb, eqb}
 use lib.ListN.{length, getD}
-use Rattle.words.specs.Layout.{cellAt, cellsOf, slotsOf}
+use Rattle.words.specs.Layout.{cellAt, cellsOf, bodiesOf, slotsOf}
 use Rattle.words.specs.Scan.{count}
 use Rattle.words.specs.Cells.{cellBytes, cellPlan}
 use Rattle.words.specs.Stores.{_≔_, stores}
@@ -33,16 +33,13 @@ use Rattle.add.proofs.Copies.{plans-each, plans-filled, plans-length}
 -- ---- of a call that no question refuses
 
 module _ (memory bodies t : List ℕ) (base n k l : ℕ) (r : Ready memory bodies t base n k l)
-    {slot body : ℕ → ℕ} (choice : Choice (slotsOf (length t)) (cellsOf (length bodies)) t base n k slot body) where
+    {slot body : ℕ → ℕ} (choice : Choice (slotsOf (length t)) (bodiesOf (length bodies)) t base n k slot body) where
   -- slot by slot
-  abbrev told : Taking (slotsOf (length t)) (cellsOf (length bodies)) t base n k
+  abbrev told : Taking (slotsOf (length t)) (bodiesOf (length bodies)) t base n k
   told = taking choice
 
   abbrev e : ℕ
   e = slotsOf (length t)
-
-  abbrev b : ℕ
-  b = cellsOf (length bodies)
 
   abbrev new : ℕ → Bool
   new = isNew (slotsOf (length t)) t base

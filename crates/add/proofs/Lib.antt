@@ -5,7 +5,6 @@ pub mod Copies
 pub mod Counting
 pub mod Asking
 pub mod Walks
-pub mod Passing
 pub mod Skipping
 pub mod Chosen
 pub mod Filling

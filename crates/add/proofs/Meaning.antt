@@ -1,245 +1,195 @@
--- Add over any choice of free slots and bodies for the new cells: the state that the table then stands for is the model's. Assumes nothing.
-use Prim.Native.Nat.{ℕ, zero, suc, _+_, _-_, _*_, _/_, _%_, _≤_, _<_}
-use mathlib.Core.Bool.{Bool, true, false, cond, not, _&&_}
-use mathlib.Core.List.{List}
-use mathlib.Core.Option.{Option, none, some}
-use mathlib.Core.Path.{_≡_, refl, sym, ap, subst, _∙_}
+-- Add over any choice of free slots and bodies for the new cells: the table that it leaves is right, and the state that it then stands for is
+-- the model's. Assumes nothing.
+use Prim.Native.Nat.{ℕ, suc, _+_, _-_, _≤_, _<_}
+use mathlib.Core.Bool.{Bool, true, false, cond, _&&_}
+use mathlib.Core.List.{List, []}
+use mathlib.Core.Logic.{_⊎_, inl, inr}
+use mathlib.Core.Option.{Option, none}
+use mathlib.Core.Path.{_≡_, refl, sym, ap, _∙_}
 use native.Mathlib.Omega.{arith}
-use borrow.Author.Tests.{eq-eqb, ne-eqb, eqb-true, eqb-false}
-use lib.Dec.{eqb}
-use lib.ListN.{length, getD}
-use Rattle.words.specs.Layout.{liveAt, nextAt, handleAt, pairsAt, maxLive, maxCells}
+use borrow.Author.Tests.{eq-eqb, ne-eqb, eqb-true, eqb-false, le-leb}
+use lib.Dec.{leb, eqb}
+use lib.ListN.{length}
+use lib.Seq.{drop-nil}
+use Rattle.words.specs.Layout.{pairsAt, maxCells}
 use Rattle.words.specs.Stores.{stores}
 use Rattle.words.specs.Cells.{cellBytes}
-use Rattle.words.proofs.Scan.{by-bool, is-false, true≢}
-use Rattle.table.specs.Entry.{live, nextHandle, handle, word1, word2, depthOf, writableOf, viaOf, cellOf, parent, names, findIn, holdsIn}
-use Rattle.table.specs.Changes.{newFirst, entryChanges}
-use Rattle.table.proofs.Entry.{find-hit, names-make, holds-true, holds-false, holds-found, holds-none}
-use Rattle.table.proofs.Rule.{Rule}
-use Rattle.search.specs.Search.{valueIn}
-use Rattle.search.proofs.Value.{Copy, SameReads, value-kept}
-use Rattle.model.specs.State.{Label, readOnly, readWrite, Kind, copy, viaParent, Holding, Domain, State}
-use Rattle.model.specs.Holdings.{holdingAt, inRange, labelNumbered, kindNumbered, raised, added, givenValue, valueOr, addTo}
-use Rattle.store.specs.State.{labelOf, kindOf, ValueIs, ofCopy, ofParent, HoldingIs, entry, heldIn, domainIn, stateIn}
-use Rattle.store.proofs.State.{found, value-is, holding-only}
-use Rattle.store.proofs.Domains.{innermost-state, state-holding, domains-count}
-use Rattle.add.specs.Walking.{wordOf, rises, raiseChange}
-use Rattle.add.proofs.Choices as at
-use Rattle.add.proofs.Choices.{Taking, chosen, Alike, Rises, rises-facts, rises-make, raise-yes, raise-no}
-
--- ---- labels
-
--- the label of an entry of the range, after a new label l
-label-raised : (d base n l w v : ℕ) → l ≤ 1 → depthOf w ≡ d → inRange base n (cellOf w) ≡ true
-    → labelOf (newFirst (raiseChange d base n l w v) w) ≡ raised (labelNumbered l) (labelOf w)
-label-raised d base n l w v small here within =
-    by-bool (rises d base n l w)
-    (λ h.
-    let r = rises-facts d base n l w h in
-    let up : writableOf (w + 134_217_728) ≡ 1 = omega (arith, r .old) in
-    rw (raise-yes d base n l w v h, eq-eqb _ _ up, eq-eqb _ _ (r .label)))
-    (λ h.
-    rw (raise-no d base n l w v h)
-    (by-bool (eqb l 1)
-    (λ q.
-    by-bool (eqb (writableOf w) 1)
-    (λ y. rw (q, y))
-    (λ y.
-    let ne = eqb-false (writableOf w) 1 y in
-    let low : writableOf w ≡ 0 = omega (arith, ne) in
-    absurd (true≢ (rises-make d base n l w (record { depth = here; cell = within; label = eqb-true l 1 q; old = low })) h)))
-    (λ q. rw q)))
+use Rattle.words.proofs.Scan.{by-bool, and-split, and-join}
+use Rattle.table.specs.Entry.{live, word1, word2, depthOf, writableOf, cellOf, parent, names, findIn, holdsIn, entryWord}
+use Rattle.table.specs.Changes.{put, newFirst, entryChanges}
+use Rattle.table.proofs.Entry.{names-make, holds-true}
+use Rattle.table.proofs.Made.{Made, entry-made}
+use Rattle.table.proofs.Rule.{Rule, Used}
+use Rattle.table.proofs.Head.{all-remain}
+use Rattle.search.proofs.Value.{Copy}
+use Rattle.model.specs.State.{Label, readOnly, readWrite, Holding}
+use Rattle.model.specs.Holdings.{holdingAt, inRange, labelNumbered, kindNumbered, raised, added, givenValue, addTo}
+use Rattle.store.specs.State.{labelOf, heldIn, stateIn}
+use Rattle.store.proofs.Domains.{held-none, held-some, innermost-state}
+use Rattle.store.proofs.Becoming.{atSlot, told, Stays, Value, came, took, rests, Full, Fate, keeps, raises, fills, Becomes, becomes-rule, becomes-held}
+use Rattle.add.specs.Add.{parentHas}
+use Rattle.add.specs.Walking.{rises, raiseChange}
+use Rattle.add.proofs.Choices.{Taking, chosen, range-high, rises-facts}
+use Rattle.add.proofs.Numbers.{outer-value}
 
 module _ (m e b : ℕ) (t : List ℕ) (ok : Rule m e b t) (long : pairsAt e ≤ length t) (base n k l : ℕ)
     (inner : 1 ≤ live t) (kind : k ≤ 1) (label : l ≤ 1) (range : base + n ≤ m) (small : m ≤ maxCells) (choice : Taking e b t base n k)
-    (rests : k ≡ 1 → (i : ℕ) → i < e → choice .taken i ≡ true → (2 ≤ live t) × (findIn e t (parent (live t)) (choice .cell i) < e)) where
-  abbrev u : List ℕ
-  u = stores (entryChanges e (chosen choice l)) t
+    (covered : k ≡ 1 → (i : ℕ) → i < e → choice .taken i ≡ true → (2 ≤ live t) × (findIn e t (parent (live t)) (choice .cell i) < e)) where
+  -- a slot that is taken comes to its cell, and takes its body where it is a copy
+  abbrev Comes : ℕ → ℕ → Type 0
+  Comes i c = (choice .taken i ≡ true) × (choice .cell i ≡ c)
 
-  right : Rule m e b u
-  right = at.rule-after m e b t ok long base n k l inner kind label range small choice rests
+  abbrev Takes : ℕ → ℕ → Type 0
+  Takes i v = (k ≡ 0) × (choice .taken i ≡ true) × (choice .body i ≡ v)
 
-  taken-names : (i : ℕ) → i < e → choice .taken i ≡ true → names (live t) (choice .cell i) (word1 e u i) ≡ true
-  taken-names i h p =
-      names-make e u (live t) (choice .cell i) (word1 e u i) (at.taken-depth m e b t ok long base n k l inner kind label range small choice i h p)
-      (at.taken-cell m e b t ok long base n k l inner kind label range small choice i h p)
+  abbrev word : ℕ → ℕ
+  word i = entryWord (live t) k l (choice .cell i)
 
-  taken-kind : (i : ℕ) → i < e → choice .taken i ≡ true → viaOf (word1 e u i) ≡ k
-  taken-kind = at.taken-kind m e b t ok long base n k l inner kind label range small choice
+  made : (i : ℕ) → i < e → choice .taken i ≡ true → Made (word i) (live t) l k 0 (choice .cell i)
+  made i h p = entry-made (live t) k l (choice .cell i) kind label (omega (arith, range-high base n (choice .cell i) (choice .within i h p)))
 
-  taken-label : (i : ℕ) → i < e → choice .taken i ≡ true → writableOf (word1 e u i) ≡ l
-  taken-label = at.taken-label m e b t ok long base n k l inner kind label range small choice
+  takes : (i : ℕ) → choice .taken i ≡ true → chosen choice l i ≡ put (word i) (choice .body i)
+  unfolding chosen
+  takes i p = rw p
 
-  taken-second : (i : ℕ) → i < e → choice .taken i ≡ true → word2 e u i ≡ choice .body i
-  taken-second = at.taken-second m e b t ok long base n k l inner kind label range small choice
-
-  other-first : (i : ℕ) → i < e → choice .taken i ≡ false → word1 e u i ≡ newFirst (raiseChange (live t) base n l (word1 e t i) (word2 e t i)) (word1 e t i)
-  other-first = at.other-first m e b t ok long base n k l inner kind label range small choice
-
-  other-second : (i : ℕ) → i < e → choice .taken i ≡ false → word2 e u i ≡ word2 e t i
-  other-second = at.other-second m e b t ok long base n k l inner kind label range small choice
-
-  other-kind : (i : ℕ) → i < e → choice .taken i ≡ false → viaOf (word1 e u i) ≡ viaOf (word1 e t i)
-  other-kind i h p = at.other-alike m e b t ok long base n k l inner kind label range small choice i h p .kind
-
-  -- no slot takes cell c at depth d, or further out
-  abbrev Away : ℕ → ℕ → Type 0
-  Away d c = (i : ℕ) → i < e → choice .taken i ≡ true → live t ≡ d → choice .cell i ≡ c → ⊥
-
-  outside : (d c : ℕ) → d < live t → Away d c
-  outside = at.outside m e b t ok long base n k l inner kind label range small choice
-
-  find-kept : (d c : ℕ) → 1 ≤ d → Away d c → findIn e u d c ≡ findIn e t d c
-  find-kept = at.find-kept m e b t ok long base n k l inner kind label range small choice
-
-  -- an entry that is found was in use
-  used-untaken : (i : ℕ) → i < e → (word1 e t i ≡ 0 → ⊥) → choice .taken i ≡ false
-  used-untaken i h u = is-false (choice .taken i) (λ p. u (choice .free i h p))
-
-  found-untaken : (d c : ℕ) → 1 ≤ d → findIn e t d c < e → choice .taken (findIn e t d c) ≡ false
-  found-untaken d c low h = let hit = find-hit e t d c h in used-untaken (findIn e t d c) h (λ z. omega (arith, z, hit .0))
-
-  -- where the label of the entry found does not rise, its first word stays
-  word-kept : (d c : ℕ) → 1 ≤ d → findIn e t d c < e → rises (live t) base n l (word1 e t (findIn e t d c)) ≡ false
-      → word1 e u (findIn e t d c) ≡ word1 e t (findIn e t d c)
-  word-kept d c low h r =
-      other-first (findIn e t d c) h (found-untaken d c low h)
-      ∙ rw (raise-no (live t) base n l (word1 e t (findIn e t d c)) (word2 e t (findIn e t d c)) r)
-
+  -- new bodies have memory's bytes, and bodies in use keep theirs
   module _ (memory old new : List ℕ)
       (spared : (i : ℕ) → Copy e t i → cellBytes new (word2 e t i) ≡ cellBytes old (word2 e t i))
       (filled : k ≡ 0 → (i : ℕ) → i < e → choice .taken i ≡ true → cellBytes new (choice .body i) ≡ cellBytes memory (choice .cell i)) where
-    value-same : (d c : ℕ) → 1 ≤ d → d ≤ live t → findIn e t d c < e → Away d c → valueIn e u new d c ≡ valueIn e t old d c
-    value-same d c low high h away =
-        let all : (x : ℕ) → 1 ≤ x → x ≤ d → Away x c =
-        λ x lx hx. by-bool (eqb x d) (λ q. subst (λ (y : ℕ). Away y c) (sym (eqb-true x d q)) away) (λ q. outside x c (omega (arith, eqb-false x d q))) in
-        value-kept e t u c m b ok old new
-        (λ i s. other-second i (s .slot) (used-untaken i (s .slot) (s .used)))
-        spared d low h
-        (record {
-          finds = λ x lx hx. find-kept x c lx (all x lx hx);
-          kinds = λ x lx hx f. other-kind (findIn e t x c) f (found-untaken x c lx f);
-        })
+    -- the value of a cell newly held
+    abbrev given : ℕ → List ℕ
+    given c = givenValue (kindNumbered k) memory (holdingAt (stateIn e t old .domains) (length (stateIn e t old .domains) - 1) c) c
 
-    -- what no slot takes and whose label does not rise is held as it was
-    held-same : (d c : ℕ) → 1 ≤ d → d ≤ live t → Away d c
-        → (findIn e t d c < e → rises (live t) base n l (word1 e t (findIn e t d c)) ≡ false) → heldIn e u new d c ≡ heldIn e t old d c
-    unfolding heldIn holdsIn
-    held-same d c low high away still =
-        rw (find-kept d c low away)
-        (by-bool (holdsIn e t d c)
-        (λ p.
-        let h = holds-found e t d c p in
-        rw (p, word-kept d c low h (still h), value-same d c low high h away))
-        (λ p. rw p))
+    abbrev held : ℕ → ℕ → Option Holding
+    held d c =
+        cond (eqb d (live t)) (cond (inRange base n c) (added (labelNumbered l) (kindNumbered k) (given c) (heldIn e t old d c)) (heldIn e t old d c)) (heldIn e t old d c)
 
-    -- at an outer depth
-    held-outer : (d c : ℕ) → 1 ≤ d → d < live t → heldIn e u new d c ≡ heldIn e t old d c
-    held-outer d c low high =
-        held-same d c low (omega arith) (outside d c high)
-        (λ h. is-false (rises (live t) base n l (word1 e t (findIn e t d c))) (λ r.
-        let f = rises-facts (live t) base n l (word1 e t (findIn e t d c)) r in
-        let hit = find-hit e t d c h in
-        omega (arith, f .depth, hit .0)))
+    -- ---- the slots that are taken
 
-    -- a cell that is not in the range
-    held-beyond : (c : ℕ) → inRange base n c ≡ false → heldIn e u new (live t) c ≡ heldIn e t old (live t) c
-    held-beyond c out =
-        held-same (live t) c inner (omega arith)
-        (λ i h p q r. true≢ (choice .within i h p) (subst (λ (x : ℕ). inRange base n x ≡ false) (sym r) out))
-        (λ h. is-false (rises (live t) base n l (word1 e t (findIn e t (live t) c))) (λ r.
-        let f = rises-facts (live t) base n l (word1 e t (findIn e t (live t) c)) r in
-        let hit = find-hit e t (live t) c h in
-        true≢ (f .cell) (subst (λ (x : ℕ). inRange base n x ≡ false) (sym (hit .1)) out)))
-
-    -- a cell of the range that was held keeps its kind and value, and its label may rise
-    held-before : (c : ℕ) (v : List ℕ) → inRange base n c ≡ true → holdsIn e t (live t) c ≡ true
-        → heldIn e u new (live t) c ≡ added (labelNumbered l) (kindNumbered k) v (heldIn e t old (live t) c)
-    unfolding heldIn holdsIn
-    held-before c v within p =
-        let h = holds-found e t (live t) c p in
-        let hit = find-hit e t (live t) c h in
-        let i : ℕ = findIn e t (live t) c in
-        let out : choice .taken i ≡ false = found-untaken (live t) c inner h in
-        let away : Away (live t) c = λ j hj pj q r. true≢ p (subst (λ (x : ℕ). holdsIn e t (live t) x ≡ false) r (choice .new j hj pj)) in
-        let here : inRange base n (cellOf (word1 e t i)) ≡ true = subst (λ (x : ℕ). inRange base n x ≡ true) (sym (hit .1)) within in
-        let lab : labelOf (word1 e u i) ≡ raised (labelNumbered l) (labelOf (word1 e t i)) =
-        ap labelOf (other-first i h out) ∙ label-raised (live t) base n l (word1 e t i) (word2 e t i) label (hit .0) here in
-        let kin : kindOf (word1 e u i) ≡ kindOf (word1 e t i) = ap (λ (x : ℕ). cond (eqb x 1) viaParent copy) (other-kind i h out) in
-        rw (find-kept (live t) c inner away, p, value-same (live t) c inner (omega arith) h away, lab, kin)
-
-    held-value : (d c : ℕ) → findIn e t d c < e → eqb k 1 ≡ true → valueIn e t old d c ≡ givenValue (kindNumbered k) memory (heldIn e t old d c) c
-    unfolding heldIn
-    held-value d c h z = rw (z, holds-true e t d c h)
-
-    -- a cell of the range that was not held: its slot, and the value
-    new-value : (c i : ℕ) → i < e → choice .taken i ≡ true → choice .cell i ≡ c
-        → ValueIs e u new (live t) c (givenValue (kindNumbered k) memory (heldIn e t old (parent (live t)) c) c)
-    new-value c i h p q =
-        let nm : names (live t) c (word1 e u i) ≡ true = subst (λ (x : ℕ). names (live t) x (word1 e u i) ≡ true) q (taken-names i h p) in
+    new-value : (i : ℕ) → i < e → choice .taken i ≡ true → Value m e b t old new (live t) held (λ i. i) Comes Takes i (word i) (choice .body i)
+    new-value i h p =
+        let c = choice .cell i in
+        let x = made i h p in
+        let none-held = held-none e t old (live t) c (choice .new i h p) in
         by-bool (eqb k 1)
         (λ z.
         let one = eqb-true k 1 z in
-        let r = rests one i h p in
-        let deep : 1 ≤ parent (live t) = omega (arith, r .0) in
-        let less : parent (live t) < live t = omega (arith, r .0) in
-        let out : findIn e t (parent (live t)) c < e = subst (λ (x : ℕ). findIn e t (parent (live t)) x < e) q (r .1) in
-        let there : findIn e u (parent (live t)) c < e = rw (find-kept (parent (live t)) c deep (outside (parent (live t)) c less)) out in
-        let val : valueIn e u new (parent (live t)) c ≡ givenValue (kindNumbered k) memory (heldIn e t old (parent (live t)) c) c =
-        value-same (parent (live t)) c deep (omega arith) out (outside (parent (live t)) c less) ∙ held-value (parent (live t)) c out z in
-        subst (ValueIs e u new (live t) c) val
-        (ofParent h nm (taken-kind i h p ∙ one) (value-is m e b u right new (parent (live t)) c deep there)))
+        let out = covered one i h p in
+        let deep = out .0 in
+        let has : parentHas e t c ≡ true = and-join (leb 2 (live t)) (holdsIn e t (parent (live t)) c) (le-leb 2 (live t) deep) (holds-true e t (parent (live t)) c (out .1)) in
+        let same : held (parent (depthOf (word i))) (cellOf (word i)) ≡ heldIn e t old (parent (live t)) c =
+        rw (x .depth, x .cell, ne-eqb (parent (live t)) (live t) (λ q. omega arith)) in
+        rests (x .kind ∙ one) (choice .bodiless one i h p) (rw (x .depth) deep) _ (same ∙ held-some e t old (parent (live t)) c (out .1))
+        (rw (x .depth, x .cell, x .label, eq-eqb (live t) (live t) refl, choice .within i h p, none-held, z, outer-value e t old inner c (cellBytes memory c) has)))
         (λ z.
-        let ne = eqb-false k 1 z in
-        let nil : k ≡ 0 = omega (arith, ne) in
-        let val : cellBytes new (word2 e u i) ≡ givenValue (kindNumbered k) memory (heldIn e t old (parent (live t)) c) c =
-        rw (taken-second i h p, filled nil i h p, z, q) in
-        subst (ValueIs e u new (live t) c) val (ofCopy h nm (taken-kind i h p ∙ nil)))
+        let nil : k ≡ 0 = omega (arith, eqb-false k 1 z) in
+        took (x .kind ∙ nil) (nil, p, refl) (choice .fits nil i h p) (choice .unused nil i h p)
+        (rw (x .depth, x .cell, x .label, eq-eqb (live t) (live t) refl, choice .within i h p, none-held, z, filled nil i h p)))
 
-    held-new : (c : ℕ) → inRange base n c ≡ true → holdsIn e t (live t) c ≡ false
-        → heldIn e u new (live t) c ≡ added (labelNumbered l) (kindNumbered k) (givenValue (kindNumbered k) memory (heldIn e t old (parent (live t)) c) c) (heldIn e t old (live t) c)
-    unfolding heldIn
-    held-new c within p =
-        let s = choice .covers c within p in
-        let i : ℕ = s .0 in
-        let nm : names (live t) c (word1 e u i) ≡ true = subst (λ (x : ℕ). names (live t) x (word1 e u i) ≡ true) (s .3) (taken-names i (s .1) (s .2)) in
-        sym (holding-only m e b u right new inner (entry (s .1) nm (new-value c i (s .1) (s .2) (s .3))))
-        ∙ rw (taken-label i (s .1) (s .2), taken-kind i (s .1) (s .2), p)
+    new-full : (i : ℕ) → i < e → choice .taken i ≡ true → Full m e b t old new (live t) held (λ i. i) Comes Takes i (word i) (choice .body i)
+    new-full i h p =
+        let x = made i h p in
+        record {
+          low = rw (x .depth) inner;
+          high = rw (x .depth) (omega arith);
+          spare = x .rest;
+          cell = rw (x .cell) (omega (arith, range-high base n (choice .cell i) (choice .within i h p)));
+          place = came (p, sym (x .cell)) (rw (x .depth, x .cell) (choice .new i h p)) (λ q. ap depthOf (choice .free i h p));
+          value = new-value i h p;
+        }
 
-    -- ---- the state
+    -- ---- the others
 
-    pub state-after : stateIn e u new ≡ addTo memory base n (kindNumbered k) (labelNumbered l) (stateIn e t old)
+    -- a slot of the innermost domain with a cell of the range
+    abbrev inside : ℕ → Bool
+    inside i = eqb (depthOf (word1 e t i)) (live t) && inRange base n (cellOf (word1 e t i))
+
+    -- its label is raised
+    risen : (i : ℕ) (lab : Label) → atSlot e t (heldIn e t old) i ≡ told e t old i lab
+        → atSlot e t held i ≡ told e t old i (cond (inside i) (raised (labelNumbered l) lab) lab)
+    risen i lab q =
+        by-bool (eqb (depthOf (word1 e t i)) (live t))
+        (λ y. by-bool (inRange base n (cellOf (word1 e t i))) (λ z. rw (y, z, q)) (λ z. rw (y, z, q)))
+        (λ y. rw (y, q))
+
+    -- which changes nothing where it does not rise
+    same-label : (i : ℕ) → rises (live t) base n l (word1 e t i) ≡ false
+        → cond (inside i) (raised (labelNumbered l) (labelOf (word1 e t i))) (labelOf (word1 e t i)) ≡ labelOf (word1 e t i)
+    same-label i r =
+        by-bool (inside i)
+        (λ y.
+        let s = and-split (eqb (depthOf (word1 e t i)) (live t)) (inRange base n (cellOf (word1 e t i))) y in
+        by-bool (eqb l 1)
+        (λ z.
+        let low : eqb (writableOf (word1 e t i)) 0 ≡ false = rw (s .0, s .1, z) at r in
+        let one : writableOf (word1 e t i) ≡ 1 = omega (arith, eqb-false (writableOf (word1 e t i)) 0 low) in
+        rw (y, z, one))
+        (λ z. rw (y, z)))
+        (λ y. rw y)
+
+    stays : (i : ℕ) (lab : Label) → Used m e b t i → atSlot e t held i ≡ told e t old i lab → Stays m e b t old new (live t) held (λ i. i) Comes Takes i lab
+    stays i lab u q =
+        let high = u .high in
+        record {
+          high = u .high;
+          holding = q;
+          outer = λ v. let two = u .inner (λ y. omega (arith, v, y)) in rw (ne-eqb (parent (depthOf (word1 e t i))) (live t) (λ y. omega (arith, y)));
+          home = λ v. refl;
+        }
+
+    fate : (i : ℕ) → i < e → Fate m e b t old new (live t) held (λ i. i) Comes Takes i (chosen choice l i)
+    unfolding chosen raiseChange
+    fate i h =
+        let w = word1 e t i in
+        by-bool (choice .taken i)
+        (λ p. rw p (fills {x = word i} {v = choice .body i} (new-full i h p)))
+        (λ p.
+        by-bool (rises (live t) base n l w)
+        (λ r.
+        let f = rises-facts (live t) base n l w r in
+        rw (p, r)
+        (raises (rw (f .depth) inner) (f .old) (λ u q.
+        stays i readWrite u (risen i readOnly q ∙ rw (eq-eqb (depthOf w) (live t) (f .depth), f .cell, eq-eqb l 1 (f .label))))))
+        (λ r. rw (p, r) (keeps (λ u q. stays i (labelOf w) u (risen i (labelOf w) q ∙ rw (same-label i r))))))
+
+    -- ---- all of them
+
+    lacked : (d c : ℕ) → 1 ≤ d → d ≤ live t → holdsIn e t d c ≡ false
+        → (held d c ≡ none) ⊎ ((i : ℕ) × (i < e) × (names d c (newFirst (chosen choice l i) (word1 e t i)) ≡ true))
+    lacked d c low high z =
+        by-bool (eqb d (live t))
+        (λ y.
+        by-bool (inRange base n c)
+        (λ x.
+        let q = eqb-true d (live t) y in
+        let s = choice .covers c x (rw q at z) in
+        let w = made (s .0) (s .1) (s .2) in
+        inr (s .0, s .1, rw (takes (s .0) (s .2)) (names-make e t d c (word (s .0)) (w .depth ∙ sym q) (w .cell ∙ s .3))))
+        (λ x. inl (rw (y, x) (held-none e t old d c z))))
+        (λ y. inl (rw y (held-none e t old d c z)))
+
+    becomes : Becomes m e b t old new (live t) held (λ i. i) Comes Takes [] (chosen choice l)
+    becomes =
+        record {
+          right = ok;
+          long = long;
+          low = tt;
+          head = all-remain (chosen choice l) ok;
+          spared = spared;
+          fate = fate;
+          lacked = lacked;
+          own = λ i j h g x y p. p;
+          cells = λ i j c h g p q. choice .apart i j h g (p .0) (q .0) (p .1 ∙ sym (q .1));
+          bodies = λ i j v h g p q. choice .bodies (p .0) i j h g (p .1) (q .1) (p .2 ∙ sym (q .2));
+        }
+
+    pub state-after : stateIn e (stores (entryChanges e (chosen choice l)) t) new ≡ addTo memory base n (kindNumbered k) (labelNumbered l) (stateIn e t old)
     state-after =
-        innermost-state e t u old new (at.after-head m e b t ok long base n k l inner kind label range small choice liveAt (omega arith))
-        (at.after-head m e b t ok long base n k l inner kind label range small choice nextAt (omega arith))
-        (λ x h. at.after-head m e b t ok long base n k l inner kind label range small choice (handleAt x) (omega (arith, ok .live)))
-        (λ d c. cond (inRange base n c) (added (labelNumbered l) (kindNumbered k) (givenValue (kindNumbered k) memory (holdingAt (stateIn e t old .domains) (length (stateIn e t old .domains) - 1) c) c) (d .holds c)) (d .holds c))
-        each
-      where
-        same-outer : (c : ℕ) → inRange base n c ≡ true → holdsIn e t (live t) c ≡ false
-            → givenValue (kindNumbered k) memory (heldIn e t old (parent (live t)) c) c
-            ≡ givenValue (kindNumbered k) memory (holdingAt (stateIn e t old .domains) (length (stateIn e t old .domains) - 1) c) c
-        same-outer c within p =
-            by-bool (eqb k 1)
-            (λ z.
-            let s = choice .covers c within p in
-            let r = rests (eqb-true k 1 z) (s .0) (s .1) (s .2) in
-            rw (domains-count e t old)
-            (ap (λ (o : Option Holding). givenValue (kindNumbered k) memory o c) (sym (state-holding e t old (parent (live t)) c (omega (arith, r .0)) (omega arith)))))
-            (λ z. rw z)
+        let B = becomes in
+        innermost-state e t (stores (entryChanges e (chosen choice l)) t) old new (B .head .live) (B .head .next) (B .head .kept)
+        (λ d c. cond (inRange base n c) (added (labelNumbered l) (kindNumbered k) (given c) (d .holds c)) (d .holds c))
+        (λ x c h. becomes-held B (suc x) c (omega arith) h)
 
-        each : (x c : ℕ) → x < live t → heldIn e u new (suc x) c
-            ≡ cond (eqb (suc x) (live t)) (cond (inRange base n c) (added (labelNumbered l) (kindNumbered k) (givenValue (kindNumbered k) memory (holdingAt (stateIn e t old .domains) (length (stateIn e t old .domains) - 1) c) c) (heldIn e t old (suc x) c)) (heldIn e t old (suc x) c)) (heldIn e t old (suc x) c)
-        each x c h =
-            by-bool (eqb (suc x) (live t))
-            (λ z.
-            let q : suc x ≡ live t = eqb-true (suc x) (live t) z in
-            rw (z, q)
-            (by-bool (inRange base n c)
-            (λ y.
-            rw y
-            (by-bool (holdsIn e t (live t) c)
-            (λ p. held-before c _ y p)
-            (λ p. held-new c y p ∙ ap (λ (v : List ℕ). added (labelNumbered l) (kindNumbered k) v (heldIn e t old (live t) c)) (same-outer c y p))))
-            (λ y. rw y (held-beyond c y))))
-            (λ z. rw z (let ne = eqb-false (suc x) (live t) z in held-outer (suc x) c (omega arith) (omega (arith, ne))))
+  -- any bytes do for the rule
+  pub rule-after : Rule m e b (stores (entryChanges e (chosen choice l)) t)
+  rule-after = becomes-rule (becomes [] [] [] (λ i c. refl) (λ z i h p. simp drop-nil))

@@ -8,7 +8,7 @@ use native.Mathlib.Omega.{arith}
 use borrow.Author.Tests.{eq-eqb, ne-eqb, eqb-true, eqb-false, le-leb, lt-leb, leb-true}
 use lib.Dec.{leb, eqb}
 use lib.ListN.{length}
-use Rattle.words.specs.Layout.{cellsOf, slotsOf}
+use Rattle.words.specs.Layout.{cellsOf, bodiesOf, slotsOf}
 use Rattle.words.specs.Scan.{count}
 use Rattle.words.proofs.Scan.{by-bool, by-le, and-split, true≢, count-ext, count-le}
 use Rattle.table.specs.Entry.{live, word1, writableOf, cellOf, parent, findIn, holdsIn}
@@ -18,15 +18,14 @@ use Rattle.table.proofs.Rule.{Rule}
 use Rattle.table.proofs.Entries.{changes-count}
 use Rattle.search.specs.Search.{valueIn}
 use Rattle.search.proofs.Counts.{count-entries}
-use Rattle.model.specs.State.{State}
 use Rattle.model.specs.Holdings.{holdingAt, isHeld, heldReadOnly, valueOr, inRange, labelNumbered, kindNumbered, newlyHeld, relabelled, newBodies}
 use Rattle.store.specs.State.{heldIn, stateIn}
 use Rattle.store.proofs.Domains.{state-holding, state-zero, domains-count, held-holds, held-writable}
 use Rattle.store.proofs.InUse.{count-none}
+use Rattle.store.proofs.Raw.{raw-rule}
 use Rattle.add.specs.Add.{isNew, parentHas}
 use Rattle.add.specs.Walking.{rises, raiseChange, Ready}
 use Rattle.add.specs.Choice.{Choice, wordsWith, bytesWith}
-use Rattle.add.proofs.Asking.{table-right}
 use Rattle.add.proofs.Choices.{Taking, chosen, rises-free}
 use Rattle.add.proofs.Chosen.{taking, words-told}
 use Rattle.add.proofs.Counting.{count-or, count-range}
@@ -35,9 +34,6 @@ use Rattle.add.proofs.Filling.{taken-many, bytes-length}
 -- ---- the state of a table's words
 
 module _ (e : ℕ) (t bodies : List ℕ) (inner : 1 ≤ live t) where
-  abbrev s : State
-  s = stateIn e t bodies
-
   at-inner : (c : ℕ) → holdingAt (stateIn e t bodies .domains) (length (stateIn e t bodies .domains)) c ≡ heldIn e t bodies (live t) c
   at-inner c = ap (λ (d : ℕ). holdingAt (stateIn e t bodies .domains) d c) (domains-count e t bodies) ∙ state-holding e t bodies (live t) c inner (omega arith)
 
@@ -91,9 +87,9 @@ module _ (e : ℕ) (t bodies : List ℕ) (inner : 1 ≤ live t) where
 -- ---- how many bytes and words
 
 module _ (memory bodies t : List ℕ) (base n k l : ℕ) (r : Ready memory bodies t base n k l)
-    {slot body : ℕ → ℕ} (choice : Choice (slotsOf (length t)) (cellsOf (length bodies)) t base n k slot body) where
+    {slot body : ℕ → ℕ} (choice : Choice (slotsOf (length t)) (bodiesOf (length bodies)) t base n k slot body) where
   -- slot by slot
-  abbrev told : Taking (slotsOf (length t)) (cellsOf (length bodies)) t base n k
+  abbrev told : Taking (slotsOf (length t)) (bodiesOf (length bodies)) t base n k
   told = taking choice
 
   abbrev e : ℕ
@@ -102,8 +98,8 @@ module _ (memory bodies t : List ℕ) (base n k l : ℕ) (r : Ready memory bodie
   abbrev up : ℕ → Bool
   up i = rises (live t) base n l (word1 (slotsOf (length t)) t i)
 
-  right : Rule (cellsOf (length memory)) (slotsOf (length t)) (cellsOf (length bodies)) t
-  right = table-right memory bodies t (r .store)
+  right : Rule (cellsOf (length memory)) (slotsOf (length t)) (bodiesOf (length bodies)) t
+  right = raw-rule memory bodies t (r .store)
 
   changed-is : (i : ℕ) → isChanged (chosen told l i) ≡ (told .taken i || rises (live t) base n l (word1 (slotsOf (length t)) t i))
   unfolding chosen raiseChange
@@ -115,7 +111,7 @@ module _ (memory bodies t : List ℕ) (base n k l : ℕ) (r : Ready memory bodie
   raised-many =
       let P : ℕ → Bool = λ w. inRange base n (cellOf w) && (eqb l 1 && eqb (writableOf w) 0) in
       let Q : ℕ → Bool = λ c. holdsIn e t (live t) c && (eqb l 1 && eqb (writableOf (word1 e t (findIn e t (live t) c))) 0) in
-      count-entries (cellsOf (length memory)) e (cellsOf (length bodies)) t right (live t) (r .inner) P
+      count-entries (cellsOf (length memory)) e (bodiesOf (length bodies)) t right (live t) (r .inner) P
       ∙ count-ext (cellsOf (length memory)) (λ c. holdsIn e t (live t) c && P (word1 e t (findIn e t (live t) c))) (λ c. inRange base n c && Q c)
       (λ c h.
       by-bool (holdsIn e t (live t) c)

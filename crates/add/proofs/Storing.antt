@@ -1,26 +1,27 @@
 -- Add's stores over right marks are the call's. Assumes nothing.
-use Prim.Native.Nat.{ℕ, _+_, _-_, _*_, _≤_, _<_}
-use mathlib.Core.Bool.{Bool, cond, not}
+use Prim.Native.Nat.{ℕ, _+_, _-_, _≤_, _<_}
+use mathlib.Core.Bool.{not}
 use mathlib.Core.List.{List}
 use mathlib.Core.Path.{_≡_, sym, ap, _∙_}
 use native.Mathlib.Omega.{arith}
-use borrow.Author.Tests.{eq-eqb, ne-eqb, eqb-true, eqb-false}
+use borrow.Author.Tests.{eqb-true, eqb-false}
 use lib.Dec.{eqb}
 use lib.ListN.{length, getD, take}
-use Rattle.words.specs.Layout.{cellsOf, slotsOf, pairsAt, maxCells}
+use Rattle.words.specs.Layout.{bodiesOf, slotsOf, pairsAt, maxCells, maxBodies}
 use Rattle.words.specs.Scan.{count}
-use Rattle.words.specs.Stores.{Store, stores}
+use Rattle.words.specs.Stores.{stores}
 use Rattle.words.specs.Journal.{journal}
-use Rattle.words.proofs.Scan.{by-bool, by-le, is-true, is-false, true≢, count-ext}
-use Rattle.words.proofs.Pairs.{length-journal, journal-none}
+use Rattle.words.proofs.Scan.{by-bool, is-true, is-false, true≢, count-ext}
 use Rattle.table.specs.Entry.{live, word2}
 use Rattle.table.specs.Marks.{Marks, IsCopy, AllMarked}
-use Rattle.table.specs.Changes.{entryChanges}
 use Rattle.search.specs.Free.{bodyUsed, bodyFree}
 use Rattle.search.proofs.Free.{body-used, body-user}
 use Rattle.model.specs.Answer.{stepsOf}
-use Rattle.add.specs.Add.{isNew, addBytes, addWords}
-use Rattle.add.specs.Walking.{unheld, spare, copyBytes, listChange, Ready}
+use Rattle.store.proofs.Changes.{steps-needed}
+use Rattle.store.proofs.Raw.{raw-rule}
+use Rattle.add.specs.Add.{isNew}
+use Rattle.add.specs.declared.Range.{Range}
+use Rattle.add.specs.Walking.{unheld, newIn, spare, NoneBelow, copyBytes, Walkable, Stageable, rangeWords, Journaled, Ready, bytesOf, wordsOf}
 use Rattle.add.proofs.Asking.{lengths, held-new, count-held}
 use Rattle.add.proofs.Walks.{bytes-are, words-are}
 use Rattle.add.proofs.Chosen.{places-enough}
@@ -33,44 +34,72 @@ spare-free e t used x m =
     (λ p. let f = body-user e t x p in is-true (eqb (getD used x 0) 1) (λ z. m .clear x (eqb-false _ _ z) (f .0) (f .1) (f .2) (f .3)) ∙ sym p)
     (λ p. is-false (eqb (getD used x 0) 1) (λ q. let f = m .found x (eqb-true _ _ q) in true≢ (body-used e t x (f .0) (f .1) (f .2) (f .3)) p) ∙ sym p))
 
-journal-length : (first : ℕ) (ws : List Store) → length (journal first ws) ≡ cond (eqb (length ws) 0) 0 (3 * length ws + 2)
-journal-length first ws =
-    by-le (length ws) 0
-    (λ l. let z : length ws ≡ 0 = omega arith in rw (journal-none first ws z, eq-eqb (length ws) 0 z))
-    (λ l. rw (length-journal first ws l, ne-eqb (length ws) 0 (λ z. omega arith)))
-
-module _ (memory bodies t : List ℕ) (base n k l : ℕ) (r : Ready memory bodies t base n k l) (held used : List ℕ)
+module _ (memory bodies t : List ℕ) (range : Range) (r : Ready memory bodies t (range .first) (range .count) (range .kind) (range .label)) (held used : List ℕ)
     (m : AllMarked (slotsOf (length t)) t held used) where
-  pub few : base + n ≤ maxCells
+  pub few : range .first + range .count ≤ maxCells
   few = let w = lengths memory bodies t (r .store) in omega (arith, r .range, w .cells-high)
 
-  new-is : (j : ℕ) → j < n → unheld held (live t) base j ≡ isNew (slotsOf (length t)) t base j
-  new-is j q = held-new (slotsOf (length t)) t held (m .cells) (r .inner) base j
+  new-is : (j : ℕ) → j < range .count → unheld held (live t) (range .first) j ≡ isNew (slotsOf (length t)) t (range .first) j
+  new-is j q = held-new (slotsOf (length t)) t held (m .cells) (r .inner) (range .first) j
 
-  free-is : (x : ℕ) → x < cellsOf (length bodies) → spare used x ≡ bodyFree (slotsOf (length t)) t x
+  free-is : (x : ℕ) → x < bodiesOf (length bodies) → spare used x ≡ bodyFree (slotsOf (length t)) t x
   free-is x q = spare-free (slotsOf (length t)) t used x (m .copies)
 
-  pub bodies-enough : k ≡ 0 → count n (unheld held (live t) base) ≤ count (cellsOf (length bodies)) (spare used)
+  pub bodies-enough : range .kind ≡ 0 → newIn held (live t) range ≤ count (bodiesOf (length bodies)) (spare used)
   bodies-enough z =
-      rw (count-held (slotsOf (length t)) t held (m .cells) (r .inner) base n, count-ext (cellsOf (length bodies)) (spare used) (bodyFree (slotsOf (length t)) t) free-is)
-      (places-enough memory bodies t base n k l r z)
+      rw (
+        count-held (slotsOf (length t)) t held (m .cells) (r .inner) (range .first) (range .count),
+        count-ext (bodiesOf (length bodies)) (spare used) (bodyFree (slotsOf (length t)) t) free-is,
+      )
+      (places-enough memory bodies t (range .first) (range .count) (range .kind) (range .label) r z)
 
-  bytes-same : copyBytes (cellsOf (length bodies)) memory held used (live t) base n k ≡ addBytes (cellsOf (length bodies)) memory t base n k
-  bytes-same = bytes-are held used (cellsOf (length bodies)) t base n k l new-is free-is memory
+  -- the walk over the entries may begin
+  walkable : range .first + range .count ≤ length held → length used ≡ maxBodies → Walkable held used (slotsOf (length t)) (bodiesOf (length bodies)) t range
+  walkable known many =
+      let w = lengths memory bodies t (r .store) in
+      record {
+        slots = w .slots-high;
+        long = omega (arith, w .table-exact);
+        deep = raw-rule memory bodies t (r .store) .live;
+        kind = r .kind;
+        label = r .label;
+        cells = known;
+        few = few;
+        bodies = omega (arith, w .bodies-high);
+        places = w .bodies-high;
+        enough = bodies-enough;
+      }
 
-  words-same : entryChanges (slotsOf (length t)) (listChange held used (slotsOf (length t)) (cellsOf (length bodies)) t base n k l) ≡ addWords (cellsOf (length bodies)) t base n k l
-  words-same = words-are held used (cellsOf (length bodies)) t base n k l new-is free-is
+  pub stageable : range .first + range .count ≤ length held → length used ≡ maxBodies
+      → (start : ℕ) → (range .kind ≡ 0 → NoneBelow used (bodiesOf (length bodies)) start)
+      → Stageable held used (slotsOf (length t)) (bodiesOf (length bodies)) t range start
+  stageable known many start none =
+      record {
+        exact = lengths memory bodies t (r .store) .table-exact;
+        inner = r .inner;
+        marks = m .cells;
+        walk = walkable known many;
+        bodies = none;
+      }
 
-  pub stored-bytes : (budget : ℕ) (b′ : List ℕ) → b′ ≡ stores (take budget (copyBytes (cellsOf (length bodies)) memory held used (live t) base n k)) bodies
-      → b′ ≡ stores (take budget (addBytes (cellsOf (length bodies)) memory t base n k)) bodies
+  bytes-same : copyBytes (bodiesOf (length bodies)) memory held used (live t) (range .first) (range .count) (range .kind) ≡ bytesOf memory bodies t range
+  bytes-same = bytes-are held used (bodiesOf (length bodies)) t range new-is free-is memory
+
+  words-same : rangeWords held used (slotsOf (length t)) (bodiesOf (length bodies)) t range ≡ wordsOf bodies t range
+  words-same = words-are held used (bodiesOf (length bodies)) t range new-is free-is
+
+  pub stored-bytes : (budget : ℕ) (b′ : List ℕ)
+      → b′ ≡ stores (take budget (copyBytes (bodiesOf (length bodies)) memory held used (live t) (range .first) (range .count) (range .kind))) bodies
+      → b′ ≡ stores (take budget (bytesOf memory bodies t range)) bodies
   stored-bytes budget b′ q = q ∙ rw bytes-same
 
-  pub stored-words : (many left budget made : ℕ) (t′ : List ℕ) → many ≡ cellsOf (length bodies) → made ≡ length (copyBytes (cellsOf (length bodies)) memory held used (live t) base n k) → left ≡ budget - made
-      → t′ ≡ stores (take left (journal (pairsAt (slotsOf (length t))) (entryChanges (slotsOf (length t)) (listChange held used (slotsOf (length t)) many t base n k l)))) t
-      → t′ ≡ stores (take (budget - length (addBytes (cellsOf (length bodies)) memory t base n k)) (journal (pairsAt (slotsOf (length t))) (addWords (cellsOf (length bodies)) t base n k l))) t
-  stored-words many left budget made t′ p q s w = w ∙ rw (s, q, p, bytes-same, words-same)
+  -- of the words, behind so many bytes
+  module _ (made : ℕ) (q : made ≡ length (copyBytes (bodiesOf (length bodies)) memory held used (live t) (range .first) (range .count) (range .kind)))
+      (left steps : ℕ) (t′ : List ℕ)
+      (j : Journaled (slotsOf (length t)) (rangeWords held used (slotsOf (length t)) (bodiesOf (length bodies)) t range) left t steps t′) where
+    pub stored-words : (budget : ℕ) → left ≡ budget - made
+        → t′ ≡ stores (take (budget - length (bytesOf memory bodies t range)) (journal (pairsAt (slotsOf (length t))) (wordsOf bodies t range))) t
+    stored-words budget s = j .words ∙ rw (s, q, bytes-same, words-same)
 
-  pub stored-steps : (many made words : ℕ) → many ≡ cellsOf (length bodies) → made ≡ length (copyBytes (cellsOf (length bodies)) memory held used (live t) base n k)
-      → words ≡ length (journal (pairsAt (slotsOf (length t))) (entryChanges (slotsOf (length t)) (listChange held used (slotsOf (length t)) many t base n k l)))
-      → made + words ≡ stepsOf (length (addBytes (cellsOf (length bodies)) memory t base n k)) (length (addWords (cellsOf (length bodies)) t base n k l))
-  stored-steps many made words p q s = rw (q, s, p, bytes-same, words-same, journal-length)
+    pub stored-steps : made + steps ≡ stepsOf (length (bytesOf memory bodies t range)) (length (wordsOf bodies t range))
+    stored-steps = rw (q, j .made, bytes-same, words-same) (steps-needed (pairsAt (slotsOf (length t))) (bytesOf memory bodies t range) (wordsOf bodies t range))

@@ -1,8 +1,8 @@
 -- Add's two walks, turn by turn: over the range for the bytes, and over the entries for the words. Assumes nothing.
-use Prim.Native.Nat.{ℕ, zero, suc, _+_, _-_, _*_, _≤_, _<_, min}
+use Prim.Native.Nat.{ℕ, suc, _+_, _-_, _*_, _≤_, _<_, min}
 use mathlib.Core.Bool.{Bool, true, false, cond}
 use mathlib.Core.List.{List, []}
-use mathlib.Core.Path.{_≡_, refl, sym, _∙_}
+use mathlib.Core.Path.{_≡_, refl, sym, ap, _∙_}
 use native.Mathlib.Omega.{arith}
 use borrow.Author.Tests.{eq-eqb, ne-eqb, eqb-true, lt-ltb, le-ltb}
 use lib.Dec.{eqb}
@@ -10,16 +10,19 @@ use lib.ListN.{length}
 use Rattle.words.specs.Layout.{slotsOf}
 use Rattle.words.specs.Scan.{count, nth}
 use Rattle.words.specs.Cells.{cellPlan}
-use Rattle.words.specs.Stores.{Store, stores, gather}
+use Rattle.words.specs.Stores.{Store, gather}
 use Rattle.words.proofs.Scan.{by-bool, by-le, count-more, count-ext}
 use Rattle.words.proofs.Nth.{nth-from, nth-below, nth-holds, nth-rank, nth-ext, count-mono, count-below}
+use Rattle.words.proofs.Gather.{gather-ext, gather-none}
 use Rattle.words.proofs.Plans.{length-cellPlan}
-use Rattle.table.specs.Entry.{live, word1, word2}
-use Rattle.table.specs.Changes.{Change, keep, put, entryStores, entryChanges}
+use Rattle.table.specs.Entry.{live, word1, word2, entryWord}
+use Rattle.table.specs.Changes.{keep, put, entryChanges}
 use Rattle.search.specs.Free.{slotFree, bodyFree, unmarkedFrom}
 use Rattle.search.proofs.From.{firstFrom, from-passed, from-left, from-le, from-miss, count-stop}
 use Rattle.add.specs.Add.{isNew, addBytes, addWords, addChange}
-use Rattle.add.specs.Walking.{unheld, spare, NoneBelow, nextUnheld, copyBytes, bodyFrom, takeChange, raiseChange, walkChange, takenAt, takenFrom, listChange}
+use Rattle.add.specs.declared.Cursors.{Cursors}
+use Rattle.add.specs.declared.Range.{Range}
+use Rattle.add.specs.Walking.{unheld, newIn, spare, NoneBelow, nextUnheld, copyBytes, bodyFrom, raiseChange, listChange, Stands}
 
 -- ---- a cursor over the numbers that pass a test, r of which it has passed
 
@@ -106,13 +109,9 @@ module _ (b : ℕ) (memory held used : List ℕ) (d base n : ℕ) where
   unfolding copyBytes
   copy-bytes k z = rw (eq-eqb k 0 z)
 
-  gather-none : (x : ℕ) → gather {A = Store} x (λ j. []) ≡ []
-  gather-none zero = refl
-  gather-none (suc x) = rw (gather-none x)
-
   pub copy-none : (k : ℕ) → (k ≡ 0 → ⊥) → copyBytes b memory held used d base n k ≡ []
   unfolding copyBytes
-  copy-none k z = rw (ne-eqb k 0 z) (gather-none n)
+  copy-none k z = rw (ne-eqb k 0 z) (gather-none n (λ j. []) (λ j l. refl))
 
   module _ (room : count n (unheld held d base) ≤ count b (spare used)) (j from : ℕ) (l : j < n) (low : from ≤ b)
       (passed : count from (spare used) ≡ count j (unheld held d base)) where
@@ -147,141 +146,106 @@ module _ (b : ℕ) (memory held used : List ℕ) (d base n : ℕ) where
 
 -- ---- the words
 
--- i entries are passed: as many cells and bodies are used as free slots are passed, while there are new cells
-pub record Stands (held used : List ℕ) (e b : ℕ) (t : List ℕ) (base n k i at from : ℕ) : Type 0 where
-  pub cell : at ≤ n
-  pub cells : count at (unheld held (live t) base) ≡ min (count i (slotFree e t)) (count n (unheld held (live t) base))
-  pub body : k ≡ 0 → from ≤ b
-  pub bodies : k ≡ 0 → count from (spare used) ≡ min (count i (slotFree e t)) (count n (unheld held (live t) base))
-
-module _ (held used : List ℕ) (e b : ℕ) (t : List ℕ) (base n k l : ℕ) where
-  pub stands-start : (start : ℕ) → (k ≡ 0 → NoneBelow used b start) → Stands held used e b t base n k 0 0 start
+module _ (held used : List ℕ) (e b : ℕ) (t : List ℕ) (r : Range) where
+  pub stands-start : (start : ℕ) → (r .kind ≡ 0 → NoneBelow used b start) → Stands held used e b t r 0 (record { at = 0; from = start })
   unfolding count
   stands-start start h = record { cell = omega arith; cells = omega arith; body = λ z. h z .within; bodies = λ z. h z .none ∙ omega arith }
 
-  module _ (room : k ≡ 0 → count n (unheld held (live t) base) ≤ count b (spare used)) (i at from : ℕ) (s : Stands held used e b t base n k i at from) where
+  module _ (i : ℕ) (c : Cursors) (s : Stands held used e b t r i c) where
     abbrev rank : ℕ
     rank = count i (slotFree e t)
 
-    abbrev many : ℕ
-    many = count n (unheld held (live t) base)
+    -- an entry in use
+    module _ (in-use : slotFree e t i ≡ false) where
+      pub kept-change : listChange held used e b t r i ≡ raiseChange (live t) (r .first) (r .count) (r .label) (word1 e t i) (word2 e t i)
+      unfolding listChange
+      kept-change = rw in-use
 
-    module _ (free : slotFree e t i ≡ true) where
-      rank-next : count (i + 1) (slotFree e t) ≡ count i (slotFree e t) + 1
+      pub kept-stands : Stands held used e b t r (i + 1) c
+      kept-stands =
+          let same : count (i + 1) (slotFree e t) ≡ rank = count-more i (slotFree e t) ∙ rw in-use in
+          record { cell = s .cell; cells = rw same (s .cells); body = s .body; bodies = λ z. rw same (s .bodies z) }
+
+    -- a free slot, where the next new cell is the j-th of the range
+    module _ (free : slotFree e t i ≡ true) (j : ℕ) (found : j ≡ nextUnheld held (live t) (r .first) (r .count) (c .at)) where
+      rank-next : count (i + 1) (slotFree e t) ≡ rank + 1
       rank-next = count-more i (slotFree e t) ∙ rw free
 
-      -- a new cell is left
-      module _ (more : nextUnheld held (live t) base n at < n) where
-        ranked : count i (slotFree e t) < count n (unheld held (live t) base)
-        ranked = omega (arith, cell-left held (live t) base n at _ (s .cell) (s .cells) more)
-
-        here : min (count i (slotFree e t)) (count n (unheld held (live t) base)) ≡ count i (slotFree e t)
-        here = omega (arith, ranked)
-
-        cells-here : count at (unheld held (live t) base) ≡ count i (slotFree e t)
-        cells-here = s .cells ∙ here
-
-        body-is : bodyFrom used b k from ≡ cond (eqb k 0) (nth b (spare used) (count i (slotFree e t))) 0
-        body-is =
-            by-bool (eqb k 0)
-            (λ z. let q = eqb-true k 0 z in rw (z, body-at used b from (count i (slotFree e t)) (s .body q) (s .bodies q ∙ here)))
-            (λ z. rw z)
-
-        take-more : walkChange held used b (live t) base n k l at from (word1 e t i) (word2 e t i) ≡ listChange held used e b t base n k l i
-        unfolding walkChange takeChange listChange
-        take-more =
-            rw (
-              free,
-              lt-ltb (nextUnheld held (live t) base n at) n more,
-              lt-ltb (count i (slotFree e t)) (count n (unheld held (live t) base)) ranked,
-              cell-at held (live t) base n at (count i (slotFree e t)) (s .cell) cells-here,
-              body-is,
-            )
-
-        stands-more : Stands held used e b t base n k (i + 1) (nextUnheld held (live t) base n at + 1) (bodyFrom used b k from + 1)
-        stands-more =
-            let step : min (count (i + 1) (slotFree e t)) (count n (unheld held (live t) base)) ≡ count i (slotFree e t) + 1 = omega (arith, rank-next, ranked) in
-            record {
-              cell = omega (arith, more);
-              cells = cell-passed held (live t) base n at (count i (slotFree e t)) (s .cell) cells-here ranked ∙ sym step;
-              body = λ z. rw (eq-eqb k 0 z) (omega (arith, body-below used b from (count i (slotFree e t)) (s .body z) (s .bodies z ∙ here) (omega (arith, room z, ranked))));
-              bodies = λ z. rw (eq-eqb k 0 z) (body-passed used b from (count i (slotFree e t)) (s .body z) (s .bodies z ∙ here) (omega (arith, room z, ranked)) ∙ sym step);
-            }
-
       -- none is left
-      module _ (over : n ≤ nextUnheld held (live t) base n at) where
-        all-taken : count n (unheld held (live t) base) ≤ count i (slotFree e t)
-        all-taken = omega (arith, cell-none held (live t) base n at _ (s .cell) (s .cells) over)
+      module _ (over : r .count ≤ j) where
+        all-taken : newIn held (live t) r ≤ rank
+        all-taken = omega (arith, cell-none held (live t) (r .first) (r .count) (c .at) _ (s .cell) (s .cells) (omega arith))
 
-        take-none : walkChange held used b (live t) base n k l at from (word1 e t i) (word2 e t i) ≡ listChange held used e b t base n k l i
-        unfolding walkChange takeChange listChange
-        take-none =
-            rw (free, le-ltb (nextUnheld held (live t) base n at) n over, le-ltb (count i (slotFree e t)) (count n (unheld held (live t) base)) all-taken)
+        pub none-change : listChange held used e b t r i ≡ keep
+        unfolding listChange
+        none-change = rw (free, le-ltb rank (newIn held (live t) r) all-taken)
 
-        stands-none : Stands held used e b t base n k (i + 1) n from
-        stands-none =
+        pub none-stands : (last : ℕ) → last ≡ r .count → Stands held used e b t r (i + 1) (record { at = last; from = c .from })
+        none-stands last q =
             record {
               cell = omega arith;
-              cells = omega (arith, rank-next, all-taken);
+              cells = ap (λ (x : ℕ). count x (unheld held (live t) (r .first))) q ∙ omega (arith, rank-next, all-taken);
               body = s .body;
               bodies = λ z. omega (arith, s .bodies z, rank-next, all-taken);
             }
 
-      pub taken-change : walkChange held used b (live t) base n k l at from (word1 e t i) (word2 e t i) ≡ listChange held used e b t base n k l i
-      taken-change = by-le n (nextUnheld held (live t) base n at) take-none take-more
+      -- it is taken, with the body x
+      module _ (more : j < r .count) (x : ℕ) (body : x ≡ bodyFrom used b (r .kind) (c .from)) where
+        ranked : rank < newIn held (live t) r
+        ranked = omega (arith, cell-left held (live t) (r .first) (r .count) (c .at) _ (s .cell) (s .cells) (omega arith))
 
-      pub taken-stands : Stands held used e b t base n k (i + 1) (takenAt held (live t) base n at) (takenFrom held used b (live t) base n k at from)
-      taken-stands =
-          by-le n (nextUnheld held (live t) base n at)
-          (λ h. rw (le-ltb (nextUnheld held (live t) base n at) n h) (stands-none h))
-          (λ h. rw (lt-ltb (nextUnheld held (live t) base n at) n h) (stands-more h))
+        here : min rank (newIn held (live t) r) ≡ rank
+        here = omega (arith, ranked)
 
-    module _ (used-slot : slotFree e t i ≡ false) where
-      pub kept-change : walkChange held used b (live t) base n k l at from (word1 e t i) (word2 e t i) ≡ listChange held used e b t base n k l i
-      unfolding walkChange listChange
-      kept-change = rw used-slot
+        cells-here : count (c .at) (unheld held (live t) (r .first)) ≡ rank
+        cells-here = s .cells ∙ here
 
-      pub kept-stands : Stands held used e b t base n k (i + 1) at from
-      kept-stands =
-          let same : count (i + 1) (slotFree e t) ≡ count i (slotFree e t) = count-more i (slotFree e t) ∙ rw used-slot in
-          record { cell = s .cell; cells = rw same (s .cells); body = s .body; bodies = λ z. rw same (s .bodies z) }
+        body-is : bodyFrom used b (r .kind) (c .from) ≡ cond (eqb (r .kind) 0) (nth b (spare used) rank) 0
+        body-is =
+            by-bool (eqb (r .kind) 0)
+            (λ z. let q = eqb-true (r .kind) 0 z in rw (z, body-at used b (c .from) rank (s .body q) (s .bodies q ∙ here)))
+            (λ z. rw z)
 
-    -- one entry
-    pub walk-change : walkChange held used b (live t) base n k l at from (word1 e t i) (word2 e t i) ≡ listChange held used e b t base n k l i
-    walk-change = by-bool (slotFree e t i) taken-change kept-change
+        pub taken-change : listChange held used e b t r i ≡ put (entryWord (live t) (r .kind) (r .label) (r .first + j)) x
+        unfolding listChange
+        taken-change =
+            rw (
+              free,
+              lt-ltb rank (newIn held (live t) r) ranked,
+              found ∙ cell-at held (live t) (r .first) (r .count) (c .at) rank (s .cell) cells-here,
+              body ∙ body-is,
+            )
 
-    pub walk-stands : Stands held used e b t base n k (i + 1) (cond (eqb (word1 e t i) 0) (takenAt held (live t) base n at) at)
-        (cond (eqb (word1 e t i) 0) (takenFrom held used b (live t) base n k at from) from)
-    walk-stands = by-bool (slotFree e t i) (λ h. rw h (taken-stands h)) (λ h. rw h (kept-stands h))
-
-  pub changes-small : (c : Change) (i : ℕ) → length (entryStores e i c) ≤ 2
-  changes-small keep i = omega arith
-  changes-small (put w v) i = omega arith
+        pub taken-stands : (r .kind ≡ 0 → newIn held (live t) r ≤ count b (spare used)) → Stands held used e b t r (i + 1) (record { at = j + 1; from = x + 1 })
+        taken-stands room =
+            let step : min (count (i + 1) (slotFree e t)) (newIn held (live t) r) ≡ rank + 1 = omega (arith, rank-next, ranked) in
+            record {
+              cell = omega (arith, more);
+              cells = rw found (cell-passed held (live t) (r .first) (r .count) (c .at) rank (s .cell) cells-here ranked ∙ sym step);
+              body = λ z. rw (body, eq-eqb (r .kind) 0 z) (omega (arith, body-below used b (c .from) rank (s .body z) (s .bodies z ∙ here) (omega (arith, room z, ranked))));
+              bodies = λ z. rw (body, eq-eqb (r .kind) 0 z) (body-passed used b (c .from) rank (s .body z) (s .bodies z ∙ here) (omega (arith, room z, ranked)) ∙ sym step);
+            }
 
 -- ---- right marks: the walks' plans are the call's
 
-pub gather-ext : {A : Type 0} (n : ℕ) (f g : ℕ → List A) → ((i : ℕ) → i < n → f i ≡ g i) → gather n f ≡ gather n g
-gather-ext zero f g h = refl
-gather-ext (suc n) f g h = rw (gather-ext n f g (λ i l. h i (omega arith)), h n (omega arith))
-
-module _ (held used : List ℕ) (b : ℕ) (t : List ℕ) (base n k l : ℕ)
-    (new : (j : ℕ) → j < n → unheld held (live t) base j ≡ isNew (slotsOf (length t)) t base j)
+module _ (held used : List ℕ) (b : ℕ) (t : List ℕ) (r : Range)
+    (new : (j : ℕ) → j < r .count → unheld held (live t) (r .first) j ≡ isNew (slotsOf (length t)) t (r .first) j)
     (free : (x : ℕ) → x < b → spare used x ≡ bodyFree (slotsOf (length t)) t x) where
-  same-count : (j : ℕ) → j ≤ n → count j (unheld held (live t) base) ≡ count j (isNew (slotsOf (length t)) t base)
-  same-count j h = count-ext j (unheld held (live t) base) (isNew (slotsOf (length t)) t base) (λ i l. new i (omega arith))
+  same-count : (j : ℕ) → j ≤ r .count → count j (unheld held (live t) (r .first)) ≡ count j (isNew (slotsOf (length t)) t (r .first))
+  same-count j h = count-ext j (unheld held (live t) (r .first)) (isNew (slotsOf (length t)) t (r .first)) (λ i l. new i (omega arith))
 
-  pub bytes-are : (memory : List ℕ) → copyBytes b memory held used (live t) base n k ≡ addBytes b memory t base n k
+  pub bytes-are : (memory : List ℕ) → copyBytes b memory held used (live t) (r .first) (r .count) (r .kind) ≡ addBytes b memory t (r .first) (r .count) (r .kind)
   unfolding copyBytes addBytes
   bytes-are memory =
-      gather-ext n _ _ (λ j l.
-      rw (new j l, same-count j (omega arith), nth-ext b (spare used) (bodyFree (slotsOf (length t)) t) (count j (isNew (slotsOf (length t)) t base)) free))
+      gather-ext (r .count) _ _ (λ j l.
+      rw (new j l, same-count j (omega arith), nth-ext b (spare used) (bodyFree (slotsOf (length t)) t) (count j (isNew (slotsOf (length t)) t (r .first))) free))
 
-  pub words-are : entryChanges (slotsOf (length t)) (listChange held used (slotsOf (length t)) b t base n k l) ≡ addWords b t base n k l
+  pub words-are : entryChanges (slotsOf (length t)) (listChange held used (slotsOf (length t)) b t r) ≡ addWords b t (r .first) (r .count) (r .kind) (r .label)
   unfolding listChange raiseChange addWords addChange
   words-are =
       gather-ext (slotsOf (length t)) _ _ (λ i l.
       rw (
-        same-count n (omega arith),
-        nth-ext n (unheld held (live t) base) (isNew (slotsOf (length t)) t base) (count i (slotFree (slotsOf (length t)) t)) new,
+        same-count (r .count) (omega arith),
+        nth-ext (r .count) (unheld held (live t) (r .first)) (isNew (slotsOf (length t)) t (r .first)) (count i (slotFree (slotsOf (length t)) t)) new,
         nth-ext b (spare used) (bodyFree (slotsOf (length t)) t) (count i (slotFree (slotsOf (length t)) t)) free,
       ))

@@ -1,14 +1,14 @@
 -- Add: its questions, the bytes and words that it stores, and what it means. n cells from `first` on, kind k and label l as numbers.
-use Prim.Native.Nat.{ℕ, _+_, _*_}
+use Prim.Native.Nat.{ℕ, _+_}
 use mathlib.Core.Bool.{Bool, cond, not, _&&_, _||_}
 use mathlib.Core.List.{List, []}
 use lib.Dec.{ltb, leb, eqb}
 use lib.ListN.{length}
-use Rattle.words.specs.Layout.{cellsOf, slotsOf, pairsAt}
+use Rattle.words.specs.Layout.{cellsOf, bodiesOf, slotsOf, pairsAt}
 use Rattle.words.specs.Scan.{all, count, nth}
 use Rattle.words.specs.Cells.{cellBytes, sameCell, cellPlan}
 use Rattle.words.specs.Stores.{Store, gather}
-use Rattle.table.specs.Entry.{live, word1, word2, depthOf, cellOf, writableOf, parent, holdsIn}
+use Rattle.table.specs.Entry.{live, word1, word2, depthOf, cellOf, writableOf, parent, holdsIn, entryWord, writable}
 use Rattle.table.specs.Changes.{Change, keep, put, entryChanges}
 use Rattle.search.specs.Search.{valueIn}
 use Rattle.search.specs.Domain.{depthNamed}
@@ -39,26 +39,23 @@ addCheck memory bodies t h first n k l =
     (ask (eqb k 0 || all n (λ j. not (isNew (slotsOf (length t)) t first j)
     || sameCell (valueIn (slotsOf (length t)) t bodies (parent (live t)) (first + j)) (cellBytes memory (first + j)))) 12
     (ask (leb (usedSlots (slotsOf (length t)) t + count n (isNew (slotsOf (length t)) t first)) (slotsOf (length t))) 16
-    (ask (eqb k 1 || leb (copies (slotsOf (length t)) t + count n (isNew (slotsOf (length t)) t first)) (cellsOf (length bodies))) 17 0))))))))
+    (ask (eqb k 1 || leb (copies (slotsOf (length t)) t + count n (isNew (slotsOf (length t)) t first)) (bodiesOf (length bodies))) 17 0))))))))
 
--- the r-th new cell; the body that it takes, the lowest free bodies first, none for via parent; and its entry's first word
+-- the r-th new cell; the body that it takes, the lowest free bodies first, none for via parent
 abbrev pub newCell : ℕ → List ℕ → (first n r : ℕ) → ℕ
 newCell e t first n r = first + nth n (isNew e t first) r
 
 abbrev pub newBody : (e b : ℕ) → List ℕ → (k r : ℕ) → ℕ
 newBody e b t k r = cond (eqb k 0) (nth b (bodyFree e t) r) 0
 
-abbrev pub newWord : List ℕ → (k l c : ℕ) → ℕ
-newWord t k l c = 268_435_456 * live t + 134_217_728 * l + 67_108_864 * k + c
-
 -- the r-th free slot takes the r-th new cell; a read-only entry of the range becomes read-write if the label is
 unfoldable pub addChange : (e b : ℕ) → List ℕ → (first n k l i : ℕ) → Change
 addChange e b t first n k l i =
     cond (slotFree e t i)
     (cond (ltb (count i (slotFree e t)) (count n (isNew e t first)))
-    (put (newWord t k l (newCell e t first n (count i (slotFree e t)))) (newBody e b t k (count i (slotFree e t)))) keep)
+    (put (entryWord (live t) k l (newCell e t first n (count i (slotFree e t)))) (newBody e b t k (count i (slotFree e t)))) keep)
     (cond (eqb (depthOf (word1 e t i)) (live t) && (inRange first n (cellOf (word1 e t i)) && (eqb l 1 && eqb (writableOf (word1 e t i)) 0)))
-    (put (word1 e t i + 134_217_728) (word2 e t i)) keep)
+    (put (writable (word1 e t i)) (word2 e t i)) keep)
 
 unfoldable pub addWords : (b : ℕ) → List ℕ → (first n k l : ℕ) → List Store
 addWords b t first n k l = entryChanges (slotsOf (length t)) (addChange (slotsOf (length t)) b t first n k l)
@@ -72,8 +69,8 @@ addBytes b memory t first n k =
 unfoldable pub addCall : (h first n k l : ℕ) → Buffers → Call
 addCall h first n k l b =
     unless (addCheck (b .memory) (b .bodies) (b .table) h first n k l)
-    (perform (changePlan (pairsAt (slotsOf (length (b .table)))) (addBytes (cellsOf (length (b .bodies))) (b .memory) (b .table) first n k)
-    (addWords (cellsOf (length (b .bodies))) (b .table) first n k l)) 0)
+    (perform (changePlan (pairsAt (slotsOf (length (b .table)))) (addBytes (bodiesOf (length (b .bodies))) (b .memory) (b .table) first n k)
+    (addWords (bodiesOf (length (b .bodies))) (b .table) first n k l)) 0)
 
 abbrev pub addMeans : (h first n k l : ℕ) → ℕ → Buffers → View
 addMeans h first n k l budget b = callMeans (addEffect (roomOf b) (b .memory) h first n k l) budget b

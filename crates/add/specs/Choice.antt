@@ -8,16 +8,16 @@ use mathlib.Core.List.{List, []}
 use mathlib.Core.Path.{_≡_}
 use lib.Dec.{ltb, eqb}
 use lib.ListN.{length}
-use Rattle.words.specs.Layout.{cellsOf, slotsOf, pairsAt}
+use Rattle.words.specs.Layout.{bodiesOf, slotsOf, pairsAt}
 use Rattle.words.specs.Scan as scan
 use Rattle.words.specs.Scan.{count, nth}
 use Rattle.words.specs.Cells.{cellPlan}
 use Rattle.words.specs.Stores.{Store, gather}
-use Rattle.table.specs.Entry.{live, word1, word2}
+use Rattle.table.specs.Entry.{live, word1, word2, entryWord}
 use Rattle.table.specs.Changes.{Change, put, entryChanges}
 use Rattle.search.specs.Free.{slotFree, bodyFree, TakesFree}
 use Rattle.store.specs.Outcome.{Buffers, Call, perform, unless, changePlan}
-use Rattle.add.specs.Add.{isNew, newWord, addCheck}
+use Rattle.add.specs.Add.{isNew, addCheck}
 use Rattle.add.specs.Walking.{raiseChange}
 
 -- of the n cells from `first` on the newly held ones take different free slots, and as copies different free bodies
@@ -40,7 +40,7 @@ takerOf e t first n slot i = scan.first n (λ j. isNew e t first j && eqb (slot 
 unfoldable pub changeWith : ℕ → List ℕ → (first n k l : ℕ) (slot body : ℕ → ℕ) → ℕ → Change
 changeWith e t first n k l slot body i =
     cond (ltb (takerOf e t first n slot i) n)
-    (put (newWord t k l (first + takerOf e t first n slot i)) (cond (eqb k 0) (body (takerOf e t first n slot i)) 0))
+    (put (entryWord (live t) k l (first + takerOf e t first n slot i)) (cond (eqb k 0) (body (takerOf e t first n slot i)) 0))
     (raiseChange (live t) first n l (word1 e t i) (word2 e t i))
 
 abbrev pub wordsWith : List ℕ → (first n k l : ℕ) (slot body : ℕ → ℕ) → List Store
@@ -61,4 +61,4 @@ addWith slot body h first n k l b =
 abbrev pub MayTake : (h first n k l : ℕ) → Buffers → (slot body : ℕ → ℕ) → Type 0
 MayTake h first n k l b slot body =
     addCheck (b .memory) (b .bodies) (b .table) h first n k l ≡ 0
-    → Choice (slotsOf (length (b .table))) (cellsOf (length (b .bodies))) (b .table) first n k slot body
+    → Choice (slotsOf (length (b .table))) (bodiesOf (length (b .bodies))) (b .table) first n k slot body

@@ -1,34 +1,43 @@
 -- Add's questions and changes as its code goes through them: over marks, one for each cell and one for each body.
 -- d is the depth of the domain that is added to.
-use Prim.Native.Nat.{ℕ, _+_, _-_, _*_, _≤_, _<_}
+use Prim.Native.Nat.{ℕ, _+_, _-_, _*_, _≤_, _<_, min}
 use mathlib.Core.Path.{_≡_}
 use mathlib.Core.Bool.{Bool, true, false, cond, not, _&&_, _||_}
 use mathlib.Core.List.{List, []}
 use lib.Dec.{ltb, leb, eqb}
 use lib.ListN.{length, getD, take}
-use Rattle.words.specs.Layout.{cellAt, cellsOf, slotsOf}
+use Rattle.words.specs.Layout.{cellAt, cellsOf, bodiesOf, slotsOf, pairsAt, tableWords, maxLive, maxSlots, maxCells, maxBodies, maxPairs}
 use Rattle.words.specs.Scan as scan
 use Rattle.words.specs.Scan.{all, count, nth}
 use Rattle.words.specs.Cells.{cellBytes, sameCell, cellPlan}
-use Rattle.words.specs.Stores.{Store, gather, stores}
-use Rattle.words.specs.Journal.{pairPlans}
-use Rattle.table.specs.Entry.{live, word1, word2, depthOf, cellOf, writableOf, parent}
-use Rattle.table.specs.Marks.{has}
-use Rattle.table.specs.Changes.{Change, keep, put, entryStores, entryChanges}
+use Rattle.words.specs.Stores.{Store, stores, gather}
+use Rattle.words.specs.Journal.{journal}
+use Rattle.table.specs.Entry.{live, word1, word2, depthOf, cellOf, writableOf, parent, entryWord, writable}
+use Rattle.table.specs.Marks.{has, Marked}
+use Rattle.table.specs.Changes.{Change, keep, put, entryChanges}
 use Rattle.search.specs.Search.{sourceIn, valueIn}
 use Rattle.search.specs.Domain.{depthNamed}
 use Rattle.search.specs.Free.{slotFree, usedSlots, copies, unmarkedFrom}
-use Rattle.model.specs.Answer.{ask}
+use Rattle.changes.specs.Staged.{Stages}
+use Rattle.model.specs.Answer.{ask, orElse}
 use Rattle.model.specs.Holdings.{rangeOk, inRange}
 use Rattle.store.specs.Checks.{storeCheck}
-use Rattle.add.specs.Add.{isNew, parentHas}
+use Rattle.store.specs.Outcome.{Buffers, Call}
+use Rattle.add.specs.Add.{isNew, parentHas, addBytes, addWords, addCall}
 use Rattle.add.specs.declared.Cursors.{Cursors}
+use Rattle.add.specs.declared.Range.{Range}
 
 -- ---- the marks
 
--- does the mark of the j-th cell of the range lack depth d?
+-- does the mark of cell c lack depth d? The same of the j-th cell of the range, and how many such cells the range has
+abbrev pub lacks : List ℕ → (d c : ℕ) → Bool
+lacks held d c = not (has d (getD held c 0))
+
 abbrev pub unheld : List ℕ → (d base j : ℕ) → Bool
-unheld held d base j = not (has d (getD held (base + j) 0))
+unheld held d base j = lacks held d (base + j)
+
+abbrev pub newIn : List ℕ → ℕ → Range → ℕ
+newIn held d r = count (r .count) (unheld held d (r .first))
 
 -- has body k no mark?
 abbrev pub spare : List ℕ → ℕ → Bool
@@ -61,6 +70,19 @@ parentCheck memory bodies e t base n k =
 unfoldable pub roomCheck : ℕ → List ℕ → (b new k : ℕ) → ℕ
 roomCheck e t b new k = ask (leb (usedSlots e t + new) e) 16 (ask (eqb k 1 || leb (copies e t + new) b) 17 0)
 
+-- those that ask which cells are new
+abbrev pub heldCheck : List ℕ → List ℕ → List ℕ → (base n k : ℕ) → ℕ
+heldCheck memory bodies t base n k =
+    orElse (parentCheck memory bodies (slotsOf (length t)) t base n k)
+    (roomCheck (slotsOf (length t)) t (bodiesOf (length bodies)) (count n (isNew (slotsOf (length t)) t base)) k)
+
+-- 11 and 12 of one cell, over marks: where depth d lacks it, the parent has it; and memory has its value
+abbrev pub backed : List ℕ → (d c : ℕ) → Bool
+backed held d c = not (lacks held d c) || not (lacks held (parent d) c)
+
+abbrev pub alike : List ℕ → List ℕ → ℕ → List ℕ → List ℕ → (d c : ℕ) → Bool
+alike memory bodies e t held d c = not (lacks held d c) || sameCell (valueIn e t bodies (parent d) c) (cellBytes memory c)
+
 -- the copy behind cell c of the domain at depth d, and its body
 pub record Source (e : ℕ) (t bodies : List ℕ) (d c : ℕ) : Type 0 where
   pub slot : sourceIn e t d c < e
@@ -74,10 +96,6 @@ copyBytes b memory held used d base n k =
 
 -- ---- the words
 
--- the first word of a new entry
-abbrev pub wordOf : (d k l c : ℕ) → ℕ
-wordOf d k l c = 268_435_456 * d + 134_217_728 * l + 67_108_864 * k + c
-
 -- does the label of an entry with first word w rise?
 abbrev pub rises : (d base n l w : ℕ) → Bool
 rises d base n l w = eqb (depthOf w) d && (inRange base n (cellOf w) && (eqb l 1 && eqb (writableOf w) 0))
@@ -86,42 +104,67 @@ rises d base n l w = eqb (depthOf w) d && (inRange base n (cellOf w) && (eqb l 1
 abbrev pub bodyFrom : List ℕ → (b k from : ℕ) → ℕ
 bodyFrom used b k from = cond (eqb k 0) (unmarkedFrom b used from) 0
 
--- a free slot, from a cell of the range and a body on
-unfoldable pub takeChange : List ℕ → List ℕ → (b d base n k l at from : ℕ) → Change
-takeChange held used b d base n k l at from =
-    cond (ltb (nextUnheld held d base n at) n)
-    (put (wordOf d k l (base + nextUnheld held d base n at)) (bodyFrom used b k from)) keep
-
 -- an entry in use
 unfoldable pub raiseChange : (d base n l w v : ℕ) → Change
-raiseChange d base n l w v = cond (rises d base n l w) (put (w + 134_217_728) v) keep
-
-unfoldable pub walkChange : List ℕ → List ℕ → (b d base n k l at from w v : ℕ) → Change
-walkChange held used b d base n k l at from w v =
-    cond (eqb w 0) (takeChange held used b d base n k l at from) (raiseChange d base n l w v)
-
--- the cell and the body to go on from after a free slot
-abbrev pub takenAt : List ℕ → (d base n at : ℕ) → ℕ
-takenAt held d base n at = cond (ltb (nextUnheld held d base n at) n) (nextUnheld held d base n at + 1) n
-
-abbrev pub takenFrom : List ℕ → List ℕ → (b d base n k at from : ℕ) → ℕ
-takenFrom held used b d base n k at from = cond (ltb (nextUnheld held d base n at) n) (bodyFrom used b k from + 1) from
-
--- an entry is passed: its change is written as pairs behind those written before, and the walk goes on
-pub record Passed (e i at from pairs : ℕ) (change : Change) (next-at next-from budget index : ℕ) (t t₁ : List ℕ) (r : Cursors) : Type 0 where
-  pub words : t₁ ≡ stores (take budget (pairPlans index (entryStores e i change))) t
-  pub cell : r .at ≡ next-at
-  pub body : r .from ≡ next-from
-  pub count : r .pairs ≡ pairs + length (entryStores e i change)
+raiseChange d base n l w v = cond (rises d base n l w) (put (writable w) v) keep
 
 -- the r-th free slot takes the r-th new cell, and the r-th body without a mark
-unfoldable pub listChange : List ℕ → List ℕ → (e b : ℕ) → List ℕ → (base n k l i : ℕ) → Change
-listChange held used e b t base n k l i =
+unfoldable pub listChange : List ℕ → List ℕ → (e b : ℕ) → List ℕ → Range → ℕ → Change
+listChange held used e b t r i =
     cond (slotFree e t i)
-    (cond (ltb (count i (slotFree e t)) (count n (unheld held (live t) base)))
-    (put (wordOf (live t) k l (base + nth n (unheld held (live t) base) (count i (slotFree e t))))
-    (cond (eqb k 0) (nth b (spare used) (count i (slotFree e t))) 0)) keep)
-    (raiseChange (live t) base n l (word1 e t i) (word2 e t i))
+    (cond (ltb (count i (slotFree e t)) (newIn held (live t) r))
+    (put (entryWord (live t) (r .kind) (r .label) (r .first + nth (r .count) (unheld held (live t) (r .first)) (count i (slotFree e t))))
+    (cond (eqb (r .kind) 0) (nth b (spare used) (count i (slotFree e t))) 0)) keep)
+    (raiseChange (live t) (r .first) (r .count) (r .label) (word1 e t i) (word2 e t i))
+
+-- ---- the walk over the entries
+
+-- what it asks of the numbers of slots and bodies, of the range and of the marks
+pub record Walkable (held used : List ℕ) (e b : ℕ) (t : List ℕ) (r : Range) : Type 0 where
+  pub slots : e ≤ maxSlots
+  pub long : pairsAt e ≤ length t
+  pub deep : live t ≤ maxLive
+  pub kind : r .kind ≤ 1
+  pub label : r .label ≤ 1
+  pub cells : r .first + r .count ≤ length held
+  pub few : r .first + r .count ≤ maxCells
+  pub bodies : b ≤ length used
+  pub places : b ≤ maxBodies
+  pub enough : r .kind ≡ 0 → newIn held (live t) r ≤ count b (spare used)
+
+-- i entries are passed: as many cells and bodies are used as free slots are passed, while there are new cells
+pub record Stands (held used : List ℕ) (e b : ℕ) (t : List ℕ) (r : Range) (i : ℕ) (c : Cursors) : Type 0 where
+  pub cell : c .at ≤ r .count
+  pub cells : count (c .at) (unheld held (live t) (r .first)) ≡ min (count i (slotFree e t)) (newIn held (live t) r)
+  pub body : r .kind ≡ 0 → c .from ≤ b
+  pub bodies : r .kind ≡ 0 → count (c .from) (spare used) ≡ min (count i (slotFree e t)) (newIn held (live t) r)
+
+-- and their changes are staged
+pub record Walked (held used : List ℕ) (e b : ℕ) (t : List ℕ) (r : Range) (i : ℕ) (c : Cursors) (words bits : List ℕ) : Type 0 where
+  pub stands : Stands held used e b t r i c
+  pub staged : Stages i (listChange held used e b t r) words bits
+
+-- what staging a range asks, with the bodies looked for from `start` on
+pub record Stageable (held used : List ℕ) (e b : ℕ) (t : List ℕ) (r : Range) (start : ℕ) : Type 0 where
+  pub exact : length t ≡ tableWords e
+  pub inner : 1 ≤ live t
+  pub marks : Marked e t e held
+  pub walk : Walkable held used e b t r
+  pub bodies : r .kind ≡ 0 → NoneBelow used b start
+
+-- the words of a range
+abbrev pub rangeWords : List ℕ → List ℕ → (e b : ℕ) → List ℕ → Range → List Store
+rangeWords held used e b t r = entryChanges e (listChange held used e b t r)
+
+-- the words ws are stored by the journal of a table t of e entries, at most k steps of it, which leaves u; n are its steps uncut
+pub record Journaled (e : ℕ) (ws : List Store) (k : ℕ) (t : List ℕ) (n : ℕ) (u : List ℕ) : Type 0 where
+  pub made : n ≡ length (journal (pairsAt e) ws)
+  pub few : n ≤ 3 * maxPairs e + 2
+  pub words : u ≡ stores (take k (journal (pairsAt e) ws)) t
+
+-- the change c of entry i is staged behind those of the entries before it, of whatever change it is one
+pub record StagesOn (i : ℕ) (c : Change) (words bits words′ bits′ : List ℕ) : Type 0 where
+  pub of : (f : ℕ → Change) → f i ≡ c → Stages i f words bits → Stages (i + 1) f words′ bits′
 
 -- the entries from i on and before r are passed over: no label rises, and they are in use unless every new cell is taken
 pub record Skips (e : ℕ) (t : List ℕ) (still taken : Bool) (i r : ℕ) : Type 0 where
@@ -130,7 +173,18 @@ pub record Skips (e : ℕ) (t : List ℕ) (still taken : Bool) (i r : ℕ) : Typ
   pub quiet : i < r → still ≡ true
   pub used : (x : ℕ) → i ≤ x → x < r → taken ≡ false → word1 e t x ≡ 0 → ⊥
 
--- ---- what the questions leave
+-- ---- the call on a range
+
+abbrev pub bytesOf : List ℕ → List ℕ → List ℕ → Range → List Store
+bytesOf memory bodies t r = addBytes (bodiesOf (length bodies)) memory t (r .first) (r .count) (r .kind)
+
+abbrev pub wordsOf : List ℕ → List ℕ → Range → List Store
+wordsOf bodies t r = addWords (bodiesOf (length bodies)) t (r .first) (r .count) (r .kind) (r .label)
+
+abbrev pub callOf : ℕ → Range → Buffers → Call
+callOf h r b = addCall h (r .first) (r .count) (r .kind) (r .label) b
+
+-- what the questions leave
 
 pub record Ready (memory bodies t : List ℕ) (base n k l : ℕ) : Type 0 where
   pub store : storeCheck (length memory) (length bodies) t ≡ 0
@@ -141,4 +195,4 @@ pub record Ready (memory bodies t : List ℕ) (base n k l : ℕ) : Type 0 where
   pub range : base + n ≤ cellsOf (length memory)
   pub rests : k ≡ 1 → (j : ℕ) → j < n → isNew (slotsOf (length t)) t base j ≡ true → parentHas (slotsOf (length t)) t (base + j) ≡ true
   pub slots : usedSlots (slotsOf (length t)) t + count n (isNew (slotsOf (length t)) t base) ≤ slotsOf (length t)
-  pub places : k ≡ 0 → copies (slotsOf (length t)) t + count n (isNew (slotsOf (length t)) t base) ≤ cellsOf (length bodies)
+  pub places : k ≡ 0 → copies (slotsOf (length t)) t + count n (isNew (slotsOf (length t)) t base) ≤ bodiesOf (length bodies)

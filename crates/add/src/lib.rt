@@ -1,70 +1,95 @@
 // Add: names cells of memory for the innermost domain to hold.
 //
 // Which domains hold a cell is told by one mark a cell, and which bodies are in use by one mark a body. Question 4 makes these marks, and
-// the call goes on with them. Then the range is walked once for the bytes, and the entries once for the words: taken and raised entries
-// come in one walk, since pairs rise by word number. Where no label can rise the walk goes from one free slot to the next, and ends with
-// the last new cell.
+// the call goes on with them. Then the range is walked once for the bytes, and the entries once to stage those that are taken and those
+// whose label rises. Where no label can rise that walk goes from one free slot to the next, and ends with the last new cell. What is staged
+// is written at the end. The arrays for it are made after the questions, by the number of slots, and the marks before, by that of cells.
+use changes::few_bits;
+use changes::few_words;
+use changes::many_bits;
+use changes::many_words;
+use changes::no_head;
+use changes::stage_entry;
+use changes::write_staged;
+use search::Held;
 use search::count_used;
 use search::find_domain;
-use search::find_source;
+use search::find_value;
 use search::next_free_body;
 use store::Answer;
 use store::answer_of;
 use store::store_check;
 use table::FEW_CELLS;
+use table::FEW_SLOTS;
 use table::few_marks;
+use table::fields::cell_of;
+use table::fields::depth_of;
+use table::fields::entry_word;
+use table::fields::raise;
+use table::fields::writable_of;
 use table::first_word;
 use table::has_depth;
 use table::many_marks;
 use table::no_bodies;
 use table::second_word;
-use table::write_entry;
 use words::copy_cell;
-use words::finish_journal;
 use words::layout::LIVE_AT;
 use words::layout::cells_of;
-use words::layout::pairs_at;
 use words::layout::slots_of;
 use words::remaining;
 use words::same_cell;
 use words::wide;
 ghost use mathlib.Core.Path.{_≡_};
-ghost use mathlib.Core.Bool.{true, cond, not, _||_};
+ghost use mathlib.Core.Bool.{true, cond, _||_};
 ghost use mathlib.Core.List.{[]};
 ghost use Prim.Native.Nat.{ℕ, _+_, _-_, _*_, _<_, _≤_, min};
-ghost use lib.ListN.{length, getD, take};
+ghost use lib.ListN.{length, take};
 ghost use lib.Dec.{eqb};
-ghost use Rattle.words.specs.Layout.{cellAt, cellsOf, slotsOf, pairsAt, handleAt, tableWords, maxLive, maxSlots, maxCells, maxBodies};
+ghost use Rattle.words.specs.Layout.{cellAt, cellsOf, bodiesOf, slotsOf, pairsAt, handleAt, maxLive, maxSlots, maxCells, maxBodies};
 ghost use Rattle.words.specs.Scan.{all, count};
 ghost use Rattle.words.specs.Cells.{cellBytes, sameCell, cellPlan};
 ghost use Rattle.words.specs.Stores.{stores};
-ghost use Rattle.words.specs.Journal.{pairPlans, journal};
+ghost use Rattle.words.specs.Journal.{journal};
 ghost use Rattle.table.specs.Entry.{live, word1, word2, parent};
-ghost use Rattle.table.specs.Marks.{has, Blank, Marked, AllMarked};
-ghost use Rattle.table.specs.Changes.{entryStores, entryChanges};
+ghost use Rattle.table.specs.Marks.{Blank, Marked, AllMarked};
 ghost use Rattle.search.specs.Search.{valueIn};
 ghost use Rattle.search.specs.Free.{unmarkedFrom};
-ghost use Rattle.model.specs.Answer.{orElse, stepsOf};
+ghost use Rattle.changes.specs.Staged.{Stages};
+ghost use Rattle.model.specs.Answer.{stepsOf};
+ghost use Rattle.model.specs.Holdings.{rangeOk};
 ghost use Rattle.store.specs.Checks.{storeCheck};
 ghost use Rattle.store.specs.Outcome.{buffers, report, leaves, outcome};
 ghost use Rattle.store.specs.Means.{seen};
-ghost use Rattle.add.specs.Add.{isNew, parentHas, addCheck, addBytes, addWords, addCall, addMeans};
-ghost use Rattle.add.specs.Walking.{unheld, spare, nextUnheld, rangeCheck, parentCheck, roomCheck, Source, copyBytes, wordOf, bodyFrom, rises, takeChange, raiseChange, walkChange, takenAt, takenFrom, Passed, listChange, NoneBelow, Skips, Ready};
+ghost use Rattle.add.specs.Add.{addCheck, addCall, addMeans};
+ghost use Rattle.add.specs.Walking.{lacks, newIn, spare, nextUnheld, rangeCheck, parentCheck, roomCheck, heldCheck, backed, alike, Source, copyBytes};
+ghost use Rattle.add.specs.Walking.{bodyFrom, rises, raiseChange, listChange, NoneBelow, StagesOn, Walkable, Walked, Stageable, Skips, Ready, bytesOf, wordsOf, callOf};
+ghost use Rattle.add.specs.Walking.{rangeWords, Journaled};
+
+// What an add names: `count` cells from `first` on, to be held as copies (kind 0) or via parent (kind 1), read-only (label 0) or read-write
+// (label 1).
+pub struct Range {
+    pub first: usize,
+    pub count: usize,
+    pub kind: u32,
+    pub label: u32,
+}
 
 // ---- the questions: 0, or the number of the first no
 
-// Questions 5 to 8. The sum of two words is meant without wrapping.
-fn range_check(
-    table: &[u32],
-    cells: usize,
-    handle: u32,
-    base: u32,
-    len: u32,
-    kind: u32,
-    label: u32,
-) -> u32
+// Question 8: at least one cell, and all of them in memory. No sum is made, since it could wrap.
+fn range_ok(cells: usize, range: Range) -> bool
+    ensures { λ r. ⌜ r ≡ rangeOk cells (range .first) (range .count) ⌝ }
+{
+    if cells < range.count {
+        return false;
+    }
+    (1 <= range.count) & (range.first <= cells - range.count)
+}
+
+// Questions 5 to 8.
+fn range_check(table: &[u32], cells: usize, handle: u32, range: Range) -> u32
     requires { ⌜ (handleAt maxLive ≤ length (now table)) × (live (now table) ≤ maxLive) ⌝ }
-    ensures { λ r. ⌜ r ≡ rangeCheck (now (table .entry)) cells handle base len kind label ⌝ }
+    ensures { λ r. ⌜ r ≡ rangeCheck (now (table .entry)) cells handle (range .first) (range .count) (range .kind) (range .label) ⌝ }
 {
     let depth = find_domain(table, handle);
     if depth == 0 {
@@ -73,10 +98,10 @@ fn range_check(
     if depth != table[LIVE_AT] {
         return 6;
     }
-    if !((kind <= 1) & (label <= 1)) {
+    if !((range.kind <= 1) & (range.label <= 1)) {
         return 7;
     }
-    if !((1 <= len) & (wide(base) + wide(len) <= cells)) {
+    if !range_ok(cells, range) {
         return 8;
     }
     0
@@ -85,7 +110,7 @@ fn range_check(
 // Does the domain at this depth not hold the cell?
 fn is_new(held: &[u8], depth: u32, cell: usize) -> bool
     requires { ⌜ (cell < length (now held)) × (depth ≤ maxLive) ⌝ }
-    ensures { λ r. ⌜ r ≡ not (has depth (getD (now (held .entry)) cell 0)) ⌝ }
+    ensures { λ r. ⌜ r ≡ lacks (now (held .entry)) depth cell ⌝ }
 {
     !has_depth(held[cell], depth)
 }
@@ -93,33 +118,34 @@ fn is_new(held: &[u8], depth: u32, cell: usize) -> bool
 // 1 where it does not, else 0.
 fn new_here(held: &[u8], depth: u32, cell: usize) -> usize
     requires { ⌜ (cell < length (now held)) × (depth ≤ maxLive) ⌝ }
-    ensures { λ r. ⌜ r ≡ cond (not (has depth (getD (now (held .entry)) cell 0))) 1 0 ⌝ }
+    ensures { λ r. ⌜ r ≡ cond (lacks (now (held .entry)) depth cell) 1 0 ⌝ }
 {
     if is_new(held, depth, cell) { 1 } else { 0 }
 }
 
 // How many cells of the range are new.
-fn count_new(held: &[u8], depth: u32, base: usize, len: usize) -> usize
-    requires { ⌜ (base + len ≤ length (now held)) × (depth ≤ maxLive) ⌝ }
-    ensures { λ r. ⌜ r ≡ count len (unheld (now (held .entry)) depth base) ⌝ }
+fn count_new(held: &[u8], depth: u32, range: Range) -> usize
+    requires { ⌜ (range .first + range .count ≤ length (now held)) × (depth ≤ maxLive) ⌝ }
+    ensures { λ r. ⌜ r ≡ newIn (now (held .entry)) depth range ⌝ }
 {
     let mut new: usize = 0;
     let mut j: usize = 0;
-    while j < len {
-        new += new_here(held, depth, base + j);
+    while j < range.count {
+        new += new_here(held, depth, range.first + j);
         j += 1;
     }
     new
 }
 
 // Does the parent hold every new cell of the range? Depth 0, the outermost domain's parent, holds none.
-fn parent_holds(held: &[u8], depth: u32, base: usize, len: usize) -> bool
-    requires { ⌜ (base + len ≤ length (now held)) × (1 ≤ depth) × (depth ≤ maxLive) ⌝ }
-    ensures { λ r. ⌜ r ≡ all len (λ j. not (unheld (now (held .entry)) depth base j) || not (unheld (now (held .entry)) (parent depth) base j)) ⌝ }
+fn parent_holds(held: &[u8], depth: u32, range: Range) -> bool
+    requires { ⌜ (range .first + range .count ≤ length (now held)) × (1 ≤ depth) × (depth ≤ maxLive) ⌝ }
+    ensures { λ r. ⌜ r ≡ all (range .count) (λ j. backed (now (held .entry)) depth (range .first + j)) ⌝ }
 {
     let mut j: usize = 0;
-    while j < len {
-        if is_new(held, depth, base + j) & is_new(held, depth - 1, base + j) {
+    while j < range.count {
+        let cell = range.first + j;
+        if is_new(held, depth, cell) & is_new(held, depth - 1, cell) {
             return false;
         }
         j += 1;
@@ -136,16 +162,14 @@ fn same_value(
     depth: u32,
     cell: usize,
 ) -> bool
-    requires { ⌜ (slots ≤ maxSlots) × (pairsAt slots ≤ length (now table)) × (cell < maxCells) × (cellAt cell + 64 ≤ length (now memory)) × Source slots (now table) (now bodies) depth cell ⌝ }
+    requires { ⌜ (slots ≤ maxSlots) × (pairsAt slots ≤ length (now table)) × (depth ≤ live (now table)) × (live (now table) ≤ maxLive) ⌝ }
+    requires { ⌜ (cell < maxCells) × (cellAt cell + 64 ≤ length (now memory)) × Source slots (now table) (now bodies) depth cell ⌝ }
     ensures { λ r. ⌜ r ≡ sameCell (valueIn slots (now (table .entry)) (now (bodies .entry)) depth cell) (cellBytes (now (memory .entry)) cell) ⌝ }
 {
-    let source = find_source(table, slots, depth, cell as u32);
-    same_cell(
-        bodies,
-        wide(second_word(table, slots, source)),
-        memory,
-        cell,
-    )
+    match find_value(table, slots, depth, cell as u32) {
+        Held::Nowhere => false,
+        Held::InBody(_, body) => same_cell(bodies, wide(body), memory, cell),
+    }
 }
 
 // Has memory the parent's value of a cell? Of one that is not new this is not asked.
@@ -158,9 +182,10 @@ fn cell_agrees(
     depth: u32,
     cell: usize,
 ) -> bool
-    requires { ⌜ (slots ≤ maxSlots) × (pairsAt slots ≤ length (now table)) × (cell < maxCells) × (cellAt cell + 64 ≤ length (now memory)) × (cell < length (now held)) × (1 ≤ depth) × (depth ≤ maxLive) ⌝ }
-    requires { ⌜ (not (has depth (getD (now held) cell 0)) ≡ true → Source slots (now table) (now bodies) (parent depth) cell) ⌝ }
-    ensures { λ r. ⌜ r ≡ (not (not (has depth (getD (now (held .entry)) cell 0))) || sameCell (valueIn slots (now (table .entry)) (now (bodies .entry)) (parent depth) cell) (cellBytes (now (memory .entry)) cell)) ⌝ }
+    requires { ⌜ (slots ≤ maxSlots) × (pairsAt slots ≤ length (now table)) × (1 ≤ depth) × (depth ≤ live (now table)) × (live (now table) ≤ maxLive) ⌝ }
+    requires { ⌜ (cell < maxCells) × (cellAt cell + 64 ≤ length (now memory)) × (cell < length (now held)) ⌝ }
+    requires { ⌜ (lacks (now held) depth cell ≡ true → Source slots (now table) (now bodies) (parent depth) cell) ⌝ }
+    ensures { λ r. ⌜ r ≡ alike (now (memory .entry)) (now (bodies .entry)) slots (now (table .entry)) (now (held .entry)) depth cell ⌝ }
 {
     if !is_new(held, depth, cell) {
         return true;
@@ -176,16 +201,20 @@ fn parent_agrees(
     slots: usize,
     held: &[u8],
     depth: u32,
-    base: usize,
-    len: usize,
+    range: Range,
 ) -> bool
-    requires { ⌜ (slots ≤ maxSlots) × (pairsAt slots ≤ length (now table)) × (base + len ≤ maxCells) × (cellAt (base + len) ≤ length (now memory)) × (base + len ≤ length (now held)) × (1 ≤ depth) × (depth ≤ maxLive) ⌝ }
-    requires { ⌜ ((j : ℕ) → j < len → unheld (now held) depth base j ≡ true → Source slots (now table) (now bodies) (parent depth) (base + j)) ⌝ }
-    ensures { λ r. ⌜ r ≡ all len (λ j. not (unheld (now (held .entry)) depth base j) || sameCell (valueIn slots (now (table .entry)) (now (bodies .entry)) (parent depth) (base + j)) (cellBytes (now (memory .entry)) (base + j))) ⌝ }
+    requires { ⌜ (slots ≤ maxSlots) × (pairsAt slots ≤ length (now table)) × (1 ≤ depth) × (depth ≤ live (now table)) × (live (now table) ≤ maxLive) ⌝ }
+    requires { ⌜ (range .first + range .count ≤ maxCells) × (cellAt (range .first + range .count) ≤ length (now memory))
+        × (range .first + range .count ≤ length (now held)) ⌝ }
+    requires { ⌜ ((j : ℕ) → j < range .count → lacks (now held) depth (range .first + j) ≡ true
+        → Source slots (now table) (now bodies) (parent depth) (range .first + j)) ⌝ }
+    ensures { λ r. ⌜ r ≡ all (range .count) (λ j.
+        alike (now (memory .entry)) (now (bodies .entry)) slots (now (table .entry)) (now (held .entry)) depth (range .first + j)) ⌝ }
 {
     let mut j: usize = 0;
-    while j < len {
-        if !cell_agrees(memory, bodies, table, slots, held, depth, base + j) {
+    while j < range.count {
+        let cell = range.first + j;
+        if !cell_agrees(memory, bodies, table, slots, held, depth, cell) {
             return false;
         }
         j += 1;
@@ -194,36 +223,23 @@ fn parent_agrees(
 }
 
 // Questions 11 and 12, which are put for via parent alone.
-fn parent_check(
-    memory: &[u8],
-    bodies: &[u8],
-    table: &[u32],
-    held: &[u8],
-    base: usize,
-    len: usize,
-    kind: u32,
-) -> u32
-    requires { ⌜ (storeCheck (length (now memory)) (length (now bodies)) (now table) ≡ 0) × (1 ≤ live (now table)) × (base + len ≤ cellsOf (length (now memory))) ⌝ }
-    requires { ⌜ (base + len ≤ length (now held)) × Marked (slotsOf (length (now table))) (now table) (slotsOf (length (now table))) (now held) ⌝ }
-    ensures { λ r. ⌜ r ≡ parentCheck (now (memory .entry)) (now (bodies .entry)) (slotsOf (length (now (table .entry)))) (now (table .entry)) base len kind ⌝ }
+fn parent_check(memory: &[u8], bodies: &[u8], table: &[u32], held: &[u8], range: Range) -> u32
+    requires { ⌜ (storeCheck (length (now memory)) (length (now bodies)) (now table) ≡ 0) × (1 ≤ live (now table))
+        × (range .first + range .count ≤ cellsOf (length (now memory))) ⌝ }
+    requires { ⌜ (range .first + range .count ≤ length (now held))
+        × Marked (slotsOf (length (now table))) (now table) (slotsOf (length (now table))) (now held) ⌝ }
+    ensures { λ r. ⌜ r ≡ parentCheck (now (memory .entry)) (now (bodies .entry)) (slotsOf (length (now (table .entry)))) (now (table .entry))
+        (range .first) (range .count) (range .kind) ⌝ }
 {
-    if kind == 0 {
+    if range.kind == 0 {
         return 0;
     }
     let depth = table[LIVE_AT];
-    if !parent_holds(held, depth, base, len) {
+    if !parent_holds(held, depth, range) {
         return 11;
     }
-    if !parent_agrees(
-        memory,
-        bodies,
-        table,
-        slots_of(table.len()),
-        held,
-        depth,
-        base,
-        len,
-    ) {
+    let slots = slots_of(table.len());
+    if !parent_agrees(memory, bodies, table, slots, held, depth, range) {
         return 12;
     }
     0
@@ -248,30 +264,24 @@ fn room_check(table: &[u32], slots: usize, bodies: usize, new: usize, kind: u32)
 }
 
 // Questions 11, 12, 16 and 17: those that ask which cells are new.
-fn held_check(
-    memory: &[u8],
-    bodies: &[u8],
-    table: &[u32],
-    held: &[u8],
-    base: usize,
-    len: usize,
-    kind: u32,
-) -> u32
-    requires { ⌜ (storeCheck (length (now memory)) (length (now bodies)) (now table) ≡ 0) × (1 ≤ live (now table)) × (base + len ≤ cellsOf (length (now memory))) ⌝ }
-    requires { ⌜ (base + len ≤ length (now held)) × Marked (slotsOf (length (now table))) (now table) (slotsOf (length (now table))) (now held) ⌝ }
-    ensures { λ r. ⌜ r ≡ orElse (parentCheck (now (memory .entry)) (now (bodies .entry)) (slotsOf (length (now (table .entry)))) (now (table .entry)) base len kind) (roomCheck (slotsOf (length (now (table .entry)))) (now (table .entry)) (cellsOf (length (now (bodies .entry)))) (count len (isNew (slotsOf (length (now (table .entry)))) (now (table .entry)) base)) kind) ⌝ }
+fn held_check(memory: &[u8], bodies: &[u8], table: &[u32], held: &[u8], range: Range) -> u32
+    requires { ⌜ (storeCheck (length (now memory)) (length (now bodies)) (now table) ≡ 0) × (1 ≤ live (now table))
+        × (range .first + range .count ≤ cellsOf (length (now memory))) ⌝ }
+    requires { ⌜ (range .first + range .count ≤ length (now held))
+        × Marked (slotsOf (length (now table))) (now table) (slotsOf (length (now table))) (now held) ⌝ }
+    ensures { λ r. ⌜ r ≡ heldCheck (now (memory .entry)) (now (bodies .entry)) (now (table .entry)) (range .first) (range .count) (range .kind) ⌝ }
 {
-    let no = parent_check(memory, bodies, table, held, base, len, kind);
+    let no = parent_check(memory, bodies, table, held, range);
     if no != 0 {
         return no;
     }
-    let new = count_new(held, table[LIVE_AT], base, len);
+    let new = count_new(held, table[LIVE_AT], range);
     room_check(
         table,
         slots_of(table.len()),
         cells_of(bodies.len()),
         new,
-        kind,
+        range.kind,
     )
 }
 
@@ -283,33 +293,23 @@ fn add_check(
     seen: &mut [u8],
     used: &mut [u8],
     handle: u32,
-    base: u32,
-    len: u32,
-    kind: u32,
-    label: u32,
+    range: Range,
 ) -> u32
     requires room { ⌜ (min (cellsOf (length (now memory))) maxCells ≤ length (now seen)) × (length (now used) ≡ maxBodies) ⌝ }
     requires blank { ⌜ Blank (now seen) × Blank (now used) ⌝ }
-    ensures no { λ r. ⌜ r ≡ addCheck (now (memory .entry)) (now (bodies .entry)) (now (table .entry)) handle base len kind label ⌝ }
+    ensures no { λ r. ⌜ r ≡ addCheck (now (memory .entry)) (now (bodies .entry)) (now (table .entry)) handle
+        (range .first) (range .count) (range .kind) (range .label) ⌝ }
     ensures marks { λ r. ⌜ (r ≡ 0 → AllMarked (slotsOf (length (now (table .entry)))) (now (table .entry)) (now (seen .exit)) (now (used .exit))) ⌝ }
 {
     let no = store_check(memory.len(), bodies.len(), table, seen, used);
     if no != 0 {
         return no;
     }
-    let out = range_check(
-        table,
-        cells_of(memory.len()),
-        handle,
-        base,
-        len,
-        kind,
-        label,
-    );
+    let out = range_check(table, cells_of(memory.len()), handle, range);
     if out != 0 {
         return out;
     }
-    held_check(memory, bodies, table, seen, wide(base), wide(len), kind)
+    held_check(memory, bodies, table, seen, range)
 }
 
 // ---- the bytes
@@ -325,10 +325,13 @@ fn copy_one(
     from: usize,
     budget: usize,
 ) -> usize
-    requires { ⌜ (cell < length (now held)) × (depth ≤ maxLive) × (cellAt cell + 64 ≤ length (now memory)) × (from ≤ cellsOf (length (now bodies))) × (cellsOf (length (now bodies)) ≤ length (now used)) ⌝ }
-    requires { ⌜ (not (has depth (getD (now held) cell 0)) ≡ true → unmarkedFrom (cellsOf (length (now bodies))) (now used) from < cellsOf (length (now bodies))) ⌝ }
-    ensures bytes { λ _. ⌜ now (bodies .exit) ≡ stores (take budget (cond (not (has depth (getD (now (held .entry)) cell 0))) (cellPlan (now (memory .entry)) cell (unmarkedFrom (cellsOf (length (now (bodies .entry)))) (now (used .entry)) from)) [])) (now (bodies .entry)) ⌝ }
-    ensures next { λ r. ⌜ r ≡ cond (not (has depth (getD (now (held .entry)) cell 0))) (unmarkedFrom (cellsOf (length (now (bodies .entry)))) (now (used .entry)) from + 1) from ⌝ }
+    requires { ⌜ (cell < length (now held)) × (depth ≤ maxLive) × (cellAt cell + 64 ≤ length (now memory))
+        × (from ≤ bodiesOf (length (now bodies))) × (bodiesOf (length (now bodies)) ≤ length (now used)) ⌝ }
+    requires { ⌜ (lacks (now held) depth cell ≡ true → unmarkedFrom (bodiesOf (length (now bodies))) (now used) from < bodiesOf (length (now bodies))) ⌝ }
+    ensures bytes { λ _. ⌜ now (bodies .exit) ≡ stores (take budget (cond (lacks (now (held .entry)) depth cell)
+        (cellPlan (now (memory .entry)) cell (unmarkedFrom (bodiesOf (length (now (bodies .entry)))) (now (used .entry)) from)) [])) (now (bodies .entry)) ⌝ }
+    ensures next { λ r. ⌜ r ≡ cond (lacks (now (held .entry)) depth cell)
+        (unmarkedFrom (bodiesOf (length (now (bodies .entry)))) (now (used .entry)) from + 1) from ⌝ }
 {
     if !is_new(held, depth, cell) {
         return from;
@@ -345,26 +348,27 @@ fn copy_new(
     held: &[u8],
     depth: u32,
     used: &[u8],
-    base: usize,
-    len: usize,
-    kind: u32,
+    range: Range,
     start: usize,
     budget: usize,
 ) -> usize
-    requires { ⌜ (base + len ≤ length (now held)) × (depth ≤ maxLive) × (base + len ≤ maxCells) × (cellAt (base + len) ≤ length (now memory)) × (cellsOf (length (now bodies)) ≤ length (now used)) ⌝ }
-    requires { ⌜ (kind ≡ 0 → count len (unheld (now held) depth base) ≤ count (cellsOf (length (now bodies))) (spare (now used))) ⌝ }
-    requires { ⌜ (kind ≡ 0 → NoneBelow (now used) (cellsOf (length (now bodies))) start) ⌝ }
-    ensures bytes { λ _. ⌜ now (bodies .exit) ≡ stores (take budget (copyBytes (cellsOf (length (now (bodies .entry)))) (now (memory .entry)) (now (held .entry)) (now (used .entry)) depth base len kind)) (now (bodies .entry)) ⌝ }
-    ensures steps { λ r. ⌜ (r ≡ length (copyBytes (cellsOf (length (now (bodies .entry)))) (now (memory .entry)) (now (held .entry)) (now (used .entry)) depth base len kind)) × (r ≤ 64 * len) ⌝ }
+    requires { ⌜ (range .first + range .count ≤ length (now held)) × (depth ≤ maxLive) × (range .first + range .count ≤ maxCells)
+        × (cellAt (range .first + range .count) ≤ length (now memory)) × (bodiesOf (length (now bodies)) ≤ length (now used)) ⌝ }
+    requires { ⌜ (range .kind ≡ 0 → newIn (now held) depth range ≤ count (bodiesOf (length (now bodies))) (spare (now used))) ⌝ }
+    requires { ⌜ (range .kind ≡ 0 → NoneBelow (now used) (bodiesOf (length (now bodies))) start) ⌝ }
+    ensures bytes { λ _. ⌜ now (bodies .exit) ≡ stores (take budget (copyBytes (bodiesOf (length (now (bodies .entry)))) (now (memory .entry))
+        (now (held .entry)) (now (used .entry)) depth (range .first) (range .count) (range .kind))) (now (bodies .entry)) ⌝ }
+    ensures steps { λ r. ⌜ (r ≡ length (copyBytes (bodiesOf (length (now (bodies .entry)))) (now (memory .entry))
+        (now (held .entry)) (now (used .entry)) depth (range .first) (range .count) (range .kind))) × (r ≤ 64 * range .count) ⌝ }
 {
-    if kind != 0 {
+    if range.kind != 0 {
         return 0;
     }
     let mut made: usize = 0;
     let mut from = start;
     let mut j: usize = 0;
-    while j < len {
-        let cell = base + j;
+    while j < range.count {
+        let cell = range.first + j;
         from = copy_one(
             memory,
             cell,
@@ -383,21 +387,20 @@ fn copy_new(
 
 // ---- the words
 
-// Where the walk over the entries stands: the cell of the range and the body to go on from, and the pairs written.
+// Where the walk over the entries stands: the cell of the range and the body to go on from.
 pub struct Cursors {
     pub at: usize,
     pub from: usize,
-    pub pairs: usize,
 }
 
-// The lowest new cell of the range, from its `at`-th on, or `len`.
-fn next_new(held: &[u8], depth: u32, base: usize, len: usize, at: usize) -> usize
-    requires { ⌜ (base + len ≤ length (now held)) × (depth ≤ maxLive) × (at ≤ len) ⌝ }
-    ensures { λ r. ⌜ r ≡ nextUnheld (now (held .entry)) depth base len at ⌝ }
+// The lowest new cell of the range, from its `at`-th on, or their number.
+fn next_new(held: &[u8], depth: u32, range: Range, at: usize) -> usize
+    requires { ⌜ (range .first + range .count ≤ length (now held)) × (depth ≤ maxLive) × (at ≤ range .count) ⌝ }
+    ensures { λ r. ⌜ r ≡ nextUnheld (now (held .entry)) depth (range .first) (range .count) at ⌝ }
 {
     let mut j = at;
-    while j < len {
-        if is_new(held, depth, base + j) {
+    while j < range.count {
+        if is_new(held, depth, range.first + j) {
             return j;
         }
         j += 1;
@@ -416,144 +419,88 @@ fn take_body(used: &[u8], bodies: usize, kind: u32, from: usize) -> usize
     next_free_body(used, bodies, from)
 }
 
-// A free slot takes the next new cell, while there is one.
-fn take_slot(
-    table: &mut [u32],
-    slots: usize,
-    i: usize,
-    held: &[u8],
-    used: &[u8],
-    bodies: usize,
-    depth: u32,
-    base: usize,
-    len: usize,
-    kind: u32,
-    label: u32,
-    walk: Cursors,
-    budget: usize,
-) -> Cursors
-    requires { ⌜ (i < slots) × (slots ≤ maxSlots) × (pairsAt slots + 2 * walk .pairs + 3 < length (now table)) × (length (now table) ≤ tableWords maxSlots) × (base + len ≤ length (now held)) × (base + len ≤ maxCells) × (walk .at ≤ len) ⌝ }
-    requires { ⌜ (depth ≤ maxLive) × (kind ≤ 1) × (label ≤ 1) × (bodies ≤ maxBodies) × (kind ≡ 0 → (bodies ≤ length (now used)) × (walk .from ≤ bodies)) ⌝ }
-    ensures { λ r. ⌜ Passed slots i (walk .at) (walk .from) (walk .pairs) (takeChange (now (held .entry)) (now (used .entry)) bodies depth base len kind label (walk .at) (walk .from)) (takenAt (now (held .entry)) depth base len (walk .at)) (takenFrom (now (held .entry)) (now (used .entry)) bodies depth base len kind (walk .at) (walk .from)) budget (pairsAt slots + 2 * walk .pairs) (now (table .entry)) (now (table .exit)) r ⌝ }
-{
-    let j = next_new(held, depth, base, len, walk.at);
-    if len <= j {
-        return Cursors {
-            at: len,
-            from: walk.from,
-            pairs: walk.pairs,
-        };
-    }
-    let body = take_body(used, bodies, kind, walk.from);
-    let word = 268435456 * depth + 134217728 * label + 67108864 * kind + (base + j) as u32;
-    write_entry(
-        table,
-        slots,
-        pairs_at(slots) + 2 * walk.pairs,
-        i,
-        word,
-        body as u32,
-        budget,
-    );
-    Cursors {
-        at: j + 1,
-        from: body + 1,
-        pairs: walk.pairs + 2,
-    }
-}
-
 // Does the label of an entry with this first word rise: of the innermost domain, in the range, and read-only under a read-write label?
-fn is_raised(word: u32, depth: u32, base: usize, len: usize, label: u32) -> bool
-    requires { ⌜ base + len ≤ maxCells ⌝ }
-    ensures { λ r. ⌜ r ≡ rises depth base len label word ⌝ }
+fn is_raised(word: u32, depth: u32, range: Range) -> bool
+    requires { ⌜ range .first + range .count ≤ maxCells ⌝ }
+    ensures { λ r. ⌜ r ≡ rises depth (range .first) (range .count) (range .label) word ⌝ }
 {
-    let cell = wide(word % 65536);
-    (word / 268435456 == depth)
-        & (((base <= cell) & (cell < base + len)) & ((label == 1) & (word / 134217728 % 2 == 0)))
+    let cell = cell_of(word);
+    (depth_of(word) == depth)
+        & (((range.first <= cell) & (cell < range.first + range.count))
+            & ((range.label == 1) & (writable_of(word) == 0)))
 }
 
 // An entry in use becomes read-write where its label rises.
 fn raise_entry(
-    table: &mut [u32],
+    table: &[u32],
     slots: usize,
     i: usize,
     depth: u32,
-    base: usize,
-    len: usize,
-    label: u32,
-    walk: Cursors,
-    budget: usize,
-) -> Cursors
-    requires { ⌜ (i < slots) × (slots ≤ maxSlots) × (pairsAt slots + 2 * walk .pairs + 3 < length (now table)) × (length (now table) ≤ tableWords maxSlots) × (base + len ≤ maxCells) ⌝ }
-    ensures { λ r. ⌜ Passed slots i (walk .at) (walk .from) (walk .pairs) (raiseChange depth base len label (word1 slots (now (table .entry)) i) (word2 slots (now (table .entry)) i)) (walk .at) (walk .from) budget (pairsAt slots + 2 * walk .pairs) (now (table .entry)) (now (table .exit)) r ⌝ }
+    range: Range,
+    words: &mut [u32],
+    changed: &mut [u64],
+)
+    requires { ⌜ (i < slots) × (slots ≤ maxSlots) × (pairsAt slots ≤ length (now table)) × (range .first + range .count ≤ maxCells) ⌝ }
+    requires { ⌜ (2 * slots ≤ length (now words)) × (slots ≤ 64 * length (now changed)) ⌝ }
+    ensures { λ _. ⌜ StagesOn i (raiseChange depth (range .first) (range .count) (range .label) (word1 slots (now (table .entry)) i) (word2 slots (now (table .entry)) i))
+        (now (words .entry)) (now (changed .entry)) (now (words .exit)) (now (changed .exit)) ⌝ }
 {
     let word = first_word(table, slots, i);
-    if !is_raised(word, depth, base, len, label) {
-        return walk;
+    if !is_raised(word, depth, range) {
+        return;
     }
+    let raised = raise(word);
     let body = second_word(table, slots, i);
-    write_entry(
-        table,
-        slots,
-        pairs_at(slots) + 2 * walk.pairs,
-        i,
-        word + 134217728,
-        body,
-        budget,
-    );
-    Cursors {
-        at: walk.at,
-        from: walk.from,
-        pairs: walk.pairs + 2,
-    }
+    stage_entry(words, changed, i, raised, body);
 }
 
-// One entry of the walk: a free slot or an entry in use.
+// One entry of the walk: an entry in use, or a free slot, which takes the next new cell while there is one.
 fn pass_entry(
-    table: &mut [u32],
+    table: &[u32],
     slots: usize,
     i: usize,
     held: &[u8],
     used: &[u8],
     bodies: usize,
-    depth: u32,
-    base: usize,
-    len: usize,
-    kind: u32,
-    label: u32,
+    range: Range,
     walk: Cursors,
-    budget: usize,
+    words: &mut [u32],
+    changed: &mut [u64],
 ) -> Cursors
-    requires { ⌜ (i < slots) × (slots ≤ maxSlots) × (pairsAt slots + 2 * walk .pairs + 3 < length (now table)) × (length (now table) ≤ tableWords maxSlots) × (base + len ≤ length (now held)) × (base + len ≤ maxCells) × (walk .at ≤ len) ⌝ }
-    requires { ⌜ (depth ≤ maxLive) × (kind ≤ 1) × (label ≤ 1) × (bodies ≤ maxBodies) × (kind ≡ 0 → (bodies ≤ length (now used)) × (walk .from ≤ bodies)) ⌝ }
-    ensures { λ r. ⌜ Passed slots i (walk .at) (walk .from) (walk .pairs) (walkChange (now (held .entry)) (now (used .entry)) bodies depth base len kind label (walk .at) (walk .from) (word1 slots (now (table .entry)) i) (word2 slots (now (table .entry)) i)) (cond (eqb (word1 slots (now (table .entry)) i) 0) (takenAt (now (held .entry)) depth base len (walk .at)) (walk .at)) (cond (eqb (word1 slots (now (table .entry)) i) 0) (takenFrom (now (held .entry)) (now (used .entry)) bodies depth base len kind (walk .at) (walk .from)) (walk .from)) budget (pairsAt slots + 2 * walk .pairs) (now (table .entry)) (now (table .exit)) r ⌝ }
+    requires { ⌜ (i < slots) × (2 * slots ≤ length (now words)) × (slots ≤ 64 * length (now changed)) ⌝ }
+    requires { ⌜ Walkable (now held) (now used) slots bodies (now table) range ⌝ }
+    requires { ⌜ Walked (now held) (now used) slots bodies (now table) range i walk (now words) (now changed) ⌝ }
+    ensures { λ r. ⌜ Walked (now (held .entry)) (now (used .entry)) slots bodies (now (table .entry)) range (i + 1) r
+        (now (words .exit)) (now (changed .exit)) ⌝ }
 {
-    if first_word(table, slots, i) == 0 {
-        return take_slot(
-            table,
-            slots,
-            i,
-            held,
-            used,
-            bodies,
-            depth,
-            base,
-            len,
-            kind,
-            label,
-            walk,
-            budget,
-        );
+    let depth = table[LIVE_AT];
+    if first_word(table, slots, i) != 0 {
+        raise_entry(table, slots, i, depth, range, words, changed);
+        return walk;
     }
-    raise_entry(table, slots, i, depth, base, len, label, walk, budget)
+    let at = next_new(held, depth, range, walk.at);
+    if range.count <= at {
+        return Cursors {
+            at: range.count,
+            from: walk.from,
+        };
+    }
+    let body = take_body(used, bodies, range.kind, walk.from);
+    let cell = (range.first + at) as u32;
+    let word = entry_word(depth, range.kind, range.label, cell);
+    stage_entry(words, changed, i, word, body as u32);
+    Cursors {
+        at: at + 1,
+        from: body + 1,
+    }
 }
 
 // Can no label rise: is the label read-only, or every cell of the range new?
-fn none_rises(held: &[u8], depth: u32, base: usize, len: usize, label: u32) -> bool
-    requires { ⌜ (base + len ≤ length (now held)) × (depth ≤ maxLive) ⌝ }
-    ensures { λ r. ⌜ r ≡ (eqb label 0 || eqb (count len (unheld (now (held .entry)) depth base)) len) ⌝ }
+fn none_rises(held: &[u8], depth: u32, range: Range) -> bool
+    requires { ⌜ (range .first + range .count ≤ length (now held)) × (depth ≤ maxLive) ⌝ }
+    ensures { λ r. ⌜ r ≡ (eqb (range .label) 0 || eqb (newIn (now (held .entry)) depth range) (range .count)) ⌝ }
 {
-    (label == 0) | (count_new(held, depth, base, len) == len)
+    (range.label == 0) | (count_new(held, depth, range) == range.count)
 }
 
 // The first entry from `from` on that may change, or `slots`: where no label rises these are the free slots, and none once every new cell is
@@ -578,36 +525,29 @@ fn next_change(table: &[u32], slots: usize, from: usize, still: bool, taken: boo
     i
 }
 
-// The pairs of all entries that are taken or raised. Returns how many they are, uncut.
-fn add_pairs(
-    table: &mut [u32],
+// Stages every entry that a range takes or raises. The bodies are looked for from `start` on.
+fn stage_range(
+    table: &[u32],
+    slots: usize,
     held: &[u8],
     used: &[u8],
     bodies: usize,
-    base: usize,
-    len: usize,
-    kind: u32,
-    label: u32,
+    range: Range,
     start: usize,
-    budget: usize,
-) -> usize
-    requires { ⌜ (length (now table) ≡ tableWords (slotsOf (length (now table)))) × (slotsOf (length (now table)) ≤ maxSlots) × (base + len ≤ length (now held)) × (base + len ≤ maxCells) × (live (now table) ≤ maxLive) × (kind ≤ 1) × (label ≤ 1) × (bodies ≤ maxBodies) × (bodies ≤ length (now used)) ⌝ }
-    requires { ⌜ (kind ≡ 0 → count len (unheld (now held) (live (now table)) base) ≤ count bodies (spare (now used))) × (kind ≡ 0 → NoneBelow (now used) bodies start) ⌝ }
-    requires { ⌜ (1 ≤ live (now table)) × Marked (slotsOf (length (now table))) (now table) (slotsOf (length (now table))) (now held) ⌝ }
-    ensures count { λ r. ⌜ (r ≡ length (entryChanges (slotsOf (length (now (table .entry)))) (listChange (now (held .entry)) (now (used .entry)) (slotsOf (length (now (table .entry)))) bodies (now (table .entry)) base len kind label))) × (r ≤ 2 * slotsOf (length (now (table .entry)))) ⌝ }
-    ensures words { λ _. ⌜ now (table .exit) ≡ stores (take budget (pairPlans (pairsAt (slotsOf (length (now (table .entry))))) (entryChanges (slotsOf (length (now (table .entry)))) (listChange (now (held .entry)) (now (used .entry)) (slotsOf (length (now (table .entry)))) bodies (now (table .entry)) base len kind label)))) (now (table .entry)) ⌝ }
+    words: &mut [u32],
+    changed: &mut [u64],
+)
+    requires small { ⌜ (2 * slots ≤ length (now words)) × (slots ≤ 64 * length (now changed)) ⌝ }
+    requires able { ⌜ Stageable (now held) (now used) slots bodies (now table) range start ⌝ }
+    requires blank { ⌜ Stages 0 (listChange (now held) (now used) slots bodies (now table) range) (now words) (now changed) ⌝ }
+    ensures { λ _. ⌜ Stages slots (listChange (now (held .entry)) (now (used .entry)) slots bodies (now (table .entry)) range)
+        (now (words .exit)) (now (changed .exit)) ⌝ }
 {
-    let slots = slots_of(table.len());
     let depth = table[LIVE_AT];
-    let still = none_rises(held, depth, base, len, label);
-    let mut walk = Cursors {
-        at: 0,
-        from: start,
-        pairs: 0,
-    };
+    let still = none_rises(held, depth, range);
+    let mut walk = Cursors { at: 0, from: start };
     let mut i = next_change(table, slots, 0, still, false);
     while i < slots {
-        let left = remaining(budget, 2 * walk.pairs);
         walk = pass_entry(
             table,
             slots,
@@ -615,51 +555,130 @@ fn add_pairs(
             held,
             used,
             bodies,
-            depth,
-            base,
-            len,
-            kind,
-            label,
+            range,
             walk,
-            left,
+            words,
+            changed,
         );
-        i = next_change(table, slots, i + 1, still, len <= walk.at);
+        i = next_change(table, slots, i + 1, still, range.count <= walk.at);
     }
-    walk.pairs
 }
 
-// Add's part on the table. Returns its steps, uncut.
+// Stages a range in arrays lent for it in which nothing is staged yet, and writes what is staged. Gives the steps uncut.
+fn write_range(
+    table: &mut [u32],
+    slots: usize,
+    held: &[u8],
+    used: &[u8],
+    bodies: usize,
+    range: Range,
+    start: usize,
+    words: &mut [u32],
+    changed: &mut [u64],
+    budget: usize,
+) -> usize
+    requires small { ⌜ (2 * slots ≤ length (now words)) × (slots ≤ 64 * length (now changed)) ⌝ }
+    requires able { ⌜ Stageable (now held) (now used) slots bodies (now table) range start ⌝ }
+    requires blank { ⌜ Stages 0 (listChange (now held) (now used) slots bodies (now table) range) (now words) (now changed) ⌝ }
+    ensures { λ r. ⌜ Journaled slots (rangeWords (now (held .entry)) (now (used .entry)) slots bodies (now (table .entry)) range) budget
+        (now (table .entry)) r (now (table .exit)) ⌝ }
+{
+    stage_range(
+        table,
+        slots,
+        held,
+        used,
+        bodies,
+        range,
+        start,
+        words,
+        changed,
+    );
+    write_staged(table, slots, no_head(), words, changed, budget)
+}
+
+// The same with arrays for a table of few slots.
+fn write_few(
+    table: &mut [u32],
+    slots: usize,
+    held: &[u8],
+    used: &[u8],
+    bodies: usize,
+    range: Range,
+    start: usize,
+    budget: usize,
+) -> usize
+    requires { ⌜ (slots ≤ 256) × Stageable (now held) (now used) slots bodies (now table) range start ⌝ }
+    ensures { λ r. ⌜ Journaled slots (rangeWords (now (held .entry)) (now (used .entry)) slots bodies (now (table .entry)) range) budget
+        (now (table .entry)) r (now (table .exit)) ⌝ }
+{
+    let mut words = few_words();
+    let mut changed = few_bits();
+    write_range(
+        table,
+        slots,
+        held,
+        used,
+        bodies,
+        range,
+        start,
+        &mut words,
+        &mut changed,
+        budget,
+    )
+}
+
+// The same with arrays for any table.
+fn write_many(
+    table: &mut [u32],
+    slots: usize,
+    held: &[u8],
+    used: &[u8],
+    bodies: usize,
+    range: Range,
+    start: usize,
+    budget: usize,
+) -> usize
+    requires { ⌜ Stageable (now held) (now used) slots bodies (now table) range start ⌝ }
+    ensures { λ r. ⌜ Journaled slots (rangeWords (now (held .entry)) (now (used .entry)) slots bodies (now (table .entry)) range) budget
+        (now (table .entry)) r (now (table .exit)) ⌝ }
+{
+    let mut words = many_words();
+    let mut changed = many_bits();
+    write_range(
+        table,
+        slots,
+        held,
+        used,
+        bodies,
+        range,
+        start,
+        &mut words,
+        &mut changed,
+        budget,
+    )
+}
+
+// Add's words, by the marks of all entries. Returns their steps, uncut.
 fn add_words(
     table: &mut [u32],
     held: &[u8],
     used: &[u8],
-    bodies: usize,
-    base: usize,
-    len: usize,
-    kind: u32,
-    label: u32,
+    places: usize,
+    range: Range,
     start: usize,
     budget: usize,
 ) -> usize
-    requires { ⌜ (length (now table) ≡ tableWords (slotsOf (length (now table)))) × (slotsOf (length (now table)) ≤ maxSlots) × (base + len ≤ length (now held)) × (base + len ≤ maxCells) × (live (now table) ≤ maxLive) × (kind ≤ 1) × (label ≤ 1) × (bodies ≤ maxBodies) × (bodies ≤ length (now used)) ⌝ }
-    requires { ⌜ (kind ≡ 0 → count len (unheld (now held) (live (now table)) base) ≤ count bodies (spare (now used))) × (kind ≡ 0 → NoneBelow (now used) bodies start) ⌝ }
-    requires { ⌜ (1 ≤ live (now table)) × Marked (slotsOf (length (now table))) (now table) (slotsOf (length (now table))) (now held) ⌝ }
-    ensures steps { λ r. ⌜ (r ≡ length (journal (pairsAt (slotsOf (length (now (table .entry))))) (entryChanges (slotsOf (length (now (table .entry)))) (listChange (now (held .entry)) (now (used .entry)) (slotsOf (length (now (table .entry)))) bodies (now (table .entry)) base len kind label)))) × (r ≤ 24578) ⌝ }
-    ensures words { λ _. ⌜ now (table .exit) ≡ stores (take budget (journal (pairsAt (slotsOf (length (now (table .entry))))) (entryChanges (slotsOf (length (now (table .entry)))) (listChange (now (held .entry)) (now (used .entry)) (slotsOf (length (now (table .entry)))) bodies (now (table .entry)) base len kind label)))) (now (table .entry)) ⌝ }
+    requires { ⌜ Stageable (now held) (now used) (slotsOf (length (now table))) places (now table) range start ⌝ }
+    ensures { λ r. ⌜ Journaled (slotsOf (length (now (table .entry))))
+        (rangeWords (now (held .entry)) (now (used .entry)) (slotsOf (length (now (table .entry)))) places (now (table .entry)) range) budget
+        (now (table .entry)) r (now (table .exit)) ⌝ }
 {
-    let pairs = add_pairs(
-        table,
-        held,
-        used,
-        bodies,
-        base,
-        len,
-        kind,
-        label,
-        start,
-        budget,
-    );
-    finish_journal(table, pairs_at(slots_of(table.len())), pairs, budget)
+    let slots = slots_of(table.len());
+    if slots <= FEW_SLOTS {
+        return write_few(table, slots, held, used, places, range, start, budget);
+    }
+    write_many(table, slots, held, used, places, range, start, budget)
 }
 
 // All of add's stores, once no question refuses it. Returns their number, uncut.
@@ -669,47 +688,27 @@ fn add_stores(
     table: &mut [u32],
     held: &[u8],
     used: &[u8],
-    base: usize,
-    len: usize,
-    kind: u32,
-    label: u32,
+    range: Range,
     budget: usize,
 ) -> usize
-    requires { ⌜ Ready (now memory) (now bodies) (now table) base len kind label ⌝ }
-    requires { ⌜ (base + len ≤ length (now held)) × (length (now used) ≡ maxBodies) × AllMarked (slotsOf (length (now table))) (now table) (now held) (now used) ⌝ }
-    ensures steps { λ r. ⌜ r ≡ stepsOf (length (addBytes (cellsOf (length (now (bodies .entry)))) (now (memory .entry)) (now (table .entry)) base len kind)) (length (addWords (cellsOf (length (now (bodies .entry)))) (now (table .entry)) base len kind label)) ⌝ }
-    ensures bytes { λ _. ⌜ now (bodies .exit) ≡ stores (take budget (addBytes (cellsOf (length (now (bodies .entry)))) (now (memory .entry)) (now (table .entry)) base len kind)) (now (bodies .entry)) ⌝ }
-    ensures words { λ _. ⌜ now (table .exit) ≡ stores (take (budget - length (addBytes (cellsOf (length (now (bodies .entry)))) (now (memory .entry)) (now (table .entry)) base len kind)) (journal (pairsAt (slotsOf (length (now (table .entry))))) (addWords (cellsOf (length (now (bodies .entry)))) (now (table .entry)) base len kind label))) (now (table .entry)) ⌝ }
+    requires ready { ⌜ Ready (now memory) (now bodies) (now table) (range .first) (range .count) (range .kind) (range .label) ⌝ }
+    requires marks { ⌜ (range .first + range .count ≤ length (now held)) × (length (now used) ≡ maxBodies)
+        × AllMarked (slotsOf (length (now table))) (now table) (now held) (now used) ⌝ }
+    ensures steps { λ r. ⌜ r ≡ stepsOf (length (bytesOf (now (memory .entry)) (now (bodies .entry)) (now (table .entry)) range))
+        (length (wordsOf (now (bodies .entry)) (now (table .entry)) range)) ⌝ }
+    ensures bytes { λ _. ⌜ now (bodies .exit)
+        ≡ stores (take budget (bytesOf (now (memory .entry)) (now (bodies .entry)) (now (table .entry)) range)) (now (bodies .entry)) ⌝ }
+    ensures words { λ _. ⌜ now (table .exit)
+        ≡ stores (take (budget - length (bytesOf (now (memory .entry)) (now (bodies .entry)) (now (table .entry)) range))
+        (journal (pairsAt (slotsOf (length (now (table .entry))))) (wordsOf (now (bodies .entry)) (now (table .entry)) range))) (now (table .entry)) ⌝ }
 {
     let depth = table[LIVE_AT];
     let places = cells_of(bodies.len());
     // Both walks begin at the first free body, so that those in use in front of it are passed once.
-    let start = take_body(used, places, kind, 0);
-    let bytes = copy_new(
-        memory,
-        bodies,
-        held,
-        depth,
-        used,
-        base,
-        len,
-        kind,
-        start,
-        budget,
-    );
-    let words = add_words(
-        table,
-        held,
-        used,
-        places,
-        base,
-        len,
-        kind,
-        label,
-        start,
-        remaining(budget, bytes),
-    );
-    bytes + words
+    let start = take_body(used, places, range.kind, 0);
+    let bytes = copy_new(memory, bodies, held, depth, used, range, start, budget);
+    let left = remaining(budget, bytes);
+    bytes + add_words(table, held, used, places, range, start, left)
 }
 
 // The call with room for marks, none made yet.
@@ -720,63 +719,35 @@ fn add_marked(
     seen: &mut [u8],
     used: &mut [u8],
     handle: u32,
-    first: u32,
-    count: u32,
-    kind: u32,
-    label: u32,
+    range: Range,
     budget: usize,
 ) -> Answer
     requires room { ⌜ (min (cellsOf (length (now memory))) maxCells ≤ length (now seen)) × (length (now used) ≡ maxBodies) ⌝ }
     requires blank { ⌜ Blank (now seen) × Blank (now used) ⌝ }
     ensures made { λ r. ⌜ leaves (report r) (buffers (now (memory .entry)) (now (bodies .exit)) (now (table .exit)))
-        ≡ outcome (addCall handle first count kind label (buffers (now (memory .entry)) (now (bodies .entry)) (now (table .entry)))) budget
+        ≡ outcome (callOf handle range (buffers (now (memory .entry)) (now (bodies .entry)) (now (table .entry)))) budget
         (buffers (now (memory .entry)) (now (bodies .entry)) (now (table .entry))) ⌝ }
 {
-    let no = add_check(
-        memory,
-        bodies,
-        table,
-        seen,
-        used,
-        handle,
-        first,
-        count,
-        kind,
-        label,
-    );
+    let no = add_check(memory, bodies, table, seen, used, handle, range);
     if no != 0 {
         return Answer::Refused(no);
     }
-    let steps = add_stores(
-        memory,
-        bodies,
-        table,
-        seen,
-        used,
-        wide(first),
-        wide(count),
-        kind,
-        label,
-        budget,
-    );
+    let steps = add_stores(memory, bodies, table, seen, used, range, budget);
     answer_of(steps, 0, budget)
 }
 
-// The call on a small memory, where clearing marks for the largest would take longer than all else.
+// The call in a small memory, where clearing marks for the largest would take longer than all else.
 fn add_few(
     memory: &[u8],
     bodies: &mut [u8],
     table: &mut [u32],
     handle: u32,
-    first: u32,
-    count: u32,
-    kind: u32,
-    label: u32,
+    range: Range,
     budget: usize,
 ) -> Answer
     requires { ⌜ cellsOf (length (now memory)) ≤ 1024 ⌝ }
     ensures made { λ r. ⌜ leaves (report r) (buffers (now (memory .entry)) (now (bodies .exit)) (now (table .exit)))
-        ≡ outcome (addCall handle first count kind label (buffers (now (memory .entry)) (now (bodies .entry)) (now (table .entry)))) budget
+        ≡ outcome (callOf handle range (buffers (now (memory .entry)) (now (bodies .entry)) (now (table .entry)))) budget
         (buffers (now (memory .entry)) (now (bodies .entry)) (now (table .entry))) ⌝ }
 {
     let mut seen = few_marks();
@@ -788,28 +759,22 @@ fn add_few(
         &mut seen,
         &mut used,
         handle,
-        first,
-        count,
-        kind,
-        label,
+        range,
         budget,
     )
 }
 
-// The call on any memory.
+// The call in any memory.
 fn add_many(
     memory: &[u8],
     bodies: &mut [u8],
     table: &mut [u32],
     handle: u32,
-    first: u32,
-    count: u32,
-    kind: u32,
-    label: u32,
+    range: Range,
     budget: usize,
 ) -> Answer
     ensures made { λ r. ⌜ leaves (report r) (buffers (now (memory .entry)) (now (bodies .exit)) (now (table .exit)))
-        ≡ outcome (addCall handle first count kind label (buffers (now (memory .entry)) (now (bodies .entry)) (now (table .entry)))) budget
+        ≡ outcome (callOf handle range (buffers (now (memory .entry)) (now (bodies .entry)) (now (table .entry)))) budget
         (buffers (now (memory .entry)) (now (bodies .entry)) (now (table .entry))) ⌝ }
 {
     let mut seen = many_marks();
@@ -821,10 +786,7 @@ fn add_many(
         &mut seen,
         &mut used,
         handle,
-        first,
-        count,
-        kind,
-        label,
+        range,
         budget,
     )
 }
@@ -848,28 +810,14 @@ pub fn add(
     ensures means { λ r. ⌜ seen (report r) (buffers (now (memory .entry)) (now (bodies .exit)) (now (table .exit)))
         ≡ addMeans handle first count kind label budget (buffers (now (memory .entry)) (now (bodies .entry)) (now (table .entry))) ⌝ }
 {
-    if cells_of(memory.len()) <= FEW_CELLS {
-        return add_few(
-            memory,
-            bodies,
-            table,
-            handle,
-            first,
-            count,
-            kind,
-            label,
-            budget,
-        );
-    }
-    add_many(
-        memory,
-        bodies,
-        table,
-        handle,
-        first,
-        count,
+    let range = Range {
+        first: wide(first),
+        count: wide(count),
         kind,
         label,
-        budget,
-    )
+    };
+    if cells_of(memory.len()) <= FEW_CELLS {
+        return add_few(memory, bodies, table, handle, range, budget);
+    }
+    add_many(memory, bodies, table, handle, range, budget)
 }

@@ -2,17 +2,17 @@
 -- different free bodies; the call takes the lowest ones. Assumes nothing.
 use Prim.Native.Nat.{ℕ, suc, _+_, _-_, _*_, _≤_, _<_}
 use mathlib.Core.Bool.{true, not, _||_}
-use mathlib.Core.List.{List, [], _∷_}
+use mathlib.Core.List.{List, [], _∷_, map}
 use mathlib.Core.Option.{Option}
 use mathlib.Core.Path.{_≡_, refl, sym, ap, subst, _∙_}
 use native.Mathlib.Omega.{arith}
 use borrow.Author.Tests.{eq-eqb, ne-eqb, ltb-true, leb-true, leb-false}
 use lib.Dec.{leb, ltb, eqb}
-use lib.ListN.{length, take}
-use Rattle.words.specs.Layout.{cellsOf, slotsOf, pairsAt}
+use lib.ListN.{length, take, length-append, length-map}
+use Rattle.words.specs.Layout.{cellsOf, bodiesOf, slotsOf, pairsAt}
 use Rattle.words.specs.Scan.{all, count}
 use Rattle.words.specs.Stores.{Store, stores}
-use Rattle.words.specs.Journal.{pending, namesOk, journal, journalSteps}
+use Rattle.words.specs.Journal.{pending, namesOk, journal}
 use Rattle.words.proofs.Scan.{by-bool, by-le, all-ext, count-ext, count-le}
 use Rattle.words.proofs.Plans.{Each}
 use Rattle.words.proofs.Names.{names-make, names-below}
@@ -29,7 +29,7 @@ use Rattle.model.specs.State.{State}
 use Rattle.model.specs.Answer.{Report, refused, ended, ask, orElse, view, stepsOf, View}
 use Rattle.model.specs.Calls.{viewed, change, orRefuse}
 use Rattle.model.specs.Holdings.{named, holdingAt, isHeld, heldWritable, copiesInUse, advance, writableCells, parentCovers, advanceChecks, advanceEffect}
-use Rattle.store.specs.Outcome.{Buffers, buffers, changePlan, outcome, leaves, Call, perform, unless}
+use Rattle.store.specs.Outcome.{Buffers, buffers, inBodies, inTable, changePlan, outcome, leaves, Call, perform, unless}
 use Rattle.store.specs.Checks.{storeCheck}
 use Rattle.store.specs.State.{stateIn, stateOf}
 use Rattle.store.specs.Means.{seenOf, orRefused, callMeans, roomOf, leftPending, pendingAfter, afterPending, Reopens}
@@ -38,13 +38,14 @@ use Rattle.store.proofs.Outcome.{refuses}
 use Rattle.store.proofs.Domains.{state-named, state-holding, domains-count, held-holds, held-writable}
 use Rattle.store.proofs.InUse.{copies-in-use}
 use Rattle.store.proofs.Means.{by-check, t-long, store-standing}
-use Rattle.store.proofs.Changes.{Spares, change-performed, change-seen}
+use Rattle.store.proofs.Changes.{Spares, change-length, change-performed, change-seen}
 use Rattle.store.proofs.Pending.{performed-pending, call-pending}
 use Rattle.store.proofs.Reopened.{changes-shaped, shape-reopens, unless-reopens}
 use Rattle.store.proofs.Standing.{standing-opens}
 use Rattle.advance.specs.Choice.{Choice, changeWith, bytesWith, wordsWith, advanceWith, MayTake}
 use Rattle.advance.specs.Advance.{advances, advanceCheck, bodyFor, advanceChange, advanceWords, advanceBytes, advanceCall, advanceMeans}
 use Rattle.store.proofs.Raw.{raw-rule, raw-state, raw-next, raw-after, front-copy, front-second}
+use Rattle.advance.specs.Notes.{performed}
 use Rattle.advance.proofs.Copying.{Outside, cell-kept, copies-length, copies-outside, copies-stored}
 use Rattle.advance.proofs.Turning.{advances-cell, words-count, takes-below, takes-free, takes-own, turned-rule, turned-state}
 use Rattle.advance.proofs.Choosing.{chosen}
@@ -58,12 +59,12 @@ each-spares e t (p ∷ ps) h = ((λ i c. h i c .0), each-spares e t ps (λ i c. 
 -- ---- for any choice of bodies
 
 module _ (memory bodies t : List ℕ) (yes : storeCheck (length memory) (length bodies) t ≡ 0) (low : 1 ≤ live t) (body : ℕ → ℕ)
-    (choice : Choice (cellsOf (length memory)) (slotsOf (length t)) (cellsOf (length bodies)) t body) where
+    (choice : Choice (cellsOf (length memory)) (slotsOf (length t)) (bodiesOf (length bodies)) t body) where
   abbrev m : ℕ
   m = cellsOf (length memory)
 
   abbrev b : ℕ
-  b = cellsOf (length bodies)
+  b = bodiesOf (length bodies)
 
   abbrev e : ℕ
   e = slotsOf (length t)
@@ -112,7 +113,7 @@ module _ (memory bodies t : List ℕ) (yes : storeCheck (length memory) (length 
   below = names-below (pairsAt e) 0 words (pendingAt-below e) with-names
 
   -- the new table is right
-  pub with-rule : Rule (cellsOf (length memory)) (slotsOf (length t)) (cellsOf (length bodies)) (stores words (take (pairsAt (slotsOf (length t))) t))
+  pub with-rule : Rule (cellsOf (length memory)) (slotsOf (length t)) (bodiesOf (length bodies)) (stores words (take (pairsAt (slotsOf (length t))) t))
   with-rule = raw-next memory bodies t yes words below (turned-rule m e b t ok long body choice)
 
   -- and stands for the model's state
@@ -166,7 +167,7 @@ module _ (memory bodies t : List ℕ) (yes : storeCheck (length memory) (length 
 -- questions 5, 6, 15 and 17
 abbrev pub asked : (memory bodies : ℕ) → List ℕ → ℕ → ℕ
 asked memory bodies t h =
-    ask (ltb 0 (depthNamed t h)) 5 (ask (eqb (depthNamed t h) (live t)) 6 (cellsCheck (cellsOf memory) (slotsOf (length t)) (cellsOf bodies) t))
+    ask (ltb 0 (depthNamed t h)) 5 (ask (eqb (depthNamed t h) (live t)) 6 (cellsCheck (cellsOf memory) (slotsOf (length t)) (bodiesOf bodies) t))
 
 pub check-is : (memory bodies : ℕ) (t : List ℕ) (h : ℕ) → advanceCheck memory bodies t h ≡ orElse (storeCheck memory bodies t) (asked memory bodies t h)
 unfolding advanceCheck
@@ -204,7 +205,7 @@ module _ (e : ℕ) (t bodies : List ℕ) (low : 1 ≤ live t) where
       (λ c. not (advances e t c) || holdsIn e t (parent (live t)) c)
       (λ c l. λ i. not (writable-same c i) || outer-same c two i)))
 
-checks-raw : (memory bodies t : List ℕ) (h : ℕ) → Rule (cellsOf (length memory)) (slotsOf (length t)) (cellsOf (length bodies)) t
+checks-raw : (memory bodies t : List ℕ) (h : ℕ) → Rule (cellsOf (length memory)) (slotsOf (length t)) (bodiesOf (length bodies)) t
     → advanceChecks (roomOf (buffers memory bodies t)) h (stateIn (slotsOf (length t)) t bodies) ≡ asked (length memory) (length bodies) t h
 checks-raw memory bodies t h ok =
     let e : ℕ = slotsOf (length t) in
@@ -214,10 +215,10 @@ checks-raw memory bodies t h ok =
     let small = depth-small t h in
     let some-depth = ltb-true 0 (depthNamed t h) z in
     let low : 1 ≤ live t = omega arith in
-    let in-use : copiesInUse (cellsOf (length memory)) (stateIn e t bodies) ≡ copies e t = copies-in-use (cellsOf (length memory)) e (cellsOf (length bodies)) t ok bodies in
+    let in-use : copiesInUse (cellsOf (length memory)) (stateIn e t bodies) ≡ copies e t = copies-in-use (cellsOf (length memory)) e (bodiesOf (length bodies)) t ok bodies in
     (λ i. ask (ltb 0 (name i)) 5 (ask (eqb (name i) (domains-count e t bodies i)) 6
     (ask (covers-same e t bodies low (cellsOf (length memory)) i) 15
-    (ask (leb (in-use i + cells-same e t bodies low (cellsOf (length memory)) i) (cellsOf (length bodies))) 17 0)))))
+    (ask (leb (in-use i + cells-same e t bodies low (cellsOf (length memory)) i) (bodiesOf (length bodies))) 17 0)))))
     (λ z.
     ask-stop _ 5 _ (ap (ltb 0) name ∙ z) ∙ sym (ask-stop _ 5 _ z))
 
@@ -230,24 +231,24 @@ module _ (memory bodies : ℕ) (t : List ℕ) (h : ℕ) (pass : advanceCheck mem
   pub advance-store : storeCheck memory bodies t ≡ 0
   advance-store = both .0
 
-  rest6 : ask (eqb (depthNamed t h) (live t)) 6 (cellsCheck (cellsOf memory) (slotsOf (length t)) (cellsOf bodies) t) ≡ 0
-  rest6 = ask-rest (ltb 0 (depthNamed t h)) 5 (ask (eqb (depthNamed t h) (live t)) 6 (cellsCheck (cellsOf memory) (slotsOf (length t)) (cellsOf bodies) t)) (omega arith) (both .1)
+  rest6 : ask (eqb (depthNamed t h) (live t)) 6 (cellsCheck (cellsOf memory) (slotsOf (length t)) (bodiesOf bodies) t) ≡ 0
+  rest6 = ask-rest (ltb 0 (depthNamed t h)) 5 (ask (eqb (depthNamed t h) (live t)) 6 (cellsCheck (cellsOf memory) (slotsOf (length t)) (bodiesOf bodies) t)) (omega arith) (both .1)
 
   pub advance-low : 1 ≤ live t
   advance-low =
-      let a = ltb-true 0 (depthNamed t h) (ask-yes (ltb 0 (depthNamed t h)) 5 (ask (eqb (depthNamed t h) (live t)) 6 (cellsCheck (cellsOf memory) (slotsOf (length t)) (cellsOf bodies) t)) (omega arith) (both .1)) in
+      let a = ltb-true 0 (depthNamed t h) (ask-yes (ltb 0 (depthNamed t h)) 5 (ask (eqb (depthNamed t h) (live t)) 6 (cellsCheck (cellsOf memory) (slotsOf (length t)) (bodiesOf bodies) t)) (omega arith) (both .1)) in
       let b = depth-small t h in
       omega arith
 
-  rest15 : cellsCheck (cellsOf memory) (slotsOf (length t)) (cellsOf bodies) t ≡ 0
-  rest15 = ask-rest (eqb (depthNamed t h) (live t)) 6 (cellsCheck (cellsOf memory) (slotsOf (length t)) (cellsOf bodies) t) (omega arith) rest6
+  rest15 : cellsCheck (cellsOf memory) (slotsOf (length t)) (bodiesOf bodies) t ≡ 0
+  rest15 = ask-rest (eqb (depthNamed t h) (live t)) 6 (cellsCheck (cellsOf memory) (slotsOf (length t)) (bodiesOf bodies) t) (omega arith) rest6
 
-  pub advance-room : copies (slotsOf (length t)) t + count (cellsOf memory) (advances (slotsOf (length t)) t) ≤ cellsOf bodies
+  pub advance-room : copies (slotsOf (length t)) t + count (cellsOf memory) (advances (slotsOf (length t)) t) ≤ bodiesOf bodies
   advance-room =
       let e : ℕ = slotsOf (length t) in
-      leb-true _ _ (ask-yes (leb (copies e t + count (cellsOf memory) (advances e t)) (cellsOf bodies)) 17 0 (omega arith)
+      leb-true _ _ (ask-yes (leb (copies e t + count (cellsOf memory) (advances e t)) (bodiesOf bodies)) 17 0 (omega arith)
       (ask-rest (leb (live t) 1 || all (cellsOf memory) (λ c. not (advances e t c) || holdsIn e t (parent (live t)) c)) 15
-      (ask (leb (copies e t + count (cellsOf memory) (advances e t)) (cellsOf bodies)) 17 0) (omega arith) rest15))
+      (ask (leb (copies e t + count (cellsOf memory) (advances e t)) (bodiesOf bodies)) 17 0) (omega arith) rest15))
 
 -- ---- the call, which takes the lowest free bodies
 
@@ -255,15 +256,15 @@ module _ (memory bodies t : List ℕ) (h : ℕ) (pass : advanceCheck (length mem
   abbrev yes : storeCheck (length memory) (length bodies) t ≡ 0
   yes = advance-store (length memory) (length bodies) t h pass
 
-  pub lowest : Choice (cellsOf (length memory)) (slotsOf (length t)) (cellsOf (length bodies)) t (bodyFor (slotsOf (length t)) (cellsOf (length bodies)) t)
+  pub lowest : Choice (cellsOf (length memory)) (slotsOf (length t)) (bodiesOf (length bodies)) t (bodyFor (slotsOf (length t)) (bodiesOf (length bodies)) t)
   lowest =
-      chosen (cellsOf (length memory)) (slotsOf (length t)) (cellsOf (length bodies)) t (raw-rule memory bodies t yes)
+      chosen (cellsOf (length memory)) (slotsOf (length t)) (bodiesOf (length bodies)) t (raw-rule memory bodies t yes)
       (advance-room (length memory) (length bodies) t h pass)
 
-  pub advance-bound : stepsOf (length (advanceBytes (cellsOf (length memory)) (cellsOf (length bodies)) memory t)) (length (advanceWords (cellsOf (length bodies)) t)) ≤ 70 * slotsOf (length t) + 32
+  pub advance-bound : stepsOf (length (advanceBytes (cellsOf (length memory)) (bodiesOf (length bodies)) memory t)) (length (advanceWords (bodiesOf (length bodies)) t)) ≤ 70 * slotsOf (length t) + 32
   unfolding advanceBytes advanceWords advanceChange
   advance-bound =
-      with-bound memory bodies t yes (advance-low (length memory) (length bodies) t h pass) (bodyFor (slotsOf (length t)) (cellsOf (length bodies)) t) lowest
+      with-bound memory bodies t yes (advance-low (length memory) (length bodies) t h pass) (bodyFor (slotsOf (length t)) (bodiesOf (length bodies)) t) lowest
 
 -- ---- what it means
 
@@ -329,12 +330,12 @@ module _ (h : ℕ) (b : Buffers) (body : ℕ → ℕ) (may : MayTake h b body) w
 
 -- ---- the contract's call, which takes the lowest free bodies
 
-pub advance-is : (h : ℕ) (b : Buffers) → advanceCall h b ≡ advanceWith (bodyFor (slotsOf (length (b .table))) (cellsOf (length (b .bodies))) (b .table)) h b
+pub advance-is : (h : ℕ) (b : Buffers) → advanceCall h b ≡ advanceWith (bodyFor (slotsOf (length (b .table))) (bodiesOf (length (b .bodies))) (b .table)) h b
 unfolding advanceCall advanceWith advanceBytes advanceWords advanceChange
 advance-is h b = refl
 
 -- they were free before the call, and differ
-pub advance-takes : (h : ℕ) (b : Buffers) → MayTake h b (bodyFor (slotsOf (length (b .table))) (cellsOf (length (b .bodies))) (b .table))
+pub advance-takes : (h : ℕ) (b : Buffers) → MayTake h b (bodyFor (slotsOf (length (b .table))) (bodiesOf (length (b .bodies))) (b .table))
 advance-takes h b pass = lowest (b .memory) (b .bodies) (b .table) h pass
 
 pub advance-means : (h k : ℕ) (b : Buffers) → seenOf (outcome (advanceCall h b) k b) ≡ advanceMeans h k b
@@ -351,13 +352,25 @@ module _ (m b t : List ℕ) (h k : ℕ) where
   unfolding advanceCall
   advance-refused q e stops = refuses q (advanceCheck (length m) (length b) t h) _ k (buffers m b t) e stops
 
-  pub advance-performed : (bytes words : ℕ) (b′ t′ : List ℕ) (r : Report) → advanceCheck (length m) (length b) t h ≡ 0
-      → bytes ≡ length (advanceBytes (cellsOf (length m)) (cellsOf (length b)) m t) → b′ ≡ stores (take k (advanceBytes (cellsOf (length m)) (cellsOf (length b)) m t)) b
-      → words ≡ journalSteps (length (advanceWords (cellsOf (length b)) t)) → t′ ≡ stores (take (k - bytes) (journal (pairsAt (slotsOf (length t))) (advanceWords (cellsOf (length b)) t))) t
-      → r ≡ ended (bytes + words) 0 k
-      → leaves r (buffers m b′ t′) ≡ outcome (advanceCall h (buffers m b t)) k (buffers m b t)
-  unfolding advanceCall journalSteps
-  advance-performed bytes words b′ t′ r pass x p y q e =
-      rw pass
-      (change-performed (pairsAt (slotsOf (length t))) (bytes + words) 0 k (advanceBytes (cellsOf (length m)) (cellsOf (length b)) m t) (advanceWords (cellsOf (length b)) t) m b t b′ t′ r
-      (rw (x, y)) p (rw x at q) e)
+  -- where no question refuses it, the call is carried out
+  pub advance-goes : advanceCheck (length m) (length b) t h ≡ 0 → outcome (performed (buffers m b t)) k (buffers m b t) ≡ outcome (advanceCall h (buffers m b t)) k (buffers m b t)
+  unfolding advanceCall
+  advance-goes pass = rw pass
+
+module _ (m b t : List ℕ) (k : ℕ) where
+  abbrev bytes-all : List Store
+  bytes-all = advanceBytes (cellsOf (length m)) (bodiesOf (length b)) m t
+
+  abbrev words-all : List Store
+  words-all = advanceWords (bodiesOf (length b)) t
+
+  pub advance-performed : (bytes steps : ℕ) (b′ t′ : List ℕ) (r : Report)
+      → bytes ≡ length (advanceBytes (cellsOf (length m)) (bodiesOf (length b)) m t) → b′ ≡ stores (take k (advanceBytes (cellsOf (length m)) (bodiesOf (length b)) m t)) b
+      → steps ≡ length (journal (pairsAt (slotsOf (length t))) (advanceWords (bodiesOf (length b)) t)) → t′ ≡ stores (take (k - bytes) (journal (pairsAt (slotsOf (length t))) (advanceWords (bodiesOf (length b)) t))) t
+      → r ≡ ended (bytes + steps) 0 k
+      → leaves r (buffers m b′ t′) ≡ outcome (performed (buffers m b t)) k (buffers m b t)
+  advance-performed bytes steps b′ t′ r x p y q e =
+      change-performed (pairsAt (slotsOf (length t))) (bytes + steps) 0 k bytes-all words-all m b t b′ t′ r
+      (rw (x, y) (sym (length-append (map inBodies bytes-all) (map inTable (journal (pairsAt (slotsOf (length t))) words-all)) ∙ rw (length-map, length-map)))
+      ∙ change-length (pairsAt (slotsOf (length t))) bytes-all words-all)
+      p (rw x at q) e

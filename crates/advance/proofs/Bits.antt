@@ -1,141 +1,146 @@
--- Laws of numbers read as sets of bits: the lowest bit, and one bit more. Then the pass over the entries that sets the bits of the cells. Assumes nothing.
-use Prim.Native.Nat.{ℕ, zero, suc, _+_, _*_, _/_, _%_, _^_, _<_, max}
-use mathlib.Core.Bool.{Bool, true, false, cond, _&&_, _||_}
+-- Cells as bits, 64 to a number: how many bits are set before that of a cell, what is noted of each group, and one bit more. Then the pass over
+-- the entries that sets the bits of the cells. Assumes nothing.
+use Prim.Native.Nat.{ℕ, zero, suc, _+_, _*_, _/_, _%_, _^_, _≤_, _<_}
+use mathlib.Core.Bool.{Bool, true, false, _&&_, _||_}
 use mathlib.Core.List.{List}
 use mathlib.Core.Path.{_≡_, refl, sym, ap, subst, _∙_}
-use native.Mathlib.Nat.{not-suc-le-zero, le-of-suc-le-suc}
+use native.Mathlib.Nat.{not-suc-le-zero}
 use native.Mathlib.Omega.{arith}
-use mir.Val.{boolByte}
-use borrow.Author.Tests.{eq-eqb, ne-eqb, eqb-true, eqb-false}
-use lib.Bits.{bitOr, or-step, or-shr}
-use lib.Count.{under, trailingZeros}
+use borrow.Author.Tests.{eq-eqb, eqb-true, eqb-false}
+use lib.Count.{ones, ones-step}
 use lib.Dec.{eqb}
-use lib.ListN.{length, getD}
-use lib.Pow.{pow-lt, shr-shr}
-use lib.Seq.{getD-set-same, getD-set-other}
-use Rattle.words.proofs.Scan.{by-bool, and-split, and-join, is-false, true≢}
+use lib.ListN.{length, getD, set, List·getD-eq-default}
+use lib.Pow.{shr-shr, shr-lt}
+use lib.Seq.{getD-set-same, getD-set-other, set-getD}
+use Rattle.words.specs.Scan.{count}
+use Rattle.words.proofs.Scan.{by-bool, by-le, and-split, and-join, true≢, count-ext}
+use Rattle.words.proofs.Nth.{count-below}
 use Rattle.table.specs.Entry.{word1, cellOf}
 use Rattle.table.specs.Marks.{Blank}
 use Rattle.table.proofs.Marks.{split}
-use Rattle.advance.specs.Notes.{turns, bit, marked, markTurning, Turned}
+use Rattle.search.proofs.From.{count-stop}
+use Rattle.changes.specs.Staged.{bitAt, isSet}
+use Rattle.changes.proofs.Bits.{bit-none, bit-kept, set-at, more-here, more-other}
+use Rattle.advance.specs.Notes.{turns, groupOf, firstCell, NoBits, markTurning, Turned, Ends}
 
--- ---- bits
+-- ---- the bits of one number, counted
 
--- bit k + 1 is bit k of the half
-halved : (x k : ℕ) → x / 2 ^ suc k ≡ x / 2 / 2 ^ k
-halved x k = ap (λ (j : ℕ). x / 2 ^ j) (omega arith) ∙ sym (shr-shr x 1 k)
+-- those below the j-th, and those from it on
+ones-rest : (w j : ℕ) → ones w ≡ count j (bitAt w) + ones (w / 2 ^ j)
+unfolding count
+ones-rest w zero = let z : w ≡ w / 2 ^ 0 = omega arith in omega (arith, ap ones z)
+ones-rest w (suc j) =
+    let half : w / 2 ^ j / 2 ≡ w / 2 ^ suc j = shr-shr w j 1 ∙ ap (λ (x : ℕ). w / 2 ^ x) (omega arith) in
+    let next = ones-step (w / 2 ^ j) ∙ ap (λ (x : ℕ). w / 2 ^ j % 2 + ones x) half in
+    let before = ones-rest w j in
+    by-bool (bitAt w j)
+    (λ p. rw p (omega (arith, next, before, eqb-true (w / 2 ^ j % 2) 1 p)))
+    (λ p. rw p (omega (arith, next, before, eqb-false (w / 2 ^ j % 2) 1 p)))
 
-none : (k : ℕ) → 0 / 2 ^ k ≡ 0
-none zero = omega arith
-none (suc k) = halved 0 k ∙ none k
+ones-none : ones 0 ≡ 0
+unfolding ones
+ones-none = refl
 
--- no bit of 0 is set
-pub no-bit : (k : ℕ) → bit 0 k ≡ false
-no-bit k = ap (λ (x : ℕ). eqb (x % 2) 1) (none k)
+ones-all : (w : ℕ) → w < 2 ^ 64 → ones w ≡ count 64 (bitAt w)
+ones-all w small =
+    let low : w / 2 ^ 64 < 2 ^ 0 = shr-lt 0 64 small in
+    let none : w / 2 ^ 64 ≡ 0 = omega (arith, low) in
+    let rest = ap ones none ∙ ones-none in
+    omega (arith, ones-rest w 64, rest)
 
--- the zeros behind the lowest set bit of a number of k bits
-pub trailing-low : (k x j : ℕ) → j < trailingZeros k x → x / 2 ^ j % 2 ≡ 0
-unfolding trailingZeros
-trailing-low zero x j l = absurd (not-suc-le-zero l)
-trailing-low (suc k) x j l = below (x % 2) refl (trailing-low k (x / 2)) j l
-  where
-    below : (d : ℕ) → x % 2 ≡ d → ((i : ℕ) → i < trailingZeros k (x / 2) → x / 2 / 2 ^ i % 2 ≡ 0) → (j : ℕ) → j < under d (trailingZeros k (x / 2)) → x / 2 ^ j % 2 ≡ 0
-    below zero q rest zero l = omega (arith, q)
-    below zero q rest (suc j) l = rw (halved x j) (rest j (le-of-suc-le-suc l))
-    below (suc d) q rest j l = absurd (not-suc-le-zero l)
+-- ---- the bits of all groups, counted
 
-pub trailing-here : (k x : ℕ) → x < 2 ^ k → (x ≡ 0 → ⊥) → (trailingZeros k x < k) × (x / 2 ^ trailingZeros k x % 2 ≡ 1)
-unfolding trailingZeros
-trailing-here zero x s ne = absurd (ne (omega arith))
-trailing-here (suc k) x s ne = here (x % 2) refl (trailing-here k (x / 2))
-  where
-    here : (d : ℕ) → x % 2 ≡ d → (x / 2 < 2 ^ k → (x / 2 ≡ 0 → ⊥) → (trailingZeros k (x / 2) < k) × (x / 2 / 2 ^ trailingZeros k (x / 2) % 2 ≡ 1))
-        → (under d (trailingZeros k (x / 2)) < suc k) × (x / 2 ^ under d (trailingZeros k (x / 2)) % 2 ≡ 1)
-    here zero q rest =
-        let twice : 2 ^ suc k ≡ 2 * 2 ^ k = omega arith in
-        let r = rest (omega (arith, s, twice)) (λ z. ne (omega (arith, q, z))) in
-        (omega (arith, r .0), ap (λ (y : ℕ). y % 2) (halved x (trailingZeros k (x / 2))) ∙ r .1)
-    here (suc d) q rest = (omega arith, omega (arith, q))
+-- in two parts
+count-parts : (a n : ℕ) (f : ℕ → Bool) → count (a + n) f ≡ count a f + count n (λ k. f (a + k))
+unfolding count
+count-parts a zero f = let z : a + 0 ≡ a = omega arith in rw z (omega arith)
+count-parts a (suc n) f =
+    let z : a + suc n ≡ suc (a + n) = omega arith in
+    ap (λ (x : ℕ). count x f) z
+    ∙ by-bool (f (a + n))
+    (λ p. rw (p, count-parts a n f) (omega arith))
+    (λ p. rw (p, count-parts a n f))
 
--- the bits of two numbers together
-both-odd : (x y : ℕ) → bitOr x y % 2 ≡ max (x % 2) (y % 2)
-both-odd x y = let s = or-step x y in omega (arith, s)
+module _ (groups : List ℕ) where
+  group-count : (g j : ℕ) → j ≤ 64 → count (firstCell g + j) (isSet groups) ≡ count (firstCell g) (isSet groups) + count j (bitAt (getD groups g 0))
+  group-count g j l =
+      count-parts (firstCell g) j (isSet groups)
+      ∙ ap (λ (x : ℕ). count (firstCell g) (isSet groups) + x) (count-ext j (λ k. isSet groups (firstCell g + k)) (bitAt (getD groups g 0)) (λ k h. set-at groups g k (omega arith)))
 
-either : (p q : ℕ) → p < 2 → q < 2 → eqb (max p q) 1 ≡ (eqb p 1 || eqb q 1)
-either zero zero a b = refl
-either zero (suc zero) a b = refl
-either (suc zero) zero a b = refl
-either (suc zero) (suc zero) a b = refl
-either (suc (suc p)) q a b = absurd (omega arith)
-either zero (suc (suc q)) a b = absurd (omega arith)
-either (suc zero) (suc (suc q)) a b = absurd (omega arith)
+  -- up to the end of a group
+  pub count-next : (g : ℕ) → getD groups g 0 < 2 ^ 64 → count (firstCell g) (isSet groups) + ones (getD groups g 0) ≡ count (firstCell (g + 1)) (isSet groups)
+  count-next g small =
+      let z : firstCell (g + 1) ≡ firstCell g + 64 = omega arith in
+      let whole = ap (λ (x : ℕ). count x (isSet groups)) z ∙ group-count g 64 (omega arith) in
+      omega (arith, whole, ones-all (getD groups g 0) small)
 
-or-bit : (x y k : ℕ) → bit (bitOr x y) k ≡ (bit x k || bit y k)
-or-bit x y k =
-    ap (λ (z : ℕ). eqb (z % 2) 1) (or-shr x y k) ∙ ap (λ (z : ℕ). eqb z 1) (both-odd (x / 2 ^ k) (y / 2 ^ k))
-    ∙ either (x / 2 ^ k % 2) (y / 2 ^ k % 2) (omega arith) (omega arith)
+  -- those before a cell, and those from it on to the end of its group
+  rank-rest : (c : ℕ) → getD groups (groupOf c) 0 < 2 ^ 64
+      → count (firstCell (groupOf c + 1)) (isSet groups) ≡ count c (isSet groups) + ones (getD groups (groupOf c) 0 / 2 ^ (c % 64))
+  rank-rest c small =
+      let z : firstCell (groupOf c) + c % 64 ≡ c = omega arith in
+      let here = sym (ap (λ (x : ℕ). count x (isSet groups)) z) ∙ group-count (groupOf c) (c % 64) (omega arith) in
+      omega (arith, here, count-next (groupOf c) small, ones-rest (getD groups (groupOf c) 0) (c % 64))
 
--- the one bit of a power
-power-half : (i : ℕ) → 2 ^ suc i / 2 ≡ 2 ^ i
-power-half i = omega arith
+  -- a cell with a bit belongs to one of the groups, which has a bit
+  group-some : (c : ℕ) → isSet groups c ≡ true → getD groups (groupOf c) 0 ≡ 0 → ⊥
+  group-some c h z = true≢ h (bit-none (getD groups (groupOf c) 0) (c % 64) z)
 
-power-bit : (i : ℕ) → bit (2 ^ i) i ≡ true
-power-bit zero = refl
-power-bit (suc i) = ap (λ (x : ℕ). eqb (x % 2) 1) (halved (2 ^ suc i) i ∙ ap (λ (x : ℕ). x / 2 ^ i) (power-half i)) ∙ power-bit i
+  pub group-known : (c : ℕ) → isSet groups c ≡ true → groupOf c < length groups
+  group-known c h = by-le (length groups) (groupOf c) (λ l. absurd (group-some c h (List·getD-eq-default groups 0 l))) (λ l. l)
 
-power-other : (i k : ℕ) → (k ≡ i → ⊥) → bit (2 ^ i) k ≡ false
-power-other zero zero ne = absurd (ne refl)
-power-other zero (suc k) ne = ap (λ (x : ℕ). eqb (x % 2) 1) (halved 1 k ∙ none k)
-power-other (suc i) zero ne = let even : 2 ^ suc i / 2 ^ 0 % 2 ≡ 0 = omega arith in ap (λ (x : ℕ). eqb x 1) even
-power-other (suc i) (suc k) ne =
-    ap (λ (x : ℕ). eqb (x % 2) 1) (halved (2 ^ suc i) k ∙ ap (λ (x : ℕ). x / 2 ^ k) (power-half i)) ∙ power-other i k (λ q. ne (ap suc q))
+  -- its rank, by what is noted of its group
+  pub ends-rank : (ends : List ℕ) (c : ℕ) → getD groups (groupOf c) 0 < 2 ^ 64 → Ends groups (length groups) ends → isSet groups c ≡ true
+      → getD ends (groupOf c) 0 ≡ count c (isSet groups) + ones (getD groups (groupOf c) 0 / 2 ^ (c % 64))
+  ends-rank ends c small noted h = noted .noted (groupOf c) (group-known c h) (group-some c h) ∙ rank-rest c small
+
+  -- which is below the number of all bits
+  pub rank-fits : (c : ℕ) → isSet groups c ≡ true → count c (isSet groups) < count (64 * length groups) (isSet groups)
+  rank-fits c h = count-below (isSet groups) c (64 * length groups) (omega (arith, group-known c h)) h
+
+  -- groups without a bit are passed over
+  pub count-empty : (g h : ℕ) → g ≤ h → NoBits groups g h → count (firstCell g) (isSet groups) ≡ count (firstCell h) (isSet groups)
+  count-empty g h on empty =
+      sym (count-stop (firstCell h) (firstCell g) (isSet groups) (omega arith)
+      (λ c l b. bit-none (getD groups (groupOf c) 0) (c % 64) (empty (groupOf c) (omega arith) (omega arith))))
+
+  pub ends-none : (ends : List ℕ) → Ends groups 0 ends
+  ends-none ends = record { noted = λ k l. absurd (not-suc-le-zero l) }
+
+  pub ends-more : (g v : ℕ) (ends : List ℕ) → g < length ends → v ≡ count (firstCell (g + 1)) (isSet groups) → Ends groups g ends → Ends groups (g + 1) (set ends g v)
+  ends-more g v ends fits q old = record {
+    noted = λ k l some.
+        split g k l
+        (λ p. ap (λ (x : ℕ). getD (set ends g v) x 0) p ∙ getD-set-same ends g v 0 fits ∙ q ∙ ap (λ (x : ℕ). count (firstCell (x + 1)) (isSet groups)) (sym p))
+        (λ p. getD-set-other ends g k v 0 (λ z. omega arith) ∙ old .noted k p some);
+  }
+
+  pub ends-empty : (g h : ℕ) (ends : List ℕ) → NoBits groups g h → Ends groups g ends → Ends groups h ends
+  ends-empty g h ends empty old =
+      record { noted = λ k l some. by-le g k (λ far. absurd (some (empty k far l))) (λ near. old .noted k near some) }
 
 -- ---- the pass over the entries
 
--- a bit as the code shifts it into place
-pub shifted-bit : (b : Bool) (k : ℕ) → k < 64 → boolByte b * 2 ^ k % 18_446_744_073_709_551_616 ≡ cond b (2 ^ k) 0
-shifted-bit true k l = let small : 2 ^ k < 2 ^ 64 = pow-lt {i = k} {j = 64} l in omega (arith, small)
-shifted-bit false k l = omega arith
+module _ (n w : ℕ) (groups : List ℕ) (fits : groupOf (cellOf w) < length groups) where
+  abbrev own : ℕ
+  own = getD groups (groupOf (cellOf w)) 0
 
-or-none : (x : Bool) → x ≡ (x || false)
-or-none true = refl
-or-none false = refl
-
-module _ (n w : ℕ) (groups : List ℕ) (fits : cellOf w / 64 < length groups) where
-  abbrev added : ℕ
-  added = cond (turns n w) (2 ^ (cellOf w % 64)) 0
-
-  -- the group of the entry's cell
-  here : (k : ℕ) → bit added k ≡ (turns n w && eqb k (cellOf w % 64))
-  here k =
+  marks-after : (c : ℕ) → isSet (markTurning n w groups) c ≡ (isSet groups c || (turns n w && eqb c (cellOf w)))
+  marks-after c =
       by-bool (turns n w)
       (λ y. rw y
-      (by-bool (eqb k (cellOf w % 64))
-      (λ z. ap (bit (2 ^ (cellOf w % 64))) (eqb-true _ _ z) ∙ power-bit (cellOf w % 64) ∙ sym z)
-      (λ z. power-other (cellOf w % 64) k (eqb-false _ _ z) ∙ sym z)))
-      (λ y. rw y (no-bit k))
-
-  marks-after : (c : ℕ) → marked (markTurning n w groups) c ≡ (marked groups c || (turns n w && eqb c (cellOf w)))
-  marks-after c =
-      by-bool (eqb (c / 64) (cellOf w / 64))
-      (λ z.
-      let q = eqb-true (c / 64) (cellOf w / 64) z in
-      ap (λ (x : ℕ). bit (getD (markTurning n w groups) x 0) (c % 64)) q
-      ∙ ap (λ (x : ℕ). bit x (c % 64)) (getD-set-same groups (cellOf w / 64) _ 0 fits)
-      ∙ or-bit (getD groups (cellOf w / 64) 0) added (c % 64)
-      ∙ (λ i. bit (getD groups (sym q i) 0) (c % 64) || here (c % 64) i)
-      ∙ ap (λ (x : Bool). marked groups c || (turns n w && x)) (same-rest q))
-      (λ z.
-      let ne = eqb-false (c / 64) (cellOf w / 64) z in
-      ap (λ (x : ℕ). bit x (c % 64)) (getD-set-other groups (cellOf w / 64) (c / 64) _ 0 ne)
-      ∙ or-none (marked groups c)
-      ∙ ap (λ (x : Bool). marked groups c || x) (sym (is-false (turns n w && eqb c (cellOf w)) (λ p. ne (ap (λ (x : ℕ). x / 64) (eqb-true _ _ (and-split (turns n w) (eqb c (cellOf w)) p .1)))))))
+      (by-bool (eqb c (cellOf w))
+      (λ z. rw (z, eqb-true c (cellOf w) z, more-here groups (groupOf (cellOf w)) own (cellOf w) fits refl) (or-true (isSet groups (cellOf w))))
+      (λ z. rw (z, more-other groups (groupOf (cellOf w)) own (cellOf w) fits refl c (eqb-false c (cellOf w) z), set-getD groups (groupOf (cellOf w)) 0) (or-none (isSet groups c)))))
+      (λ y. rw (y, bit-kept own (cellOf w % 64), set-getD groups (groupOf (cellOf w)) 0) (or-none (isSet groups c)))
     where
-      same-rest : c / 64 ≡ cellOf w / 64 → eqb (c % 64) (cellOf w % 64) ≡ eqb c (cellOf w)
-      same-rest q =
-          by-bool (eqb c (cellOf w))
-          (λ z. eq-eqb (c % 64) (cellOf w % 64) (ap (λ (x : ℕ). x % 64) (eqb-true c (cellOf w) z)) ∙ sym z)
-          (λ z. ne-eqb (c % 64) (cellOf w % 64) (λ r. eqb-false c (cellOf w) z (omega (arith, q, r))) ∙ sym z)
+      or-none : (x : Bool) → x ≡ (x || false)
+      or-none true = refl
+      or-none false = refl
+
+      or-true : (x : Bool) → true ≡ (x || true)
+      or-true true = refl
+      or-true false = refl
 
 or-cases : {C : Type 0} (x y : Bool) → (x || y) ≡ true → (x ≡ true → C) → (y ≡ true → C) → C
 or-cases true y h f g = f refl
@@ -150,10 +155,10 @@ module _ (e : ℕ) (t : List ℕ) (n : ℕ) where
   turned-none groups blank =
       record {
         clear = λ c h j l. absurd (not-suc-le-zero l);
-        found = λ c h. absurd (true≢ h (ap (λ (x : ℕ). bit x (c % 64)) (blank (c / 64)) ∙ no-bit (c % 64)));
+        found = λ c h. absurd (group-some groups c h (blank (groupOf c)));
       }
 
-  pub turned-more : (k : ℕ) (groups : List ℕ) → cellOf (word1 e t k) / 64 < length groups → Turned e t n k groups → Turned e t n (k + 1) (markTurning n (word1 e t k) groups)
+  pub turned-more : (k : ℕ) (groups : List ℕ) → groupOf (cellOf (word1 e t k)) < length groups → Turned e t n k groups → Turned e t n (k + 1) (markTurning n (word1 e t k) groups)
   turned-more k groups fits m =
       record {
         clear = λ c h j l u q.
@@ -162,7 +167,7 @@ module _ (e : ℕ) (t : List ℕ) (n : ℕ) where
             (λ p. true≢ (and-join _ _ (subst (λ (x : ℕ). turns n (word1 e t x) ≡ true) p u) (eq-eqb _ _ (sym q ∙ ap (λ (x : ℕ). cellOf (word1 e t x)) p))) (f .1))
             (λ p. m .clear c (f .0) j p u q);
         found = λ c h.
-            or-cases (marked groups c) (turns n (word1 e t k) && eqb c (cellOf (word1 e t k))) (sym (marks-after n (word1 e t k) groups fits c) ∙ h)
+            or-cases (isSet groups c) (turns n (word1 e t k) && eqb c (cellOf (word1 e t k))) (sym (marks-after n (word1 e t k) groups fits c) ∙ h)
             (λ p. let f = m .found c p in (f .0, omega (arith, f .1), f .2, f .3))
             (λ p. let s = and-split (turns n (word1 e t k)) (eqb c (cellOf (word1 e t k))) p in (k, omega arith, s .0, sym (eqb-true _ _ (s .1))));
       }

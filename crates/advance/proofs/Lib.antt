@@ -5,4 +5,5 @@ pub mod Choosing
 pub mod Bits
 pub mod Listing
 pub mod Noting
+pub mod Performing
 pub mod Advanced

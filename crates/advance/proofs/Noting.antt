@@ -1,50 +1,39 @@
 -- Laws of the questions asked of the entries, and of the list by which the code settles which body each cell gets. Assumes nothing.
-use Prim.Native.Nat.{ℕ, zero, suc, _+_, _-_, _*_, _≤_, _<_}
+use Prim.Native.Nat.{ℕ, zero, suc, _+_, _*_, _≤_, _<_}
 use mathlib.Core.Bool.{Bool, true, false, cond, not, _&&_, _||_}
-use mathlib.Core.List.{List, [], _++_, append-nil}
+use mathlib.Core.List.{List, []}
 use mathlib.Core.Path.{_≡_, refl, sym, ap, subst, _∙_}
 use native.Mathlib.Omega.{arith}
-use borrow.Author.Tests.{eq-eqb, eqb-true, eqb-false, leb-false}
+use borrow.Author.Tests.{eq-eqb, eqb-true, eqb-false, leb-false, lt-ltb}
 use lib.Dec.{leb, eqb}
-use lib.ListN.{length, getD, take}
-use Rattle.words.specs.Layout.{slotsOf, pairsAt}
+use lib.ListN.{length, getD}
+use Rattle.words.specs.Layout.{slotsOf}
 use Rattle.words.specs.Scan.{all, count, nth}
-use Rattle.words.specs.Stores.{stores, gather}
+use Rattle.words.specs.Stores.{gather}
 use Rattle.words.specs.Cells.{cellPlan}
-use Rattle.words.specs.Journal.{pairPlans}
 use Rattle.words.proofs.Scan.{by-bool, by-le, is-false, is-true, true≢, and-split, and-join, all-at, all-make, all-ext, count-ext, count-le}
-use Rattle.words.proofs.Plans.{Each, stores-none}
-use Rattle.words.proofs.Names.{names-make, names-below}
-use Rattle.words.proofs.Places.{pendingAt-below}
-use Rattle.words.proofs.Nth.{count-below, nth-below, nth-holds, nth-rank, nth-ext}
-use Rattle.table.specs.Entry.{live, word1, word2, depthOf, writableOf, viaOf, cellOf, parent, findIn, holdsIn}
-use Rattle.table.specs.Changes.{Change, keep, put, entryStores, entryChanges}
-use Rattle.table.specs.Marks.{Marks, Marked, IsCopy, has, markAt}
+use Rattle.words.proofs.Gather.{gather-ext}
+use Rattle.words.proofs.Nth.{count-below, nth-holds, nth-rank, nth-ext}
+use Rattle.table.specs.Entry.{live, word1, word2, depthOf, writableOf, cellOf, parent, findIn, holdsIn, ownsBody}
+use Rattle.table.specs.Marks.{Marks, Marked, IsCopy, cellIn, has, markAt}
 use Rattle.table.proofs.Entry.{find-hit, holds-found}
 use Rattle.table.proofs.Rule.{Rule}
+use Rattle.table.proofs.Change.{only-one}
 use Rattle.table.proofs.Marks.{marked-holds}
-use Rattle.table.proofs.Entries.{changes-names}
 use Rattle.search.specs.Free.{isCopy, bodyUsed, bodyFree, copies}
 use Rattle.search.proofs.From.{count-stop}
 use Rattle.search.proofs.Counts.{count-entries}
 use Rattle.search.proofs.Free.{body-used, body-user}
+use Rattle.changes.specs.Staged.{isSet}
 use Rattle.model.specs.Answer.{ask}
-use Rattle.advance.specs.Advance.{advances, bodyFor, advanceChange, advanceWords, advanceBytes}
-use Rattle.advance.specs.Notes.{FreeFrom, turns, entriesCheck, marked, Turned, Listed, Placed, unmarked, Filled, noted, noteChange}
+use Rattle.advance.specs.Advance.{advances, bodyFor, advanceChange, advanceBytes}
+use Rattle.advance.specs.Notes.{FreeFrom, turns, entriesCheck, Turned, OwnBits, Listed, rankOf, InOrder, unmarked, changeTo}
 use Rattle.advance.specs.Choice.{turnsAt}
 use Rattle.advance.proofs.Turning.{advances-of, advances-cell}
 use Rattle.advance.proofs.Choosing.{enough}
-use Rattle.advance.proofs.Listing.{gather-listed, listed-ext}
+use Rattle.advance.proofs.Listing.{gather-listed}
 
 -- ---- free entries, at which no pass need look
-
--- what asks for nothing is passed over
-gather-skip : {A : Type 0} (f : ℕ → List A) (c d : ℕ) → c ≤ d → ((k : ℕ) → c ≤ k → k < d → f k ≡ []) → gather d f ≡ gather c f
-gather-skip f c zero l h = let z : 0 ≡ c = omega arith in ap (λ (n : ℕ). gather n f) z
-gather-skip f c (suc d) l h =
-    by-le c d
-    (λ q. ap (λ (x : List _). gather d f ++ x) (h d q (omega arith)) ∙ append-nil (gather d f) ∙ gather-skip f c d q (λ k r s. h k r (omega arith)))
-    (λ q. let z : suc d ≡ c = omega arith in ap (λ (n : ℕ). gather n f) z)
 
 -- a test that every free entry passes
 all-stop : (n from : ℕ) (f : ℕ → Bool) → from ≤ n → ((k : ℕ) → from ≤ k → k < n → f k ≡ true) → all from f ≡ all n f
@@ -71,7 +60,7 @@ module _ (e : ℕ) (t : List ℕ) (top : ℕ) (within : top ≤ e) (free : FreeF
 
   pub copies-front : count top (isCopy e t) ≡ copies e t
   unfolding copies
-  copies-front = sym (count-stop e top (isCopy e t) within (λ k l h. ap (λ (w : ℕ). not (eqb w 0) && eqb (viaOf w) 0) (free k l h)))
+  copies-front = sym (count-stop e top (isCopy e t) within (λ k l h. ap ownsBody (free k l h)))
 
   pub covered-front : (n : ℕ) (P : ℕ → Bool) → all top (λ i. not (turns n (word1 e t i)) || P (word1 e t i)) ≡ all e (λ i. not (turns n (word1 e t i)) || P (word1 e t i))
   covered-front n P =
@@ -85,11 +74,9 @@ module _ (e : ℕ) (t : List ℕ) (top : ℕ) (within : top ≤ e) (free : FreeF
         found = λ c h. let f = m .found c h in (f .0, omega (arith, f .1), f .2, f .3);
       }
 
-  pub changes-front : (n : ℕ) (note : ℕ → ℕ) → gather top (λ i. entryStores e i (noteChange n note (word1 e t i))) ≡ entryChanges e (λ i. noteChange n note (word1 e t i))
-  unfolding noteChange
-  changes-front n note =
-      sym (gather-skip (λ i. entryStores e i (noteChange n note (word1 e t i))) top e within
-      (λ k l h. ap (λ (b : Bool). entryStores e k (cond b (put (word1 e t k - 67_108_864 * viaOf (word1 e t k)) (note (cellOf (word1 e t k)))) keep)) (free-stays n k l h)))
+  pub listed-front : (n : ℕ) (f : ℕ → Bool) (places : List ℕ) → Listed e t n f top places → Listed e t n f e places
+  listed-front n f places old =
+      record { place = λ i l z. by-le top i (λ far. absurd (true≢ z (free-stays n i far l))) (λ near. old .place i near z) }
 
 -- ---- the questions, asked of the entries
 
@@ -166,31 +153,61 @@ module _ (m e b : ℕ) (t : List ℕ) (ok : Rule m e b t) where
   advances-few low = omega (arith, count-entries m e b t ok (live t) low (λ w. eqb (writableOf w) 1), count-le e (λ i. turns (live t) (word1 e t i)))
 
   -- the cells whose bits are set are those that advance
-  marked-advances : (groups : List ℕ) → Turned e t (live t) e groups → (c : ℕ) → marked groups c ≡ advances e t c
-  marked-advances groups k c =
+  pub turned-advances : (groups : List ℕ) → Turned e t (live t) e groups → (c : ℕ) → isSet groups c ≡ advances e t c
+  turned-advances groups k c =
       by-bool (advances e t c)
       (λ a.
       let s = entry-of c a in
-      is-true (marked groups c) (λ z. k .clear c z (s .0) (s .1) (s .2) (s .3)) ∙ sym a)
+      is-true (isSet groups c) (λ z. k .clear c z (s .0) (s .1) (s .2) (s .3)) ∙ sym a)
       (λ a.
-      is-false (marked groups c) (λ z.
+      is-false (isSet groups c) (λ z.
       let f = k .found c z in
       true≢ (subst (λ (x : ℕ). advances e t x ≡ true) (f .3) (advances-of m e b t ok (f .0) (f .1) (f .2))) a)
       ∙ sym a)
 
-  -- and no cell behind memory is among them
-  behind-stays : (c : ℕ) → m ≤ c → advances e t c ≡ false
-  behind-stays c l = is-false (advances e t c) (λ a. let h = advances-cell m e b t ok c a in omega arith)
+  -- ---- the list
 
-  -- so that their number and their list are those of the cells that advance
-  module _ (groups : List ℕ) (turned : Turned e t (live t) e groups) (long : m ≤ 64 * length groups) where
-    pub marked-count : count (64 * length groups) (marked groups) ≡ count m (advances e t)
-    marked-count =
-        count-ext (64 * length groups) (marked groups) (advances e t) (λ k l. marked-advances groups turned k)
-        ∙ count-stop (64 * length groups) m (advances e t) long (λ k l h. behind-stays k l)
+  module _ (groups : List ℕ) (bits : (c : ℕ) → isSet groups c ≡ advances e t c) where
+    -- no cell behind memory has a bit, so that there are as many bits as cells that advance
+    pub bits-count : m ≤ 64 * length groups → count (64 * length groups) (isSet groups) ≡ count m (advances e t)
+    bits-count long =
+        count-ext (64 * length groups) (isSet groups) (advances e t) (λ k l. bits k)
+        ∙ count-stop (64 * length groups) m (advances e t) long (λ c l h. is-false (advances e t c) (λ a. let inside = advances-cell m e b t ok c a in omega arith))
 
-    pub marked-listed : (firsts seen places : List ℕ) → Listed (marked groups) (64 * length groups) firsts seen places → Listed (advances e t) m firsts seen places
-    marked-listed firsts seen places = listed-ext (marked groups) (advances e t) (64 * length groups) m firsts seen places long (marked-advances groups turned)
+    pub own-bits : 1 ≤ live t → OwnBits e t (live t) groups
+    own-bits low = record {
+      here = λ i l z. bits (cellIn e t i) ∙ advances-of m e b t ok i l z;
+      apart = λ i j li lj zi zj q.
+          only-one m e b t ok i j (live t) (cellIn e t j) low li lj
+          (and-join (eqb (depthOf (word1 e t i)) (live t)) (eqb (cellIn e t i) (cellIn e t j)) (and-split (eqb (depthOf (word1 e t i)) (live t)) (eqb (writableOf (word1 e t i)) 1) zi .0) (eq-eqb (cellIn e t i) (cellIn e t j) q))
+          (and-join (eqb (depthOf (word1 e t j)) (live t)) (eqb (cellIn e t j) (cellIn e t j)) (and-split (eqb (depthOf (word1 e t j)) (live t)) (eqb (writableOf (word1 e t j)) 1) zj .0) (eq-eqb (cellIn e t j) (cellIn e t j) refl));
+    }
+
+    module _ (n : ℕ) (places : List ℕ) (number : n ≡ count m (advances e t)) (list : Listed e t (live t) (isSet groups) e places) where
+      entry-place : (i : ℕ) → i < e → turns (live t) (word1 e t i) ≡ true → getD places (rankOf e t i) 0 ≡ i
+      entry-place i l z =
+          ap (λ (x : ℕ). getD places x 0) (sym (count-ext (cellIn e t i) (isSet groups) (advances e t) (λ c h. bits c))) ∙ list .place i l z
+
+      -- the entry that stands at place r
+      at-place : (r : ℕ) → r < n → (i : ℕ) × (i < e) × (turnsAt e t i ≡ true) × (rankOf e t i ≡ r) × (getD places r 0 ≡ i)
+      at-place r l =
+          let in-all : r < count m (advances e t) = omega arith in
+          let s = entry-of (nth m (advances e t) r) (nth-holds m (advances e t) r in-all) in
+          let rank : rankOf e t (s .0) ≡ r = ap (λ (c : ℕ). count c (advances e t)) (s .3) ∙ nth-rank m (advances e t) r in-all in
+          (s .0, s .1, s .2, rank, ap (λ (x : ℕ). getD places x 0) (sym rank) ∙ entry-place (s .0) (s .1) (s .2))
+
+      pub in-order : InOrder e t n places
+      in-order = record {
+        slot = λ r l. let s = at-place r l in rw (s .4) (s .1);
+        goes = λ r l. let s = at-place r l in rw (s .4) (s .2);
+        rank = λ r l. let s = at-place r l in rw (s .4) (s .3);
+        place = entry-place;
+      }
+
+  -- every cell listed is one of memory's
+  pub listed-inside : (n : ℕ) (places : List ℕ) → InOrder e t n places → (r : ℕ) → r < n → cellIn e t (getD places r 0) < m
+  listed-inside n places list r l =
+      advances-cell m e b t ok (cellIn e t (getD places r 0)) (advances-of m e b t ok (getD places r 0) (list .slot r l) (list .goes r l))
 
 -- ---- the bodies
 
@@ -213,84 +230,37 @@ room-unmarked m e b t used ok room marks =
 
 -- ---- from the list to the plan
 
-gather-below : {A : Type 0} (f g : ℕ → List A) (n : ℕ) → ((i : ℕ) → i < n → f i ≡ g i) → gather n f ≡ gather n g
-gather-below f g zero h = refl
-gather-below f g (suc n) h = λ j. gather-below f g n (λ i l. h i (omega arith)) j ++ h n (omega arith) j
+module _ (m b n : ℕ) (t used places : List ℕ) (ok : Rule m (slotsOf (length t)) b t)
+    (marks : Marks (IsCopy (slotsOf (length t)) t) (word2 (slotsOf (length t)) t) 1 (slotsOf (length t)) used)
+    (number : n ≡ count m (advances (slotsOf (length t)) t)) where
+  abbrev e : ℕ
+  e = slotsOf (length t)
 
--- what is known once the cells are listed and their bodies are in their places
-module _ (m e b n : ℕ) (t used firsts seen listed places : List ℕ) (size : e ≡ slotsOf (length t)) (ok : Rule m e b t)
-    (marks : Marks (IsCopy e t) (word2 e t) 1 e used) (number : n ≡ count m (advances e t)) (list : Listed (advances e t) m firsts seen listed)
-    (filled : Filled b n used places) where
   nth-free : (r : ℕ) → nth b (unmarked used) r ≡ nth b (bodyFree e t) r
   nth-free r = nth-ext b (unmarked used) (bodyFree e t) r (λ k h. unmarked-body e t used marks k)
 
-  pub listed-bytes : (memory : List ℕ) → gather n (λ r. cellPlan memory (getD listed r 0) (nth b (unmarked used) r)) ≡ advanceBytes m b memory t
+  pub listed-bytes : (memory : List ℕ) → InOrder (slotsOf (length t)) t n places
+      → gather n (λ r. cellPlan memory (cellIn (slotsOf (length t)) t (getD places r 0)) (nth b (unmarked used) r)) ≡ advanceBytes m b memory t
   unfolding advanceBytes bodyFor
-  listed-bytes memory =
-      ap (λ (x : ℕ). gather x (λ r. cellPlan memory (getD listed r 0) (nth b (unmarked used) r))) number
-      ∙ gather-listed (advances e t) (λ c r. cellPlan memory c (nth b (unmarked used) r)) (λ r. getD listed r 0) m (λ c l h. list .cell c l h)
-      ∙ gather-below _ _ m (λ c l. ap (λ (x : ℕ). cond (advances e t c) (cellPlan memory c x) []) (nth-free (count c (advances e t))))
-      ∙ ap (λ (x : ℕ). gather m (λ c. cond (advances x t c) (cellPlan memory c (bodyFor x b t c)) [])) size
+  listed-bytes memory list =
+      ap (λ (x : ℕ). gather x (λ r. cellPlan memory (cellIn e t (getD places r 0)) (nth b (unmarked used) r))) number
+      ∙ gather-listed (advances e t) (λ c r. cellPlan memory c (nth b (unmarked used) r)) (λ r. cellIn e t (getD places r 0)) m listed-cell
+      ∙ gather-ext m (λ c. cond (advances e t c) (cellPlan memory c (nth b (unmarked used) (count c (advances e t)))) []) (λ c. cond (advances e t c) (cellPlan memory c (nth b (bodyFree e t) (count c (advances e t)))) [])
+      (λ c l. ap (λ (x : ℕ). cond (advances e t c) (cellPlan memory c x) []) (nth-free (count c (advances e t))))
+    where
+      listed-cell : (c : ℕ) → c < m → advances e t c ≡ true → cellIn e t (getD places (count c (advances e t)) 0) ≡ c
+      listed-cell c l h =
+          let s = entry-of m e b t ok c h in
+          let same = ap (λ (x : ℕ). getD places (count x (advances e t)) 0) (sym (s .3)) ∙ list .place (s .0) (s .1) (s .2) in
+          ap (cellIn e t) same ∙ s .3
 
-  -- the cell of an entry that advances
-  module _ (i : ℕ) (l : i < e) (z : turnsAt e t i ≡ true) where
-    abbrev cell : ℕ
-    cell = cellOf (word1 e t i)
-
-    goes : advances e t (cellOf (word1 e t i)) ≡ true
-    goes = advances-of m e b t ok i l z
-
-    inside : cellOf (word1 e t i) < m
-    inside = advances-cell m e b t ok (cellOf (word1 e t i)) goes
-
-    pub entry-placed : m ≤ length seen → m ≤ 64 * length firsts → n ≤ length places → Placed firsts seen places (cellOf (word1 e t i))
-    entry-placed x y w =
-        let p = list .place cell inside goes in
-        let less = count-below (advances e t) cell m inside goes in
-        record { group = omega (arith, inside); cell = omega (arith, inside); place = omega (arith, p, less, number) }
-
-    body-of : noted firsts seen places (cellOf (word1 e t i)) ≡ bodyFor e b t (cellOf (word1 e t i))
-    unfolding bodyFor
-    body-of =
-        let less = count-below (advances e t) cell m inside goes in
-        ap (λ (x : ℕ). getD places x 0) (list .place cell inside goes)
-        ∙ filled .body (count cell (advances e t)) (omega (arith, less, number))
-        ∙ nth-free (count cell (advances e t))
-
-  change-of : (i : ℕ) → i < e → noteChange (live t) (noted firsts seen places) (word1 e t i) ≡ advanceChange e b t i
-  unfolding noteChange advanceChange
-  change-of i l = by-bool (turnsAt e t i) (λ z. rw (z, body-of i l z)) (λ z. rw z)
-
-  pub listed-words : entryChanges e (λ i. noteChange (live t) (noted firsts seen places) (word1 e t i)) ≡ advanceWords b t
-  unfolding advanceWords
-  listed-words =
-      gather-below (λ i. entryStores e i (noteChange (live t) (noted firsts seen places) (word1 e t i))) (λ i. entryStores e i (advanceChange e b t i)) e
-      (λ i l. ap (entryStores e i) (change-of i l))
-      ∙ ap (λ (x : ℕ). entryChanges x (advanceChange x b t)) size
-
--- every cell listed is one of memory's
-pub listed-inside : (m n : ℕ) (f : ℕ → Bool) (firsts seen listed : List ℕ) → n ≡ count m f → Listed f m firsts seen listed → (r : ℕ) → r < n → getD listed r 0 < m
-listed-inside m n f firsts seen listed number list r l =
-    let in-all : r < count m f = omega arith in
-    let k = nth m f r in
-    let at = list .cell k (nth-below m f r in-all) (nth-holds m f r in-all) in
-    omega (arith, nth-below m f r in-all, ap (λ (x : ℕ). getD listed x 0) (nth-rank m f r in-all), at)
-
--- ---- what the code cites of one entry
-
-module _ (e i n at k : ℕ) (note : ℕ → ℕ) (t : List ℕ) (w : ℕ) where
-  pub entry-stays : (eqb (depthOf w) n && eqb (writableOf w) 1) ≡ false
-      → (0 ≡ length (entryStores e i (noteChange n note w))) × (0 ≤ 2) × (t ≡ stores (take k (pairPlans at (entryStores e i (noteChange n note w)))) t)
-  unfolding noteChange
-  entry-stays z = (rw z, omega arith, rw z (stores-none k t))
-
-  pub entry-turns : (eqb (depthOf w) n && eqb (writableOf w) 1) ≡ true → (t′ : List ℕ)
-      → t′ ≡ stores (take k (pairPlans at (entryStores e i (put (w - 67_108_864 * viaOf w) (note (cellOf w)))))) t
-      → (2 ≡ length (entryStores e i (noteChange n note w))) × (2 ≤ 2) × (t′ ≡ stores (take k (pairPlans at (entryStores e i (noteChange n note w)))) t)
-  unfolding noteChange
-  entry-turns z t′ q = (rw z, omega arith, rw z q)
-
--- the words of changes may be written as pairs
-pub words-below : (e : ℕ) (f : ℕ → Change) → Each (λ s. s .at < pairsAt e) (entryChanges e f)
-words-below e f =
-    names-below (pairsAt e) 0 (entryChanges e f) (pendingAt-below e) (changes-names e f [] (names-make (pairsAt e) 0 [] tt tt tt) tt)
+  -- once all are staged, the changes are the call's
+  pub change-all : (i : ℕ) → i < slotsOf (length t) → changeTo (slotsOf (length t)) b t used n i ≡ advanceChange (slotsOf (length t)) b t i
+  unfolding changeTo advanceChange bodyFor
+  change-all i l =
+      by-bool (turnsAt e t i)
+      (λ z.
+      let goes = advances-of m e b t ok i l z in
+      let less : rankOf e t i < n = omega (arith, count-below (advances e t) (cellIn e t i) m (advances-cell m e b t ok (cellIn e t i) goes) goes, number) in
+      rw (z, lt-ltb (rankOf e t i) n less, nth-free (rankOf e t i)))
+      (λ z. rw z)

@@ -1,14 +1,14 @@
 -- Advance: its questions, the bytes and words that it stores, and what it means.
-use Prim.Native.Nat.{ℕ, _+_, _-_, _*_}
+use Prim.Native.Nat.{ℕ, _+_}
 use mathlib.Core.Bool.{Bool, cond, not, _&&_, _||_}
 use mathlib.Core.List.{List, []}
 use lib.Dec.{ltb, leb, eqb}
 use lib.ListN.{length}
-use Rattle.words.specs.Layout.{cellsOf, slotsOf, pairsAt}
+use Rattle.words.specs.Layout.{cellsOf, bodiesOf, slotsOf, pairsAt}
 use Rattle.words.specs.Scan.{all, count, nth}
 use Rattle.words.specs.Cells.{cellPlan}
 use Rattle.words.specs.Stores.{Store, gather}
-use Rattle.table.specs.Entry.{live, word1, depthOf, cellOf, writableOf, viaOf, parent, findIn, holdsIn}
+use Rattle.table.specs.Entry.{live, word1, depthOf, cellOf, writableOf, parent, findIn, holdsIn, asCopy}
 use Rattle.table.specs.Changes.{Change, keep, put, entryChanges}
 use Rattle.search.specs.Domain.{depthNamed}
 use Rattle.search.specs.Free.{bodyFree, copies}
@@ -29,7 +29,7 @@ advanceCheck memory bodies t h =
     (ask (ltb 0 (depthNamed t h)) 5
     (ask (eqb (depthNamed t h) (live t)) 6
     (ask (leb (live t) 1 || all (cellsOf memory) (λ c. not (advances (slotsOf (length t)) t c) || holdsIn (slotsOf (length t)) t (parent (live t)) c)) 15
-    (ask (leb (copies (slotsOf (length t)) t + count (cellsOf memory) (advances (slotsOf (length t)) t)) (cellsOf bodies)) 17 0))))
+    (ask (leb (copies (slotsOf (length t)) t + count (cellsOf memory) (advances (slotsOf (length t)) t)) (bodiesOf bodies)) 17 0))))
 
 -- the body that the new copy of cell c takes: the lowest free bodies, in the order of the cells
 unfoldable pub bodyFor : (e b : ℕ) → List ℕ → ℕ → ℕ
@@ -39,7 +39,7 @@ bodyFor e b t c = nth b (bodyFree e t) (count c (advances e t))
 unfoldable pub advanceChange : (e b : ℕ) → List ℕ → ℕ → Change
 advanceChange e b t i =
     cond (eqb (depthOf (word1 e t i)) (live t) && eqb (writableOf (word1 e t i)) 1)
-    (put (word1 e t i - 67_108_864 * viaOf (word1 e t i)) (bodyFor e b t (cellOf (word1 e t i)))) keep
+    (put (asCopy (word1 e t i)) (bodyFor e b t (cellOf (word1 e t i)))) keep
 
 unfoldable pub advanceWords : (b : ℕ) → List ℕ → List Store
 advanceWords b t = entryChanges (slotsOf (length t)) (advanceChange (slotsOf (length t)) b t)
@@ -53,7 +53,7 @@ unfoldable pub advanceCall : (h : ℕ) → Buffers → Call
 advanceCall h b =
     unless (advanceCheck (length (b .memory)) (length (b .bodies)) (b .table) h)
     (perform (changePlan (pairsAt (slotsOf (length (b .table))))
-    (advanceBytes (cellsOf (length (b .memory))) (cellsOf (length (b .bodies))) (b .memory) (b .table)) (advanceWords (cellsOf (length (b .bodies))) (b .table))) 0)
+    (advanceBytes (cellsOf (length (b .memory))) (bodiesOf (length (b .bodies))) (b .memory) (b .table)) (advanceWords (bodiesOf (length (b .bodies))) (b .table))) 0)
 
 abbrev pub advanceMeans : (h : ℕ) → ℕ → Buffers → View
 advanceMeans h k b = callMeans (advanceEffect (roomOf b) (b .memory) h) k b

@@ -1,16 +1,16 @@
 -- Document 01, "What the statements have to decide": "Two things are left free: which entries and bodies a call takes, though each was free before
 -- the call". An advance takes bodies: `body c` is the one of the new copy of cell c. The call made with any such bodies means the same
 -- (proofs/Chosen); the contract's call takes the lowest free ones, `bodyFor`.
-use Prim.Native.Nat.{ℕ, _-_, _*_}
+use Prim.Native.Nat.{ℕ}
 use mathlib.Core.Bool.{Bool, cond, _&&_}
 use mathlib.Core.List.{List, []}
 use mathlib.Core.Path.{_≡_}
 use lib.Dec.{eqb}
 use lib.ListN.{length}
-use Rattle.words.specs.Layout.{cellsOf, slotsOf, pairsAt}
+use Rattle.words.specs.Layout.{cellsOf, bodiesOf, slotsOf, pairsAt}
 use Rattle.words.specs.Cells.{cellPlan}
 use Rattle.words.specs.Stores.{Store, gather}
-use Rattle.table.specs.Entry.{live, word1, depthOf, cellOf, writableOf, viaOf}
+use Rattle.table.specs.Entry.{live, word1, depthOf, cellOf, writableOf, asCopy}
 use Rattle.table.specs.Changes.{Change, keep, put, entryChanges}
 use Rattle.search.specs.Free.{bodyFree, TakesFree}
 use Rattle.store.specs.Outcome.{Buffers, Call, perform, unless, changePlan}
@@ -20,12 +20,9 @@ use Rattle.advance.specs.Advance.{advances, advanceCheck}
 abbrev pub Choice : (m e b : ℕ) → List ℕ → (body : ℕ → ℕ) → Type 0
 Choice m e b t body = TakesFree m (advances e t) b (bodyFree e t) body
 
--- an entry that is innermost and read-write, and a first word as that of a copy
+-- an entry that is innermost and read-write
 abbrev pub turnsAt : ℕ → List ℕ → ℕ → Bool
 turnsAt e t i = eqb (depthOf (word1 e t i)) (live t) && eqb (writableOf (word1 e t i)) 1
-
-abbrev pub asCopy : ℕ → ℕ
-asCopy w = w - 67_108_864 * viaOf w
 
 -- such an entry becomes a copy in the body of its cell
 abbrev pub changeWith : (e : ℕ) (t : List ℕ) (body : ℕ → ℕ) → ℕ → Change
@@ -47,4 +44,4 @@ advanceWith body h b =
 abbrev pub MayTake : (h : ℕ) → Buffers → (body : ℕ → ℕ) → Type 0
 MayTake h b body =
     advanceCheck (length (b .memory)) (length (b .bodies)) (b .table) h ≡ 0
-    → Choice (cellsOf (length (b .memory))) (slotsOf (length (b .table))) (cellsOf (length (b .bodies))) (b .table) body
+    → Choice (cellsOf (length (b .memory))) (slotsOf (length (b .table))) (bodiesOf (length (b .bodies))) (b .table) body

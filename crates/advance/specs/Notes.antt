@@ -1,16 +1,22 @@
--- What the parts of advance's code pass on to each other: which cells advance, as bits; the list of those cells; and for each its place in it.
-use Prim.Native.Nat.{ℕ, _+_, _-_, _*_, _/_, _%_, _^_, _≤_, _<_}
+-- What the parts of advance's code pass on to each other: which cells advance, as bits; the list of the entries that advance, in the order of
+-- their cells; and what is staged for them.
+use Prim.Native.Nat.{ℕ, _+_, _*_, _/_, _%_, _≤_, _<_}
 use mathlib.Core.Bool.{Bool, true, false, cond, not, _&&_, _||_}
 use mathlib.Core.Path.{_≡_}
 use mathlib.Core.List.{List}
-use lib.Bits.{bitOr}
-use lib.Dec.{leb, eqb}
+use lib.Dec.{leb, ltb, eqb}
 use lib.ListN.{length, getD, set}
+use Rattle.words.specs.Layout.{cellsOf, bodiesOf, slotsOf, pairsAt}
 use Rattle.words.specs.Scan.{all, count, nth}
-use Rattle.table.specs.Entry.{live, word1, parent, holdsIn, depthOf, cellOf, writableOf, viaOf}
+use Rattle.table.specs.Entry.{live, word1, word2, parent, holdsIn, depthOf, cellOf, writableOf, asCopy}
+use Rattle.table.specs.Marks.{Marks, IsCopy, cellIn}
 use Rattle.table.specs.Changes.{Change, keep, put}
 use Rattle.search.specs.Free.{copies}
+use Rattle.changes.specs.Staged.{withBit, isSet}
 use Rattle.model.specs.Answer.{ask}
+use Rattle.store.specs.Outcome.{Buffers, Call, perform, changePlan}
+use Rattle.store.specs.Checks.{storeCheck}
+use Rattle.advance.specs.Advance.{advances, advanceBytes, advanceWords}
 
 -- the entries from the n-th on are free
 abbrev pub FreeFrom : ℕ → List ℕ → ℕ → Type 0
@@ -28,13 +34,12 @@ entriesCheck e b t =
 
 -- ---- which cells advance: a group is 64 cells, and has a number whose bits are theirs
 
--- is bit j of a number set?
-abbrev pub bit : ℕ → ℕ → Bool
-bit x j = eqb (x / 2 ^ j % 2) 1
+-- the group of a cell, and the first cell of a group
+abbrev pub groupOf : ℕ → ℕ
+groupOf c = c / 64
 
--- is the bit of cell c set?
-abbrev pub marked : List ℕ → ℕ → Bool
-marked groups c = bit (getD groups (c / 64) 0) (c % 64)
+abbrev pub firstCell : ℕ → ℕ
+firstCell g = 64 * g
 
 -- the groups from the g-th to the one before the h-th have no bit
 abbrev pub NoBits : List ℕ → ℕ → ℕ → Type 0
@@ -42,43 +47,69 @@ NoBits groups g h = (k : ℕ) → g ≤ k → k < h → getD groups k 0 ≡ 0
 
 -- the groups after an entry with first word w, where n domains are live: one that advances sets its cell's bit
 abbrev pub markTurning : (n w : ℕ) → List ℕ → List ℕ
-markTurning n w groups = set groups (cellOf w / 64) (bitOr (getD groups (cellOf w / 64) 0) (cond (turns n w) (2 ^ (cellOf w % 64)) 0))
+markTurning n w groups = set groups (groupOf (cellOf w)) (withBit (turns n w) (cellOf w % 64) (getD groups (groupOf (cellOf w)) 0))
 
 -- the bits set are those of the first k entries that advance, where n domains are live
 pub record Turned (e : ℕ) (t : List ℕ) (n k : ℕ) (groups : List ℕ) : Type 0 where
-  pub clear : (c : ℕ) → marked groups c ≡ false → (j : ℕ) → j < k → turns n (word1 e t j) ≡ true → cellOf (word1 e t j) ≡ c → ⊥
-  pub found : (c : ℕ) → marked groups c ≡ true → (j : ℕ) × (j < k) × (turns n (word1 e t j) ≡ true) × (cellOf (word1 e t j) ≡ c)
+  pub clear : (c : ℕ) → isSet groups c ≡ false → (j : ℕ) → j < k → turns n (word1 e t j) ≡ true → cellIn e t j ≡ c → ⊥
+  pub found : (c : ℕ) → isSet groups c ≡ true → (j : ℕ) × (j < k) × (turns n (word1 e t j) ≡ true) × (cellIn e t j ≡ c)
 
--- ---- their list, in the order of the cells
+-- the bits set are those of the cells that advance
+pub record CellBits (t groups : List ℕ) : Type 0 where
+  pub each : (c : ℕ) → isSet groups c ≡ advances (slotsOf (length t)) t c
 
--- the place of cell c in the list: that at which its group begins, and its own in the group
-abbrev pub placeOf : (firsts seen : List ℕ) → ℕ → ℕ
-placeOf firsts seen c = getD firsts (c / 64) 0 + getD seen c 0
+-- ---- a call that no question refuses
 
--- of the cells below c, those of which f holds are listed
-pub record Listed (f : ℕ → Bool) (c : ℕ) (firsts seen places : List ℕ) : Type 0 where
-  pub place : (k : ℕ) → k < c → f k ≡ true → placeOf firsts seen k ≡ count k f
-  pub cell : (k : ℕ) → k < c → f k ≡ true → getD places (count k f) 0 ≡ k
+-- it can be carried out, and the bodies in use are marked
+pub record Ready (memory bodies : ℕ) (t used : List ℕ) : Type 0 where
+  pub stands : storeCheck memory bodies t ≡ 0
+  pub lives : 1 ≤ live t
+  pub room : copies (slotsOf (length t)) t + count (cellsOf memory) (advances (slotsOf (length t)) t) ≤ bodiesOf bodies
+  pub marks : Marks (IsCopy (slotsOf (length t)) t) (word2 (slotsOf (length t)) t) 1 (slotsOf (length t)) used
+
+-- it is carried out
+abbrev pub performed : Buffers → Call
+performed b =
+    perform (changePlan (pairsAt (slotsOf (length (b .table))))
+    (advanceBytes (cellsOf (length (b .memory))) (bodiesOf (length (b .bodies))) (b .memory) (b .table)) (advanceWords (bodiesOf (length (b .bodies))) (b .table))) 0
+
+-- ---- the list of the entries that advance, in the order of their cells
+
+-- each group with a bit, of the first g, has the number of bits up to its end noted
+pub record Ends (groups : List ℕ) (g : ℕ) (ends : List ℕ) : Type 0 where
+  pub noted : (k : ℕ) → k < g → (getD groups k 0 ≡ 0 → ⊥) → getD ends k 0 ≡ count (firstCell (k + 1)) (isSet groups)
+
+-- each entry that advances where n domains are live has a bit of its own
+pub record OwnBits (e : ℕ) (t : List ℕ) (n : ℕ) (groups : List ℕ) : Type 0 where
+  pub here : (i : ℕ) → i < e → turns n (word1 e t i) ≡ true → isSet groups (cellIn e t i) ≡ true
+  pub apart : (i j : ℕ) → i < e → j < e → turns n (word1 e t i) ≡ true → turns n (word1 e t j) ≡ true → cellIn e t i ≡ cellIn e t j → i ≡ j
+
+-- the list after slot i, whose entry has first word w: one that advances stands at the rank of its cell among those of which f holds
+unfoldable pub listSlot : (n : ℕ) (f : ℕ → Bool) (w i : ℕ) → List ℕ → List ℕ
+listSlot n f w i places = cond (turns n w) (set places (count (cellOf w) f) i) places
+
+-- of the first k entries, those that advance are listed
+pub record Listed (e : ℕ) (t : List ℕ) (n : ℕ) (f : ℕ → Bool) (k : ℕ) (places : List ℕ) : Type 0 where
+  pub place : (i : ℕ) → i < k → turns n (word1 e t i) ≡ true → getD places (count (cellIn e t i) f) 0 ≡ i
+
+-- how many cells advance before that of entry i
+abbrev pub rankOf : ℕ → List ℕ → ℕ → ℕ
+rankOf e t i = count (cellIn e t i) (advances e t)
+
+-- the list has the n entries that advance, each at the rank of its cell
+pub record InOrder (e : ℕ) (t : List ℕ) (n : ℕ) (places : List ℕ) : Type 0 where
+  pub slot : (r : ℕ) → r < n → getD places r 0 < e
+  pub goes : (r : ℕ) → r < n → turns (live t) (word1 e t (getD places r 0)) ≡ true
+  pub rank : (r : ℕ) → r < n → rankOf e t (getD places r 0) ≡ r
+  pub place : (i : ℕ) → i < e → turns (live t) (word1 e t i) ≡ true → getD places (rankOf e t i) 0 ≡ i
+
+-- ---- what is staged
 
 -- a body that is not marked as in use
 abbrev pub unmarked : List ℕ → ℕ → Bool
 unmarked used k = not (eqb (getD used k 0) 1)
 
--- the first n places of the list have the lowest of b bodies that are unmarked
-pub record Filled (b n : ℕ) (used places : List ℕ) : Type 0 where
-  pub body : (r : ℕ) → r < n → getD places r 0 ≡ nth b (unmarked used) r
-
--- the body of cell c, once the list has bodies in the place of cells
-abbrev pub noted : (firsts seen places : List ℕ) → ℕ → ℕ
-noted firsts seen places c = getD places (placeOf firsts seen c) 0
-
--- cell c has a place in the list, and its body can be looked up
-pub record Placed (firsts seen places : List ℕ) (c : ℕ) : Type 0 where
-  pub group : c / 64 < length firsts
-  pub cell : c < length seen
-  pub place : placeOf firsts seen c < length places
-
--- the change of an entry with first word w, where n domains are live and `note` gives each cell's new body
-unfoldable pub noteChange : (n : ℕ) (note : ℕ → ℕ) (w : ℕ) → Change
-noteChange n note w =
-    cond (eqb (depthOf w) n && eqb (writableOf w) 1) (put (w - 67_108_864 * viaOf w) (note (cellOf w))) keep
+-- the change of entry i once the first r entries of the list are staged: of b bodies, each takes the lowest unmarked one that is left
+unfoldable pub changeTo : (e b : ℕ) → (t used : List ℕ) → (r i : ℕ) → Change
+changeTo e b t used r i =
+    cond (turns (live t) (word1 e t i) && ltb (rankOf e t i) r) (put (asCopy (word1 e t i)) (nth b (unmarked used) (rankOf e t i))) keep

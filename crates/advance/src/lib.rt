@@ -2,46 +2,57 @@
 //
 // A body in use is never written, so that a cut leaves the old copies whole. The questions are asked of the entries and not of the cells: there
 // may be 65,536 cells, but no more than 4,096 entries. The entries that advance set their cells' bits, 64 cells to a number, and a walk over these
-// numbers lists the cells in their order and notes where in the list each stands. The listed cells are copied one by one into the lowest
-// free bodies, and each body takes its cell's place in the list. Then the entries get their words by the journal, each with the body that
-// stands in its cell's place.
+// numbers notes how many bits there are up to the end of each. That tells the rank of each cell, and a pass over the entries lists the slots of
+// those that advance in the order of their cells. Along the list each cell is copied into the lowest body that is free, and its entry is staged
+// with that body. Then the staged words are written by the journal.
+use changes::few_bits;
+use changes::few_words;
+use changes::many_bits;
+use changes::many_words;
+use changes::no_head;
+use changes::stage_entry;
+use changes::with_bit;
+use changes::write_staged;
 use search::find_domain;
 use search::next_free_body;
 use store::Answer;
 use store::answer_of;
 use store::store_check;
 use table::FEW_CELLS;
+use table::FEW_SLOTS;
 use table::few_marks;
+use table::fields::cell_of;
+use table::fields::depth_of;
+use table::fields::is_writable;
+use table::fields::owns_body;
+use table::fields::to_copy;
 use table::first_word;
 use table::has_depth;
 use table::many_marks;
 use table::no_bodies;
-use table::write_entry;
 use words::copy_cell;
-use words::finish_journal;
 use words::layout::LIVE_AT;
 use words::layout::cells_of;
-use words::layout::pairs_at;
 use words::layout::slots_of;
 use words::remaining;
 use words::wide;
 ghost use mathlib.Core.Path.{_≡_};
 ghost use mathlib.Core.Bool.{true, not, _||_};
-ghost use Prim.Native.Nat.{ℕ, _+_, _-_, _*_, _/_, _≤_, _<_, min};
+ghost use Prim.Native.Nat.{ℕ, _+_, _*_, _≤_, _<_, min};
 ghost use lib.ListN.{length, take, getD};
-ghost use Rattle.words.specs.Layout.{cellAt, cellsOf, slotsOf, pairsAt, tableWords, maxSlots, maxCells, maxBodies, maxLive};
+ghost use Rattle.words.specs.Layout.{cellAt, cellsOf, bodiesOf, slotsOf, pairsAt, maxSlots, maxCells, maxBodies, maxLive};
 ghost use Rattle.words.specs.Scan.{all, count, nth};
 ghost use Rattle.words.specs.Stores.{stores, gather};
 ghost use Rattle.words.specs.Cells.{cellPlan};
-ghost use Rattle.words.specs.Journal.{pairPlans, journal, journalSteps};
-ghost use Rattle.table.specs.Entry.{live, word1, parent, cellOf};
-ghost use Rattle.table.specs.Marks.{Blank, AllMarked, Marked, cellIn, has, markAt, zeros};
-ghost use Rattle.table.specs.Changes.{entryStores, entryChanges};
+ghost use Rattle.table.specs.Entry.{live, word1, parent, cellOf, asCopy};
+ghost use Rattle.table.specs.Marks.{Blank, Marked, cellIn, has, markAt, zeros};
+ghost use Rattle.table.specs.Changes.{keep, put};
 ghost use Rattle.search.specs.Free.{copies};
+ghost use Rattle.changes.specs.Staged.{isSet, Restaged, Stages};
 ghost use Rattle.store.specs.Outcome.{buffers, report, leaves, outcome};
 ghost use Rattle.store.specs.Means.{seen};
-ghost use Rattle.advance.specs.Advance.{advanceCheck, advanceCall, advanceMeans};
-ghost use Rattle.advance.specs.Notes.{FreeFrom, turns, entriesCheck, bit, marked, NoBits, markTurning, Turned, placeOf, Listed, unmarked, Filled, noted, Placed, noteChange};
+ghost use Rattle.advance.specs.Advance.{advances, advanceCheck, advanceCall, advanceMeans};
+ghost use Rattle.advance.specs.Notes.{FreeFrom, turns, entriesCheck, groupOf, NoBits, markTurning, Turned, CellBits, Ready, performed, Ends, OwnBits, listSlot, Listed, InOrder, unmarked, changeTo};
 
 // ---- the entries in use
 
@@ -76,7 +87,7 @@ fn last_in_use(table: &[u32], slots: usize) -> usize
 fn turns_word(word: u32, live: u32) -> bool
     ensures { λ r. ⌜ r ≡ turns live word ⌝ }
 {
-    (word / 268435456 == live) & (word / 134217728 % 2 == 1)
+    (depth_of(word) == live) & is_writable(word)
 }
 
 // How many bodies there must be: one for each copy, and one more for each entry that advances. It takes no branch on what an entry holds and
@@ -90,21 +101,28 @@ fn bodies_wanted(table: &[u32], slots: usize, top: usize, live: u32) -> usize
     let mut i: usize = 0;
     while i < top {
         let word = first_word(table, slots, i);
-        copies += ((word != 0) & (word / 67108864 % 2 == 0)) as u32;
+        copies += owns_body(word) as u32;
         turning += turns_word(word, live) as u32;
         i += 1;
     }
     wide(copies + turning)
 }
 
-// Sets the bit of an entry's cell where the entry advances. There is no branch: any other entry sets no bit.
+// The group of 64 cells to which a cell belongs.
+fn group_of(cell: usize) -> usize
+    ensures { λ r. ⌜ r ≡ groupOf cell ⌝ }
+{
+    cell / 64
+}
+
+// Sets the bit of an entry's cell where the entry advances. Any other entry sets no bit.
 fn mark_turning(groups: &mut [u64], word: u32, live: u32)
-    requires { ⌜ cellOf word / 64 < length (now groups) ⌝ }
+    requires { ⌜ groupOf (cellOf word) < length (now groups) ⌝ }
     ensures { λ _. ⌜ now (groups .exit) ≡ markTurning live word (now (groups .entry)) ⌝ }
 {
-    let cell = wide(word % 65536);
-    let turns = turns_word(word, live) as u64;
-    groups[cell / 64] = groups[cell / 64] | (turns << (word % 64));
+    let cell = cell_of(word);
+    let g = group_of(cell);
+    groups[g] = with_bit(groups[g], cell % 64, turns_word(word, live));
 }
 
 // Sets the bits of the cells of all entries that advance. Returns whether the parent holds all these cells, as the marks of the entries'
@@ -119,14 +137,15 @@ fn mark_groups(
 ) -> bool
     requires { ⌜ (slots ≤ maxSlots) × (pairsAt slots ≤ length (now table)) × (1 ≤ live) × (live ≤ maxLive) × (top ≤ slots) × FreeFrom slots (now table) top ⌝ }
     requires { ⌜ ((i : ℕ) → i < slots → cellIn slots (now table) i < length (now seen)) × (length (now seen) ≤ 64 * length (now groups)) × Blank (now groups) ⌝ }
-    ensures covered { λ r. ⌜ r ≡ all slots (λ i. not (turns live (word1 slots (now (table .entry)) i)) || has (parent live) (markAt (now (seen .entry)) (word1 slots (now (table .entry)) i))) ⌝ }
+    ensures covered { λ r. ⌜ r
+        ≡ all slots (λ i. not (turns live (word1 slots (now (table .entry)) i)) || has (parent live) (markAt (now (seen .entry)) (word1 slots (now (table .entry)) i))) ⌝ }
     ensures bits { λ _. ⌜ Turned slots (now (table .entry)) live slots (now (groups .exit)) ⌝ }
 {
     let mut good = true;
     let mut i: usize = 0;
     while i < top {
         let word = first_word(table, slots, i);
-        let held = has_depth(seen[wide(word % 65536)], live - 1);
+        let held = has_depth(seen[cell_of(word)], live - 1);
         good = good & (!turns_word(word, live) | held);
         mark_turning(groups, word, live);
         i += 1;
@@ -154,8 +173,8 @@ fn entries_check(table: &[u32], slots: usize, bodies: usize, seen: &[u8], groups
     0
 }
 
-// The questions put to advance. Once no question refuses the call, what is lent for marks has the marks of the entries, and the groups have the
-// bits of the cells that advance.
+// The questions put to advance. Once no question refuses the call, the bodies in use are marked, and the groups have the bits of the cells that
+// advance.
 fn advance_check(
     memory: usize,
     bodies: usize,
@@ -168,7 +187,7 @@ fn advance_check(
     requires room { ⌜ (min (cellsOf memory) maxCells ≤ length (now seen)) × (length (now used) ≡ maxBodies) ⌝ }
     requires blank { ⌜ Blank (now seen) × Blank (now used) × Blank (now groups) × (length (now seen) ≤ 64 * length (now groups)) ⌝ }
     ensures no { λ r. ⌜ r ≡ advanceCheck memory bodies (now (table .entry)) handle ⌝ }
-    ensures marks { λ r. ⌜ (r ≡ 0 → AllMarked (slotsOf (length (now (table .entry)))) (now (table .entry)) (now (seen .exit)) (now (used .exit)) × Turned (slotsOf (length (now (table .entry)))) (now (table .entry)) (live (now (table .entry))) (slotsOf (length (now (table .entry)))) (now (groups .exit))) ⌝ }
+    ensures ready { λ r. ⌜ (r ≡ 0 → Ready memory bodies (now (table .entry)) (now (used .exit)) × CellBits (now (table .entry)) (now (groups .exit))) ⌝ }
 {
     let no = store_check(memory, bodies, table, seen, used);
     if no != 0 {
@@ -184,30 +203,7 @@ fn advance_check(
     entries_check(table, slots_of(table.len()), cells_of(bodies), seen, groups)
 }
 
-// ---- the cells that advance, in their order
-
-// Lists the cells of one group whose bits are set, from place `first` on, and notes for each its place in the group. Every turn goes to the
-// next set bit, so that cells which stay cost nothing. Returns where the next group begins.
-fn list_group(group: u64, base: usize, seen: &mut [u8], places: &mut [u16], first: usize) -> usize
-    requires { ⌜ (base + 64 ≤ length (now seen)) × (base + 64 ≤ maxCells) × (first + count 64 (bit group) ≤ length (now places)) ⌝ }
-    ensures next { λ r. ⌜ r ≡ first + count 64 (bit group) ⌝ }
-    ensures listed { λ _. ⌜ ((j : ℕ) → j < 64 → bit group j ≡ true → (getD (now (seen .exit)) (base + j) 0 ≡ count j (bit group)) × (getD (now (places .exit)) (first + count j (bit group)) 0 ≡ base + j)) ⌝ }
-    ensures kept { λ _. ⌜ ((k : ℕ) → k < base → getD (now (seen .exit)) k 0 ≡ getD (now (seen .entry)) k 0) × ((r : ℕ) → r < first → getD (now (places .exit)) r 0 ≡ getD (now (places .entry)) r 0) ⌝ }
-{
-    let mut left = group;
-    let mut at: usize = 0;
-    let mut n = first;
-    while left != 0 {
-        let skip = u64::trailing_zeros(left);
-        at += wide(skip);
-        places[n] = (base + at) as u16;
-        seen[base + at] = (n - first) as u8;
-        n += 1;
-        at += 1;
-        left = (left >> skip) / 2;
-    }
-    n
-}
+// ---- the entries that advance, in the order of their cells
 
 // Has no cell of the four groups from g on a bit?
 fn four_empty(groups: &[u64], g: usize) -> bool
@@ -232,201 +228,239 @@ fn past_empty(groups: &[u64], from: usize) -> usize
     g
 }
 
-// Lists the cells whose bits are set, in their order, and notes for each its place in its group, and for each group where it begins, in the
-// place of its bits. Returns how many cells are listed.
-fn list_cells(groups: &mut [u64], seen: &mut [u8], places: &mut [u16]) -> usize
-    requires { ⌜ (length (now seen) ≡ 64 * length (now groups)) × (length (now seen) ≤ maxCells) × (count (64 * length (now groups)) (marked (now groups)) ≤ length (now places)) ⌝ }
-    ensures { λ r. ⌜ (r ≡ count (64 * length (now (groups .entry))) (marked (now (groups .entry)))) × Listed (marked (now (groups .entry))) (64 * length (now (groups .entry))) (now (groups .exit)) (now (seen .exit)) (now (places .exit)) ⌝ }
+// Notes for each group with a bit how many bits there are up to its end. Returns how many there are.
+fn count_groups(groups: &[u64], ends: &mut [u16]) -> usize
+    requires room { ⌜ length (now ends) ≡ length (now groups) ⌝ }
+    requires few { ⌜ count (64 * length (now groups)) (isSet (now groups)) ≤ maxSlots ⌝ }
+    ensures counted { λ r. ⌜ r ≡ count (64 * length (now (groups .entry))) (isSet (now (groups .entry))) ⌝ }
+    ensures noted { λ _. ⌜ Ends (now (groups .entry)) (length (now (groups .entry))) (now (ends .exit)) ⌝ }
 {
     let mut n: usize = 0;
     let mut g = past_empty(groups, 0);
     while g < groups.len() {
-        let group = groups[g];
-        groups[g] = n as u64;
-        n = list_group(group, 64 * g, seen, places, n);
+        n += wide(u64::count_ones(groups[g]));
+        ends[g] = n as u16;
         g = past_empty(groups, g + 1);
     }
     n
 }
 
-// ---- the bytes
+// How many bits there are before that of a cell, which is set: those up to the end of its group less those from its own on.
+fn rank_of(groups: &[u64], ends: &[u16], cell: usize) -> usize
+    requires sized { ⌜ length (now ends) ≡ length (now groups) ⌝ }
+    requires noted { ⌜ Ends (now groups) (length (now groups)) (now ends) ⌝ }
+    requires here { ⌜ isSet (now groups) cell ≡ true ⌝ }
+    ensures { λ r. ⌜ (r ≡ count cell (isSet (now (groups .entry)))) × (r < count (64 * length (now (groups .entry))) (isSet (now (groups .entry)))) ⌝ }
+{
+    let g = group_of(cell);
+    ends[g] as usize - wide(u64::count_ones(groups[g] >> (cell % 64)))
+}
 
-// Copies the n cells listed into the lowest bodies without a mark, in the order of both, and puts each cell's body in its place in the list.
-// Returns how many bytes that is uncut.
+// Puts slot i into the list if its entry advances, at the rank of its cell.
+fn list_slot(
+    table: &[u32],
+    slots: usize,
+    live: u32,
+    i: usize,
+    groups: &[u64],
+    ends: &[u16],
+    places: &mut [u16],
+)
+    requires small { ⌜ (i < slots) × (slots ≤ maxSlots) × (pairsAt slots ≤ length (now table)) ⌝ }
+    requires noted { ⌜ (length (now ends) ≡ length (now groups)) × Ends (now groups) (length (now groups)) (now ends) ⌝ }
+    requires room { ⌜ count (64 * length (now groups)) (isSet (now groups)) ≤ length (now places) ⌝ }
+    requires own { ⌜ OwnBits slots (now table) live (now groups) ⌝ }
+    ensures { λ _. ⌜ now (places .exit) ≡ listSlot live (isSet (now (groups .entry))) (word1 slots (now (table .entry)) i) i (now (places .entry)) ⌝ }
+{
+    let word = first_word(table, slots, i);
+    if !turns_word(word, live) {
+        return;
+    }
+    places[rank_of(groups, ends, cell_of(word))] = i as u16;
+}
+
+// Lists the slots of all entries that advance, in the order of their cells. Returns how many there are.
+fn list_slots(
+    table: &[u32],
+    slots: usize,
+    groups: &[u64],
+    ends: &mut [u16],
+    places: &mut [u16],
+) -> usize
+    requires small { ⌜ (slots ≤ maxSlots) × (pairsAt slots ≤ length (now table)) ⌝ }
+    requires room { ⌜ (length (now ends) ≡ length (now groups)) × (count (64 * length (now groups)) (isSet (now groups)) ≤ min maxSlots (length (now places))) ⌝ }
+    requires own { ⌜ OwnBits slots (now table) (live (now table)) (now groups) ⌝ }
+    ensures counted { λ r. ⌜ r ≡ count (64 * length (now (groups .entry))) (isSet (now (groups .entry))) ⌝ }
+    ensures listed { λ _. ⌜ Listed slots (now (table .entry)) (live (now (table .entry))) (isSet (now (groups .entry))) slots (now (places .exit)) ⌝ }
+{
+    let live = table[LIVE_AT];
+    let top = last_in_use(table, slots);
+    let n = count_groups(groups, ends);
+    let mut i: usize = 0;
+    while i < top {
+        list_slot(table, slots, live, i, groups, ends, places);
+        i += 1;
+    }
+    n
+}
+
+// ---- the bytes, and the new words of the entries
+
+// Copies the cell of entry i into a body, and stages the entry as a copy with that body.
+fn copy_entry(
+    memory: &[u8],
+    bodies: &mut [u8],
+    table: &[u32],
+    slots: usize,
+    i: usize,
+    body: usize,
+    words: &mut [u32],
+    changed: &mut [u64],
+    budget: usize,
+)
+    requires small { ⌜ (i < slots) × (slots ≤ maxSlots) × (pairsAt slots ≤ length (now table)) ⌝ }
+    requires inside { ⌜ (cellAt (cellIn slots (now table) i) + 64 ≤ length (now memory)) × (cellAt body + 64 ≤ length (now bodies)) × (body < maxBodies) ⌝ }
+    requires room { ⌜ (2 * slots ≤ length (now words)) × (slots ≤ 64 * length (now changed)) ⌝ }
+    ensures copied { λ _. ⌜ now (bodies .exit)
+        ≡ stores (take budget (cellPlan (now (memory .entry)) (cellIn slots (now (table .entry)) i) body)) (now (bodies .entry)) ⌝ }
+    ensures staged { λ _. ⌜ Restaged (now (words .entry)) (now (changed .entry)) i (put (asCopy (word1 slots (now (table .entry)) i)) body)
+        (now (words .exit)) (now (changed .exit)) ⌝ }
+{
+    let word = first_word(table, slots, i);
+    let copy = to_copy(word);
+    copy_cell(memory, cell_of(word), bodies, body, budget);
+    stage_entry(words, changed, i, copy, body as u32);
+}
+
+// Copies the cells of the n entries listed into the lowest bodies without a mark, in the order of both, and stages the entries.
 fn copy_listed(
     memory: &[u8],
-    places: &mut [u16],
+    bodies: &mut [u8],
+    table: &[u32],
+    slots: usize,
+    places: &[u16],
     n: usize,
     used: &[u8],
-    bodies: &mut [u8],
+    words: &mut [u32],
+    changed: &mut [u64],
     budget: usize,
-) -> usize
-    requires { ⌜ (n ≤ length (now places)) × (n ≤ maxSlots) × (cellsOf (length (now bodies)) ≤ length (now used)) × (length (now used) ≡ maxBodies) × (n ≤ count (cellsOf (length (now bodies))) (unmarked (now used))) ⌝ }
-    requires { ⌜ ((r : ℕ) → r < n → cellAt (getD (now places) r 0) + 64 ≤ length (now memory)) ⌝ }
-    ensures bytes { λ r. ⌜ (r ≡ 64 * n) × (now (bodies .exit) ≡ stores (take budget (gather n (λ r. cellPlan (now (memory .entry)) (getD (now (places .entry)) r 0) (nth (cellsOf (length (now (bodies .entry)))) (unmarked (now (used .entry))) r)))) (now (bodies .entry))) ⌝ }
-    ensures filled { λ _. ⌜ Filled (cellsOf (length (now (bodies .entry)))) n (now (used .entry)) (now (places .exit)) ⌝ }
+)
+    requires small { ⌜ (slots ≤ maxSlots) × (pairsAt slots ≤ length (now table)) × (n ≤ slots) × (n ≤ length (now places)) ⌝ }
+    requires free { ⌜ (bodiesOf (length (now bodies)) ≤ maxBodies) × (length (now used) ≡ maxBodies) × (n ≤ count (bodiesOf (length (now bodies))) (unmarked (now used))) ⌝ }
+    requires listed { ⌜ InOrder slots (now table) n (now places) × ((r : ℕ) → r < n → cellAt (cellIn slots (now table) (getD (now places) r 0)) + 64 ≤ length (now memory)) ⌝ }
+    requires room { ⌜ (2 * slots ≤ length (now words)) × (slots ≤ 64 * length (now changed)) ⌝ }
+    requires blank { ⌜ Stages 0 (λ _. keep) (now words) (now changed) ⌝ }
+    ensures bytes { λ _. ⌜ now (bodies .exit)
+        ≡ stores (take budget (gather n (λ r. cellPlan (now (memory .entry)) (cellIn slots (now (table .entry)) (getD (now (places .entry)) r 0))
+        (nth (bodiesOf (length (now (bodies .entry)))) (unmarked (now (used .entry))) r)))) (now (bodies .entry)) ⌝ }
+    ensures staged { λ _. ⌜ Stages slots (changeTo slots (bodiesOf (length (now (bodies .entry)))) (now (table .entry)) (now (used .entry)) n)
+        (now (words .exit)) (now (changed .exit)) ⌝ }
 {
     let total = cells_of(bodies.len());
     let mut at: usize = 0;
     let mut r: usize = 0;
     while r < n {
+        let i = places[r] as usize;
         let body = next_free_body(used, total, at);
-        copy_cell(
-            memory,
-            places[r] as usize,
-            bodies,
-            body,
-            remaining(budget, 64 * r),
-        );
-        places[r] = body as u16;
+        let left = remaining(budget, 64 * r);
+        copy_entry(memory, bodies, table, slots, i, body, words, changed, left);
         at = body + 1;
         r += 1;
     }
-    64 * n
 }
 
-// ---- the words
-
-// The body noted for a cell.
-fn noted_body(groups: &[u64], seen: &[u8], places: &[u16], cell: usize) -> u32
-    requires { ⌜ (cell / 64 < length (now groups)) × (cell < length (now seen)) × (placeOf (now groups) (now seen) cell < length (now places)) ⌝ }
-    ensures { λ r. ⌜ r ≡ noted (now (groups .entry)) (now (seen .entry)) (now (places .entry)) cell ⌝ }
-{
-    let place = groups[cell / 64] as usize + seen[cell] as usize;
-    places[place] as u32
-}
-
-// Writes the two pairs of entry i where it is read-write and innermost: it becomes a copy with the body noted for its cell. p pairs were
-// written before. Returns how many more there are.
-fn write_noted(
+// Copies the cells of the n entries listed, stages these entries and writes the staged words.
+fn store_listed(
+    memory: &[u8],
+    bodies: &mut [u8],
     table: &mut [u32],
-    slots: usize,
-    live: u32,
-    i: usize,
-    groups: &[u64],
-    seen: &[u8],
     places: &[u16],
-    p: usize,
+    n: usize,
+    used: &[u8],
+    words: &mut [u32],
+    changed: &mut [u64],
     budget: usize,
-) -> usize
-    requires { ⌜ (i < slots) × (slots ≤ maxSlots) × (length (now table) ≡ tableWords slots) × (p ≤ 2 * i) ⌝ }
-    requires { ⌜ (turns live (word1 slots (now table) i) ≡ true → Placed (now groups) (now seen) (now places) (cellOf (word1 slots (now table) i))) ⌝ }
-    ensures { λ r. ⌜ (r ≡ length (entryStores slots i (noteChange live (noted (now (groups .entry)) (now (seen .entry)) (now (places .entry))) (word1 slots (now (table .entry)) i)))) × (r ≤ 2) × (now (table .exit) ≡ stores (take (budget - 2 * p) (pairPlans (pairsAt slots + 2 * p) (entryStores slots i (noteChange live (noted (now (groups .entry)) (now (seen .entry)) (now (places .entry))) (word1 slots (now (table .entry)) i))))) (now (table .entry))) ⌝ }
+) -> Answer
+    requires ready { ⌜ Ready (length (now memory)) (length (now bodies)) (now table) (now used) × (length (now used) ≡ maxBodies) ⌝ }
+    requires listed { ⌜ InOrder (slotsOf (length (now table))) (now table) n (now places) × (n ≤ length (now places)) ⌝ }
+    requires counted { ⌜ n ≡ count (cellsOf (length (now memory))) (advances (slotsOf (length (now table))) (now table)) ⌝ }
+    requires room { ⌜ (2 * slotsOf (length (now table)) ≤ length (now words)) × (slotsOf (length (now table)) ≤ 64 * length (now changed)) ⌝ }
+    requires blank { ⌜ Stages 0 (λ _. keep) (now words) (now changed) ⌝ }
+    ensures { λ r. ⌜ leaves (report r) (buffers (now (memory .entry)) (now (bodies .exit)) (now (table .exit)))
+        ≡ outcome (performed (buffers (now (memory .entry)) (now (bodies .entry)) (now (table .entry)))) budget
+        (buffers (now (memory .entry)) (now (bodies .entry)) (now (table .entry))) ⌝ }
 {
-    let word = first_word(table, slots, i);
-    if !turns_word(word, live) {
-        return 0;
-    }
-    let body = noted_body(groups, seen, places, wide(word % 65536));
-    let copy = word - 67108864 * (word / 67108864 % 2);
-    write_entry(
+    let slots = slots_of(table.len());
+    copy_listed(
+        memory,
+        bodies,
         table,
         slots,
-        pairs_at(slots) + 2 * p,
-        i,
-        copy,
-        body,
-        remaining(budget, 2 * p),
+        places,
+        n,
+        used,
+        words,
+        changed,
+        budget,
     );
-    2
-}
-
-// Writes the pairs of all entries. Returns their number.
-fn write_words(
-    table: &mut [u32],
-    slots: usize,
-    top: usize,
-    live: u32,
-    groups: &[u64],
-    seen: &[u8],
-    places: &[u16],
-    budget: usize,
-) -> usize
-    requires { ⌜ (slots ≤ maxSlots) × (length (now table) ≡ tableWords slots) × (top ≤ slots) × FreeFrom slots (now table) top ⌝ }
-    requires { ⌜ ((i : ℕ) → i < slots → turns live (word1 slots (now table) i) ≡ true → Placed (now groups) (now seen) (now places) (cellOf (word1 slots (now table) i))) ⌝ }
-    ensures { λ r. ⌜ (r ≡ length (entryChanges slots (λ i. noteChange live (noted (now (groups .entry)) (now (seen .entry)) (now (places .entry))) (word1 slots (now (table .entry)) i)))) × (r ≤ 2 * slots) × (now (table .exit) ≡ stores (take budget (pairPlans (pairsAt slots) (entryChanges slots (λ i. noteChange live (noted (now (groups .entry)) (now (seen .entry)) (now (places .entry))) (word1 slots (now (table .entry)) i))))) (now (table .entry))) ⌝ }
-{
-    let mut p: usize = 0;
-    let mut i: usize = 0;
-    while i < top {
-        p += write_noted(table, slots, live, i, groups, seen, places, p, budget);
-        i += 1;
-    }
-    p
-}
-
-// Advance's part on the table. Returns its steps uncut.
-fn advance_words(
-    table: &mut [u32],
-    slots: usize,
-    top: usize,
-    groups: &[u64],
-    seen: &[u8],
-    places: &[u16],
-    budget: usize,
-) -> usize
-    requires { ⌜ (slots ≤ maxSlots) × (length (now table) ≡ tableWords slots) × (top ≤ slots) × FreeFrom slots (now table) top ⌝ }
-    requires { ⌜ ((i : ℕ) → i < slots → turns (live (now table)) (word1 slots (now table) i) ≡ true → Placed (now groups) (now seen) (now places) (cellOf (word1 slots (now table) i))) ⌝ }
-    ensures { λ r. ⌜ (r ≡ journalSteps (length (entryChanges slots (λ i. noteChange (live (now (table .entry))) (noted (now (groups .entry)) (now (seen .entry)) (now (places .entry))) (word1 slots (now (table .entry)) i))))) × (r ≤ 6 * maxSlots + 2) × (now (table .exit) ≡ stores (take budget (journal (pairsAt slots) (entryChanges slots (λ i. noteChange (live (now (table .entry))) (noted (now (groups .entry)) (now (seen .entry)) (now (places .entry))) (word1 slots (now (table .entry)) i))))) (now (table .entry))) ⌝ }
-{
-    let live = table[LIVE_AT];
-    let p = write_words(table, slots, top, live, groups, seen, places, budget);
-    finish_journal(table, pairs_at(slots), p, budget)
+    let left = remaining(budget, 64 * n);
+    let steps = write_staged(table, slots, no_head(), words, changed, left);
+    answer_of(64 * n + steps, 0, budget)
 }
 
 // ---- the call
 
-// Advance with what it is lent: marks for the cells and for the bodies, a number for each group of 64 cells, and room for the list.
+// Advance once no question refuses it, with what it is lent: the marks of the bodies in use and the bits of the cells that advance, and room for
+// the numbers of the groups, for the list and for the staged words.
 fn advance_marked(
     memory: &[u8],
     bodies: &mut [u8],
     table: &mut [u32],
-    handle: u32,
-    seen: &mut [u8],
-    used: &mut [u8],
-    groups: &mut [u64],
+    used: &[u8],
+    groups: &[u64],
+    ends: &mut [u16],
     places: &mut [u16],
+    words: &mut [u32],
+    changed: &mut [u64],
     budget: usize,
 ) -> Answer
-    requires room { ⌜ (min (cellsOf (length (now memory))) maxCells ≤ length (now seen)) × (length (now used) ≡ maxBodies) × (length (now seen) ≡ 64 * length (now groups)) × (length (now seen) ≤ maxCells) × (min (cellsOf (length (now memory))) maxSlots ≤ length (now places)) ⌝ }
-    requires blank { ⌜ Blank (now seen) × Blank (now used) × Blank (now groups) ⌝ }
+    requires ready { ⌜ Ready (length (now memory)) (length (now bodies)) (now table) (now used) × (length (now used) ≡ maxBodies) ⌝ }
+    requires bits { ⌜ CellBits (now table) (now groups) × (cellsOf (length (now memory)) ≤ 64 * length (now groups)) ⌝ }
+    requires list { ⌜ (length (now ends) ≡ length (now groups)) × (slotsOf (length (now table)) ≤ length (now places)) ⌝ }
+    requires room { ⌜ (2 * slotsOf (length (now table)) ≤ length (now words)) × (slotsOf (length (now table)) ≤ 64 * length (now changed)) ⌝ }
+    requires blank { ⌜ Stages 0 (λ _. keep) (now words) (now changed) ⌝ }
     ensures { λ r. ⌜ leaves (report r) (buffers (now (memory .entry)) (now (bodies .exit)) (now (table .exit)))
-        ≡ outcome (advanceCall handle (buffers (now (memory .entry)) (now (bodies .entry)) (now (table .entry)))) budget
+        ≡ outcome (performed (buffers (now (memory .entry)) (now (bodies .entry)) (now (table .entry)))) budget
         (buffers (now (memory .entry)) (now (bodies .entry)) (now (table .entry))) ⌝ }
 {
-    let no = advance_check(
-        memory.len(),
-        bodies.len(),
+    let n = list_slots(table, slots_of(table.len()), groups, ends, places);
+    store_listed(
+        memory,
+        bodies,
         table,
-        handle,
-        seen,
-        used,
-        groups,
-    );
-    if no != 0 {
-        return Answer::Refused(no);
-    }
-    let slots = slots_of(table.len());
-    let top = last_in_use(table, slots);
-    let n = list_cells(groups, seen, places);
-    let bytes = copy_listed(memory, places, n, used, bodies, budget);
-    let words = advance_words(
-        table,
-        slots,
-        top,
-        groups,
-        seen,
         places,
-        remaining(budget, bytes),
-    );
-    answer_of(bytes + words, 0, budget)
+        n,
+        used,
+        words,
+        changed,
+        budget,
+    )
 }
 
-// No bit is set, and nothing is listed, for a small memory and for any. Functions of their own, so that the checker does not write the lists out.
+// No bit is set, no number noted and nothing listed, for a small memory and for any. Functions of their own, so that the checker does not write
+// the lists out.
 fn few_groups() -> [u64; 16]
     ensures { λ r. ⌜ r ≡ zeros 16 ⌝ }
 {
     [0u64; 16]
+}
+
+fn few_ends() -> [u16; 16] {
+    [0u16; 16]
+}
+
+fn few_places() -> [u16; 256] {
+    [0u16; 256]
 }
 
 fn many_groups() -> [u64; 1024]
@@ -435,16 +469,104 @@ fn many_groups() -> [u64; 1024]
     [0u64; 1024]
 }
 
-fn few_places() -> [u16; 1024]
-    ensures { λ r. ⌜ r ≡ zeros 1024 ⌝ }
-{
+fn many_ends() -> [u16; 1024] {
     [0u16; 1024]
 }
 
-fn many_places() -> [u16; 4096]
-    ensures { λ r. ⌜ r ≡ zeros 4096 ⌝ }
-{
+fn many_places() -> [u16; 4096] {
     [0u16; 4096]
+}
+
+// What is needed only once no question refuses the call is made here, so that it can stand where question 4 had its copy of the table: for a table
+// of few slots, where clearing arrays for the most would take longer than all else.
+fn store_few(
+    memory: &[u8],
+    bodies: &mut [u8],
+    table: &mut [u32],
+    used: &[u8],
+    groups: &[u64],
+    ends: &mut [u16],
+    budget: usize,
+) -> Answer
+    requires ready { ⌜ Ready (length (now memory)) (length (now bodies)) (now table) (now used) × (length (now used) ≡ maxBodies) ⌝ }
+    requires bits { ⌜ CellBits (now table) (now groups) × (cellsOf (length (now memory)) ≤ 64 * length (now groups)) ⌝ }
+    requires sized { ⌜ (length (now ends) ≡ length (now groups)) × (slotsOf (length (now table)) ≤ 256) ⌝ }
+    ensures { λ r. ⌜ leaves (report r) (buffers (now (memory .entry)) (now (bodies .exit)) (now (table .exit)))
+        ≡ outcome (performed (buffers (now (memory .entry)) (now (bodies .entry)) (now (table .entry)))) budget
+        (buffers (now (memory .entry)) (now (bodies .entry)) (now (table .entry))) ⌝ }
+{
+    let mut places = few_places();
+    let mut words = few_words();
+    let mut changed = few_bits();
+    advance_marked(
+        memory,
+        bodies,
+        table,
+        used,
+        groups,
+        ends,
+        &mut places,
+        &mut words,
+        &mut changed,
+        budget,
+    )
+}
+
+// The same for any table.
+fn store_many(
+    memory: &[u8],
+    bodies: &mut [u8],
+    table: &mut [u32],
+    used: &[u8],
+    groups: &[u64],
+    ends: &mut [u16],
+    budget: usize,
+) -> Answer
+    requires ready { ⌜ Ready (length (now memory)) (length (now bodies)) (now table) (now used) × (length (now used) ≡ maxBodies) ⌝ }
+    requires bits { ⌜ CellBits (now table) (now groups) × (cellsOf (length (now memory)) ≤ 64 * length (now groups)) ⌝ }
+    requires sized { ⌜ length (now ends) ≡ length (now groups) ⌝ }
+    ensures { λ r. ⌜ leaves (report r) (buffers (now (memory .entry)) (now (bodies .exit)) (now (table .exit)))
+        ≡ outcome (performed (buffers (now (memory .entry)) (now (bodies .entry)) (now (table .entry)))) budget
+        (buffers (now (memory .entry)) (now (bodies .entry)) (now (table .entry))) ⌝ }
+{
+    let mut places = many_places();
+    let mut words = many_words();
+    let mut changed = many_bits();
+    advance_marked(
+        memory,
+        bodies,
+        table,
+        used,
+        groups,
+        ends,
+        &mut places,
+        &mut words,
+        &mut changed,
+        budget,
+    )
+}
+
+// Advance once no question refuses it, with room for the numbers of the groups.
+fn advance_stored(
+    memory: &[u8],
+    bodies: &mut [u8],
+    table: &mut [u32],
+    used: &[u8],
+    groups: &[u64],
+    ends: &mut [u16],
+    budget: usize,
+) -> Answer
+    requires ready { ⌜ Ready (length (now memory)) (length (now bodies)) (now table) (now used) × (length (now used) ≡ maxBodies) ⌝ }
+    requires bits { ⌜ CellBits (now table) (now groups) × (cellsOf (length (now memory)) ≤ 64 * length (now groups)) ⌝ }
+    requires sized { ⌜ length (now ends) ≡ length (now groups) ⌝ }
+    ensures { λ r. ⌜ leaves (report r) (buffers (now (memory .entry)) (now (bodies .exit)) (now (table .exit)))
+        ≡ outcome (performed (buffers (now (memory .entry)) (now (bodies .entry)) (now (table .entry)))) budget
+        (buffers (now (memory .entry)) (now (bodies .entry)) (now (table .entry))) ⌝ }
+{
+    if slots_of(table.len()) <= FEW_SLOTS {
+        return store_few(memory, bodies, table, used, groups, ends, budget);
+    }
+    store_many(memory, bodies, table, used, groups, ends, budget)
 }
 
 // Advance in a small memory, where clearing marks for the largest would take longer than all else.
@@ -463,18 +585,20 @@ fn advance_few(
     let mut seen = few_marks();
     let mut used = no_bodies();
     let mut groups = few_groups();
-    let mut places = few_places();
-    advance_marked(
-        memory,
-        bodies,
+    let no = advance_check(
+        memory.len(),
+        bodies.len(),
         table,
         handle,
         &mut seen,
         &mut used,
         &mut groups,
-        &mut places,
-        budget,
-    )
+    );
+    if no != 0 {
+        return Answer::Refused(no);
+    }
+    let mut ends = few_ends();
+    advance_stored(memory, bodies, table, &used, &groups, &mut ends, budget)
 }
 
 // And in any memory.
@@ -492,18 +616,20 @@ fn advance_many(
     let mut seen = many_marks();
     let mut used = no_bodies();
     let mut groups = many_groups();
-    let mut places = many_places();
-    advance_marked(
-        memory,
-        bodies,
+    let no = advance_check(
+        memory.len(),
+        bodies.len(),
         table,
         handle,
         &mut seen,
         &mut used,
         &mut groups,
-        &mut places,
-        budget,
-    )
+    );
+    if no != 0 {
+        return Answer::Refused(no);
+    }
+    let mut ends = many_ends();
+    advance_stored(memory, bodies, table, &used, &groups, &mut ends, budget)
 }
 
 // Gives every read-write cell of the innermost domain memory's bytes, as a copy. Read-only cells keep theirs.

@@ -1,24 +1,23 @@
 -- Commit, from its stores to what it means and to what opening finds after every cut of it. Assumes nothing.
-use Prim.Native.Nat.{ℕ, suc, _+_, _-_, _*_, _≤_}
+use Prim.Native.Nat.{ℕ, suc, _+_, _-_, _*_, _≤_, _<_, min}
 use mathlib.Core.Bool.{true, false}
-use mathlib.Core.List.{List, [], _++_}
+use mathlib.Core.List.{List, []}
 use mathlib.Core.Option.{Option}
 use mathlib.Core.Path.{_≡_, refl, sym, ap, subst, _∙_}
-use native.Mathlib.Nat.{zero-add}
 use native.Mathlib.Omega.{arith}
 use borrow.Author.Tests.{ltb-true, lt-ltb, le-ltb}
 use lib.Dec.{ltb, eqb}
 use lib.ListN.{length, take, length-take, length-append}
-use Rattle.words.specs.Layout.{liveAt, handleAt, pairsAt, maxPairs, slotsOf, cellsOf, maxLive}
+use Rattle.words.specs.Layout.{liveAt, handleAt, pairsAt, tableWords, maxPairs, slotsOf, cellsOf, bodiesOf, maxLive, maxCells, maxSlots}
 use Rattle.words.specs.Scan.{count}
 use Rattle.words.specs.Stores.{Store, stores}
-use Rattle.words.specs.Journal.{pending, namesOk, nameOk, journal, journalSteps}
+use Rattle.words.specs.Journal.{pending, namesOk, nameOk, journal}
 use Rattle.words.proofs.Scan.{by-bool, count-le}
-use Rattle.words.proofs.Plans.{stores-none}
 use Rattle.words.proofs.Journal.{effective-idle}
 use Rattle.words.proofs.Names.{name-live, name-from}
 use Rattle.table.specs.Entry.{live}
 use Rattle.table.specs.Changes.{isChanged, entryChanges}
+use Rattle.table.specs.Marks.{cellIn, CellsOnce}
 use Rattle.table.proofs.Rule.{Rule}
 use Rattle.table.proofs.Entries.{changes-count, changes-names}
 use Rattle.search.specs.Domain.{depthNamed}
@@ -31,15 +30,17 @@ use Rattle.store.specs.Outcome.{Buffers, buffers, changePlan, outcome, leaves, 
 use Rattle.store.specs.Checks.{storeCheck}
 use Rattle.store.specs.State.{stateIn, stateOf}
 use Rattle.store.specs.Means.{orRefused, callMeans}
-use Rattle.store.proofs.Checks.{ask-yes, orElse-both, orElse-go, store-idle, store-table, table-rule}
+use Rattle.store.proofs.Checks.{ask-yes, orElse-both, orElse-go, store-shape, shape-facts, store-idle, store-table, table-rule}
+use Rattle.store.proofs.Checked.{checked-once, checked-fits}
 use Rattle.store.proofs.Outcome.{refuses}
 use Rattle.store.proofs.Domains.{state-named}
 use Rattle.store.proofs.Means.{seenOf, by-check, t-long, store-rule, store-state, store-standing, live-count}
-use Rattle.store.proofs.Changes.{change-performed, change-seen}
+use Rattle.store.proofs.Changes.{words-performed, change-seen}
 use Rattle.store.proofs.Pending.{pendingAfter, afterPending, performed-pending, call-pending}
 use Rattle.commit.specs.Commit.{commitCheck, commitChange, commitWords, commitCall, commitMeans}
+use Rattle.commit.specs.Parts.{headWords, endingWords}
 use Rattle.commit.proofs.Taken.{live-taken, named-taken, changes-taken}
-use Rattle.commit.proofs.Merging.{headWords, commit-rule, commit-state-is}
+use Rattle.commit.proofs.Merging.{commit-rule, commit-state-is}
 use Rattle.commit.proofs.Counting.{changes-are}
 
 -- ---- the words
@@ -75,7 +76,7 @@ module _ (memory bodies t : List ℕ) (yes : storeCheck (length memory) (length 
   abbrev head : List ℕ
   head = take (pairsAt (slotsOf (length t))) t
 
-  right : Rule (cellsOf (length memory)) (slotsOf (length t)) (cellsOf (length bodies)) head
+  right : Rule (cellsOf (length memory)) (slotsOf (length t)) (bodiesOf (length bodies)) head
   right = store-rule memory bodies t yes
 
   pub live-small : live t ≤ maxLive
@@ -95,21 +96,21 @@ module _ (memory bodies t : List ℕ) (yes : storeCheck (length memory) (length 
     head-live : 1 ≤ live head
     head-live = rw (live-taken e t) some-live
 
-    same-words : headWords (live head) ++ entryChanges e (commitChange e head (live head)) ≡ commitWords t
+    same-words : endingWords e head (live head) ≡ commitWords t
     unfolding commitWords
     same-words = rw (live-taken e t, changes-taken e t (live t))
 
     -- the new table is right
-    pub new-rule : Rule (cellsOf (length memory)) (slotsOf (length t)) (cellsOf (length bodies)) (stores (commitWords t) (take (pairsAt (slotsOf (length t))) t))
+    pub new-rule : Rule (cellsOf (length memory)) (slotsOf (length t)) (bodiesOf (length bodies)) (stores (commitWords t) (take (pairsAt (slotsOf (length t))) t))
     new-rule =
-        subst (λ (ws : List Store). Rule (cellsOf (length memory)) e (cellsOf (length bodies)) (stores ws head)) same-words
-        (commit-rule (cellsOf (length memory)) e (cellsOf (length bodies)) head right long-head head-live)
+        subst (λ (ws : List Store). Rule (cellsOf (length memory)) e (bodiesOf (length bodies)) (stores ws head)) same-words
+        (commit-rule (cellsOf (length memory)) e (bodiesOf (length bodies)) head right long-head head-live)
 
     -- and stands for the state without the innermost domain
     pub new-state : stateIn (slotsOf (length t)) (stores (commitWords t) (take (pairsAt (slotsOf (length t))) t)) bodies ≡ commit (stateOf (buffers memory bodies t))
     new-state =
         ap (λ (ws : List Store). stateIn e (stores ws head) bodies) (sym same-words)
-        ∙ commit-state-is (cellsOf (length memory)) e (cellsOf (length bodies)) head right long-head head-live bodies
+        ∙ commit-state-is (cellsOf (length memory)) e (bodiesOf (length bodies)) head right long-head head-live bodies
         ∙ ap commit (sym (store-state memory bodies t yes))
 
     -- as many words as the model says
@@ -118,7 +119,7 @@ module _ (memory bodies t : List ℕ) (yes : storeCheck (length memory) (length 
     new-count =
         ap length (sym same-words)
         ∙ length-append (headWords (live head)) (entryChanges e (commitChange e head (live head)))
-        ∙ rw (changes-count e (commitChange e head (live head)), changes-are (cellsOf (length memory)) e (cellsOf (length bodies)) head right head-live bodies, store-state memory bodies t yes)
+        ∙ rw (changes-count e (commitChange e head (live head)), changes-are (cellsOf (length memory)) e (bodiesOf (length bodies)) head right head-live bodies, store-state memory bodies t yes)
 
     -- at most 70E + 32 steps
     pub commit-bound :
@@ -188,6 +189,22 @@ commit-pending h k b good =
 
 -- ---- what the code cites
 
+-- a table that passes questions 1 to 4 has at most eight live domains
+pub live-within : (memory bodies : ℕ) (t : List ℕ) → storeCheck memory bodies t ≡ 0 → live t ≤ maxLive
+live-within memory bodies t passed =
+    let rule = table-rule memory bodies t (store-table memory bodies t passed) in
+    let same = effective-idle (pairsAt (slotsOf (length t))) t (store-idle memory bodies t passed) in
+    subst (λ (x : ℕ). x ≤ maxLive) (live-taken (slotsOf (length t)) t) (subst (λ (l : List ℕ). live l ≤ maxLive) same (rule .live))
+
+-- what passed questions tell, e being what the code took for the number of slots
+pub record Ready (memory e : ℕ) (t : List ℕ) : Type 0 where
+  pub small : e ≤ maxSlots
+  pub long : length t ≡ tableWords e
+  pub low : 1 ≤ live t
+  pub high : live t ≤ maxLive
+  pub once : CellsOnce e t e
+  pub fits : (marks : ℕ) → min (cellsOf memory) maxCells ≤ marks → (i : ℕ) → i < e → cellIn e t i < marks
+
 module _ (memory bodies : ℕ) (t : List ℕ) (h : ℕ) (passed : commitCheck memory bodies t h ≡ 0) where
   pub commit-store : storeCheck memory bodies t ≡ 0
   unfolding commitCheck
@@ -197,31 +214,32 @@ module _ (memory bodies : ℕ) (t : List ℕ) (h : ℕ) (passed : commitCheck me
   unfolding commitCheck
   commit-live = asked-live t h (orElse-both (storeCheck memory bodies t) (asked t h) passed .1)
 
+  pub commit-ready : {e : ℕ} → e ≡ slotsOf (length t) → Ready memory e t
+  commit-ready slots =
+      let f = shape-facts memory bodies t (store-shape memory bodies t commit-store) in
+      rw slots
+      (record {
+        small = f .slots-high;
+        long = f .table-exact;
+        low = commit-live;
+        high = live-within memory bodies t commit-store;
+        once = checked-once memory bodies t commit-store;
+        fits = checked-fits memory bodies t commit-store;
+      })
+
 module _ (m b t : List ℕ) (h k : ℕ) where
   pub commit-refused : (q : ℕ) → q ≡ commitCheck (length m) (length b) t h → (q ≡ 0 → ⊥) → leaves (refused q) (buffers m b t) ≡ outcome (commitCall h (buffers m b t)) k (buffers m b t)
   unfolding commitCall
   commit-refused q e n = refuses q (commitCheck (length m) (length b) t h) _ k (buffers m b t) e n
 
-  pub commit-performed : (need : ℕ) (t′ : List ℕ) (r : Report) → commitCheck (length m) (length b) t h ≡ 0
-      → need ≡ stepsOf 0 (length (commitWords t)) → t′ ≡ stores (take k (journal (pairsAt (slotsOf (length t))) (commitWords t))) t → r ≡ ended need 0 k
+  pub commit-performed : {e need : ℕ} {t′ : List ℕ} {r : Report} → commitCheck (length m) (length b) t h ≡ 0 → e ≡ slotsOf (length t)
+      → need ≡ length (journal (pairsAt e) (endingWords e t (live t))) → t′ ≡ stores (take k (journal (pairsAt e) (endingWords e t (live t)))) t
+      → r ≡ ended need 0 k
       → leaves r (buffers m b t′) ≡ outcome (commitCall h (buffers m b t)) k (buffers m b t)
-  unfolding commitCall
-  commit-performed need t′ r passed n w q =
-      let z : k - 0 ≡ k = omega arith in
-      let none-stored : b ≡ stores (take k []) b = stores-none k b in
-      rw passed (change-performed (pairsAt (slotsOf (length t))) need 0 k [] (commitWords t) m b t b t′ r n none-stored (rw z w) q)
-
--- the steps that `finish_journal` gives
-pub journal-need : (p : ℕ) → journalSteps p ≡ stepsOf 0 p
-unfolding journalSteps
-journal-need p = sym (zero-add _)
-
--- a table that passes questions 1 to 4 has at most eight live domains
-pub live-within : (memory bodies : ℕ) (t : List ℕ) → storeCheck memory bodies t ≡ 0 → live t ≤ maxLive
-live-within memory bodies t passed =
-    let rule = table-rule memory bodies t (store-table memory bodies t passed) in
-    let same = effective-idle (pairsAt (slotsOf (length t))) t (store-idle memory bodies t passed) in
-    subst (λ (x : ℕ). x ≤ maxLive) (live-taken (slotsOf (length t)) t) (subst (λ (l : List ℕ). live l ≤ maxLive) same (rule .live))
+  unfolding commitCall commitWords
+  commit-performed passed slots need made told =
+      let same = ap (λ (x : ℕ). endingWords x t (live t)) slots in
+      rw passed (words-performed 0 k (commitWords t) m b t slots same need made told)
 
 -- question 5, by a depth that was found
 pub none-named : (r d : ℕ) → r ≡ d → r ≡ 0 → ltb 0 d ≡ false

@@ -18,8 +18,9 @@ use Rattle.search.proofs.Counts.{count-entries}
 use Rattle.model.specs.State.{State}
 use Rattle.model.specs.Holdings.{holdingAt, isHeld, heldWritable, heldReadOnly, innerCells, raisedCells}
 use Rattle.store.specs.State.{heldIn, stateIn}
+use Rattle.store.proofs.InUse.{count-none}
 use Rattle.store.proofs.Domains.{state-holding, state-zero, domains-count, held-holds, held-writable}
-use Rattle.commit.specs.Commit.{holdsWritable, parentHas, commitChange}
+use Rattle.commit.specs.Commit.{holdsWritable, parentHas, raises, commitChange}
 
 -- of two tests that no number passes both
 pub count-either : (n : ℕ) (f g : ℕ → Bool) → ((k : ℕ) → k < n → f k ≡ true → g k ≡ true → ⊥) → count n (λ k. f k || g k) ≡ count n f + count n g
@@ -37,11 +38,6 @@ count-either (suc n) f g h =
     (λ q. rw (p, q, rest) (omega arith))
     (λ q. rw (p, q, rest)))
 
-count-none : (n : ℕ) (f : ℕ → Bool) → ((k : ℕ) → k < n → f k ≡ false) → count n f ≡ 0
-unfolding count
-count-none zero f h = refl
-count-none (suc n) f h = rw (h n (omega arith), count-none n f (λ k l. h k (omega arith)))
-
 and-true : (a : Bool) → (a && true) ≡ a
 and-true true = refl
 and-true false = refl
@@ -55,7 +51,7 @@ module _ (e : ℕ) (t : List ℕ) (d : ℕ) where
   stale w = eqb (writableOf w) 0 && holdsWritable e t d (cellOf w)
 
   abbrev rising : ℕ → Bool
-  rising i = leb 2 d && (eqb (depthOf (word1 e t i)) (parent d) && stale (word1 e t i))
+  rising i = raises d (word1 e t i) (holdsWritable e t d (cellOf (word1 e t i)))
 
   changed-is : (i : ℕ) → isChanged (commitChange e t d i) ≡ (ofInner i || rising i)
   unfolding commitChange

@@ -4,4 +4,3 @@ pub mod Merging
 pub mod Counting
 pub mod Taken
 pub mod Committed
-pub mod Writing

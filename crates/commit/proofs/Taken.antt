@@ -1,25 +1,20 @@
 -- What commit reads of a table lies in front of the pairs: of the words there alone it is the same. Assumes nothing.
-use Prim.Native.Nat.{ℕ, zero, suc, _≤_, _<_}
-use mathlib.Core.List.{List, _++_}
-use mathlib.Core.Path.{_≡_, refl, ap, _∙_}
+use Prim.Native.Nat.{ℕ, _≤_, _<_}
+use mathlib.Core.List.{List}
+use mathlib.Core.Path.{_≡_, ap, _∙_}
 use native.Mathlib.Omega.{arith}
 use lib.Dec.{eqb}
 use lib.ListN.{take}
 use lib.Seq.{getD-take}
 use Rattle.words.specs.Layout.{liveAt, handleAt, firstAt, secondAt, pairsAt, maxLive}
 use Rattle.words.specs.Scan.{first}
-use Rattle.words.specs.Stores.{Store, gather}
 use Rattle.words.proofs.Scan.{by-bool, first-ext}
+use Rattle.words.proofs.Gather.{gather-ext}
 use Rattle.table.specs.Entry.{live, handle, word1, word2, cellOf, parent, names, findIn, holdsIn}
 use Rattle.table.specs.Changes.{entryStores, entryChanges}
 use Rattle.table.proofs.Entry.{find-ext, holds-found}
 use Rattle.search.specs.Domain.{placeOf, depthNamed}
 use Rattle.commit.specs.Commit.{holdsWritable, commitChange}
-
--- lists gathered from equal ones
-pub gather-below : (f g : ℕ → List Store) (n : ℕ) → ((i : ℕ) → i < n → f i ≡ g i) → gather n f ≡ gather n g
-gather-below f g zero h = refl
-gather-below f g (suc n) h = λ i. gather-below f g n (λ k l. h k (omega arith)) i ++ h n (omega arith) i
 
 module _ (e : ℕ) (t : List ℕ) where
   abbrev u : List ℕ
@@ -62,5 +57,5 @@ module _ (e : ℕ) (t : List ℕ) where
 
   pub changes-taken : (d : ℕ) → entryChanges e (commitChange e (take (pairsAt e) t) d) ≡ entryChanges e (commitChange e t d)
   changes-taken d =
-      gather-below (λ i. entryStores e i (commitChange e u d i)) (λ i. entryStores e i (commitChange e t d i)) e
+      gather-ext e (λ i. entryStores e i (commitChange e u d i)) (λ i. entryStores e i (commitChange e t d i))
       (λ i l. ap (entryStores e i) (change-taken d i l))

@@ -1,12 +1,12 @@
 -- Commit: its questions, the words that it replaces, and what it means.
-use Prim.Native.Nat.{ℕ, _+_, _-_}
+use Prim.Native.Nat.{ℕ, _-_}
 use mathlib.Core.Bool.{Bool, cond, not, _&&_}
 use mathlib.Core.List.{List, [], _∷_, _++_}
 use lib.Dec.{ltb, leb, eqb}
 use lib.ListN.{length}
 use Rattle.words.specs.Layout.{cellsOf, slotsOf, pairsAt, liveAt, handleAt}
 use Rattle.words.specs.Stores.{Store, _≔_}
-use Rattle.table.specs.Entry.{live, word1, word2, depthOf, cellOf, writableOf, parent, findIn, holdsIn}
+use Rattle.table.specs.Entry.{live, word1, word2, depthOf, cellOf, writableOf, parent, findIn, holdsIn, outward, writable}
 use Rattle.table.specs.Changes.{Change, keep, put, entryChanges}
 use Rattle.search.specs.Domain.{depthNamed}
 use Rattle.model.specs.Answer.{ask, orElse, View}
@@ -28,21 +28,23 @@ holdsWritable e t d c = holdsIn e t d c && eqb (writableOf (word1 e t (findIn e 
 abbrev pub parentHas : ℕ → List ℕ → ℕ → ℕ → Bool
 parentHas e t d c = leb 2 d && holdsIn e t (parent d) c
 
--- an entry's first word one depth further out, and with the label read-write
-abbrev pub outward : ℕ → ℕ
-outward w = w - 268_435_456
+-- with d the innermost depth and w an entry's first word: it is the parent's, and its label is raised, `inner` saying whether the innermost
+-- domain holds its cell read-write
+abbrev pub raises : (d w : ℕ) → (inner : Bool) → Bool
+raises d w inner = leb 2 d && (eqb (depthOf w) (parent d) && (eqb (writableOf w) 0 && inner))
 
-abbrev pub writable : ℕ → ℕ
-writable w = w + 134_217_728
+-- its change, with second word v: an innermost entry moves out where the parent lacks the cell, and is freed where it has it, as `outer` says,
+-- or there is no parent; the parent's read-only entries become read-write where the innermost domain holds the cell read-write
+abbrev pub decided : (d w v : ℕ) → (inner outer : Bool) → Change
+decided d w v inner outer =
+    cond (eqb (depthOf w) d)
+    (cond (leb 2 d && not outer) (put (outward w) v) (put 0 0))
+    (cond (raises d w inner) (put (writable w) v) keep)
 
--- with d the innermost depth: its entries move out where the parent lacks the cell, and are freed where it has it or there is no parent; the
--- parent's read-only entries become read-write where the innermost domain holds the cell read-write
+-- that of entry i
 unfoldable pub commitChange : (e : ℕ) → List ℕ → (d i : ℕ) → Change
 commitChange e t d i =
-    cond (eqb (depthOf (word1 e t i)) d)
-    (cond (leb 2 d && not (parentHas e t d (cellOf (word1 e t i)))) (put (outward (word1 e t i)) (word2 e t i)) (put 0 0))
-    (cond (leb 2 d && (eqb (depthOf (word1 e t i)) (parent d) && (eqb (writableOf (word1 e t i)) 0 && holdsWritable e t d (cellOf (word1 e t i)))))
-    (put (writable (word1 e t i)) (word2 e t i)) keep)
+    decided d (word1 e t i) (word2 e t i) (holdsWritable e t d (cellOf (word1 e t i))) (parentHas e t d (cellOf (word1 e t i)))
 
 -- the number of live domains, the handle that leaves, and the entries
 unfoldable pub commitWords : List ℕ → List Store

@@ -1,3 +1,4 @@
 -- The definitions that the contracts of `commit` cite.
 pub mod Commit
 pub mod Decide
+pub mod Parts

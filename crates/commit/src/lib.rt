@@ -2,61 +2,66 @@
 // value stays, and the outer label becomes read-write if the inner was.
 //
 // The questions leave a mark for each cell, the set of the depths that hold it. One pass over the entries has the marks tell of the innermost
-// depth which cells it holds read-write, and another decides each entry's change from them, so that no entry is compared with another.
+// depth which cells it holds read-write, and another stages each entry's change by them, so that no entry is compared with another. What is
+// staged is then written.
+use changes::Head;
+use changes::few_bits;
+use changes::few_words;
+use changes::many_bits;
+use changes::many_words;
+use changes::no_head;
+use changes::stage_words;
+use changes::with_bit;
+use changes::with_word;
+use changes::write_staged;
 use search::find_domain;
 use search::keep_writable;
 use store::Answer;
 use store::answer_of;
 use store::store_check;
 use table::FEW_CELLS;
+use table::FEW_SLOTS;
 use table::few_marks;
+use table::fields::cell_of;
+use table::fields::depth_of;
+use table::fields::move_out;
+use table::fields::raise;
+use table::fields::writable_of;
 use table::first_word;
 use table::has_depth;
 use table::many_marks;
 use table::no_bodies;
 use table::second_word;
-use table::write_entry;
-use words::finish_journal;
 use words::layout::LIVE_AT;
 use words::layout::cells_of;
 use words::layout::handle_at;
-use words::layout::pairs_at;
 use words::layout::slots_of;
-use words::remaining;
+use words::least;
 use words::wide;
-use words::write_pair;
 ghost use mathlib.Core.Path.{_≡_};
 ghost use mathlib.Core.Bool.{true, cond};
-ghost use mathlib.Core.List.{[], _∷_};
-ghost use Prim.Native.Nat.{ℕ, _+_, _-_, _*_, _≤_, _<_, min};
+ghost use Prim.Native.Nat.{ℕ, _+_, _*_, _≤_, _<_, min};
 ghost use lib.ListN.{length, take};
-ghost use Rattle.words.specs.Layout.{cellsOf, pairsAt, slotsOf, tableWords, maxSlots, maxBodies, maxLive, maxCells, liveAt, handleAt};
-ghost use Rattle.words.specs.Stores.{_≔_, stores};
-ghost use Rattle.words.specs.Journal.{pairPlans, journal};
-ghost use Rattle.table.specs.Entry.{live, writableOf, parent};
-ghost use Rattle.table.specs.Changes.{entryStores, entryChanges};
+ghost use Rattle.words.specs.Layout.{cellsOf, pairsAt, slotsOf, tableWords, maxSlots, maxLive, maxCells};
+ghost use Rattle.words.specs.Stores.{stores};
+ghost use Rattle.words.specs.Journal.{journal};
+ghost use Rattle.table.specs.Entry.{depthOf, writableOf, parent, outward, writable};
 ghost use Rattle.table.specs.Marks.{has, cellIn, Marked, CellsOnce, Blank};
-ghost use Rattle.model.specs.Answer.{stepsOf};
+ghost use Rattle.changes.specs.Staged.{Turned, Stages, HeadOk, headStores};
 ghost use Rattle.store.specs.Outcome.{buffers, report, leaves, outcome};
 ghost use Rattle.store.specs.Means.{seen};
-ghost use Rattle.commit.specs.Commit.{outward, writable, commitCheck, commitWords, commitCall, commitMeans};
-ghost use Rattle.commit.specs.Decide.{concerned, moves, raises, decidedIn, Tells};
+ghost use Rattle.commit.specs.Commit.{raises, commitCheck, commitChange, commitCall, commitMeans};
+ghost use Rattle.commit.specs.Decide.{concerned, moves, Tells};
+ghost use Rattle.commit.specs.Parts.{headWords, endingWords};
 
 // The questions put to commit: 0, or the number of the first no. The first of them leave the entries marked.
-fn commit_check(
-    memory: usize,
-    bodies: usize,
-    table: &[u32],
-    handle: u32,
-    seen: &mut [u8],
-    used: &mut [u8],
-) -> u32
-    requires room { ⌜ (min (cellsOf memory) maxCells ≤ length (now seen)) × (length (now used) ≡ maxBodies) ⌝ }
-    requires blank { ⌜ Blank (now seen) × Blank (now used) ⌝ }
+fn commit_check(memory: usize, bodies: usize, table: &[u32], handle: u32, seen: &mut [u8]) -> u32
+    requires { ⌜ (min (cellsOf memory) maxCells ≤ length (now seen)) × Blank (now seen) ⌝ }
     ensures no { λ r. ⌜ r ≡ commitCheck memory bodies (now (table .entry)) handle ⌝ }
     ensures marks { λ r. ⌜ (r ≡ 0 → Marked (slotsOf (length (now (table .entry)))) (now (table .entry)) (slotsOf (length (now (table .entry)))) (now (seen .exit))) ⌝ }
 {
-    let no = store_check(memory, bodies, table, seen, used);
+    let mut used = no_bodies();
+    let no = store_check(memory, bodies, table, seen, &mut used);
     if no != 0 {
         return no;
     }
@@ -83,19 +88,14 @@ fn tell_writable(table: &[u32], slots: usize, live: u32, seen: &mut [u8])
     keep_writable(table, slots, live, seen);
 }
 
-// The pairs of the head: the number of live domains, and the handle that leaves.
-fn commit_head(table: &mut [u32], first: usize, live: u32, budget: usize)
-    requires { ⌜ (first + 4 ≤ length (now table)) × (1 ≤ live) × (live ≤ maxLive) ⌝ }
-    ensures { λ _. ⌜ now (table .exit) ≡ stores (take budget (pairPlans first ((liveAt ≔ live - 1) ∷ (handleAt (live - 1) ≔ 0) ∷ []))) (now (table .entry)) ⌝ }
+// The words of the head: the number of live domains, and the handle that leaves.
+fn commit_head(live: u32) -> Head
+    requires { ⌜ (1 ≤ live) × (live ≤ maxLive) ⌝ }
+    ensures right { λ r. ⌜ HeadOk r ⌝ }
+    ensures stored { λ r. ⌜ headStores r ≡ headWords live ⌝ }
 {
-    write_pair(table, first, LIVE_AT as u32, live - 1, budget);
-    write_pair(
-        table,
-        first + 2,
-        handle_at(wide(live - 1)) as u32,
-        0,
-        remaining(budget, 2),
-    );
+    let one = with_word(no_head(), LIVE_AT as u32, live - 1);
+    with_word(one, handle_at(wide(live - 1)) as u32, 0)
 }
 
 // Can an entry change, by its first word alone? It can if it is innermost, or its parent's and read-only. Most are neither.
@@ -103,8 +103,8 @@ fn is_concerned(word: u32, live: u32) -> bool
     requires { ⌜ 1 ≤ live ⌝ }
     ensures { λ r. ⌜ r ≡ concerned live word ⌝ }
 {
-    let depth = word / 268435456;
-    (depth == live) | ((2 <= live) & ((depth == live - 1) & (word / 134217728 % 2 == 0)))
+    let depth = depth_of(word);
+    (depth == live) | ((2 <= live) & ((depth == live - 1) & (writable_of(word) == 0)))
 }
 
 // Does an innermost entry move out: is there a parent, and does it lack the cell?
@@ -112,7 +112,7 @@ fn moves_out(word: u32, live: u32, mark: u8) -> bool
     requires { ⌜ (1 ≤ live) × (live ≤ maxLive) ⌝ }
     ensures { λ r. ⌜ r ≡ moves live word (has (parent live) mark) ⌝ }
 {
-    (word / 268435456 == live) & ((2 <= live) & !has_depth(mark, live - 1))
+    (depth_of(word) == live) & ((2 <= live) & !has_depth(mark, live - 1))
 }
 
 // Does an entry of the parent become read-write: is it read-only, and does the innermost domain hold its cell read-write?
@@ -121,19 +121,19 @@ fn is_raised(word: u32, live: u32, mark: u8) -> bool
     ensures { λ r. ⌜ r ≡ raises live word (has live mark) ⌝ }
 {
     (2 <= live)
-        & ((word / 268435456 == live - 1) & ((word / 134217728 % 2 == 0) & has_depth(mark, live)))
+        & ((depth_of(word) == live - 1) & ((writable_of(word) == 0) & has_depth(mark, live)))
 }
 
 // The first word of an entry that changes: one depth further out, or read-write, or 0 where it is freed.
 fn changed_word(word: u32, out: bool, raised: bool) -> u32
-    requires { ⌜ (out ≡ true → 268435456 ≤ word) × (raised ≡ true → writableOf word ≡ 0) ⌝ }
+    requires { ⌜ (out ≡ true → 1 ≤ depthOf word) × (raised ≡ true → writableOf word ≡ 0) ⌝ }
     ensures { λ r. ⌜ r ≡ cond out (outward word) (cond raised (writable word) 0) ⌝ }
 {
     if out {
-        return word - 268435456;
+        return move_out(word);
     }
     if raised {
-        return word + 134217728;
+        return raise(word);
     }
     0
 }
@@ -148,135 +148,183 @@ fn body_if(kept: bool, second: u32) -> u32
     0
 }
 
-// Writes the pairs of entry i after n pairs from index `at` on, and gives their number. An entry of the innermost domain changes, and one of
-// its parent that is raised.
+// Stages entry i, if it changes: one of the innermost domain does, and one of its parent that is raised. Tells whether it does.
 fn commit_entry(
-    table: &mut [u32],
+    table: &[u32],
     slots: usize,
-    at: usize,
-    n: usize,
-    i: usize,
     live: u32,
     seen: &[u8],
-    budget: usize,
-) -> usize
-    requires { ⌜ (i < slots) × (slots ≤ maxSlots) × (pairsAt slots ≤ length (now table)) × (at + 2 * n + 3 < length (now table)) × (1 ≤ live) × (live ≤ maxLive) ⌝ }
-    requires { ⌜ cellIn slots (now table) i < length (now seen) ⌝ }
-    ensures made { λ r. ⌜ r ≡ length (entryStores slots i (decidedIn slots (now (table .entry)) (now (seen .entry)) live i)) ⌝ }
-    ensures words { λ _. ⌜ now (table .exit) ≡ stores (take (budget - 2 * n) (pairPlans (at + 2 * n) (entryStores slots i (decidedIn slots (now (table .entry)) (now (seen .entry)) live i)))) (now (table .entry)) ⌝ }
+    words: &mut [u32],
+    i: usize,
+) -> bool
+    requires small { ⌜ (i < slots) × (slots ≤ maxSlots) × (pairsAt slots ≤ length (now table)) × (1 ≤ live) × (live ≤ maxLive) × (2 * slots ≤ length (now words)) ⌝ }
+    requires told { ⌜ (cellIn slots (now table) i < length (now seen)) × Tells slots (now table) live (now seen) ⌝ }
+    ensures { λ r. ⌜ Turned (commitChange slots (now (table .entry)) live i) i (now (words .entry)) (now (words .exit)) r ⌝ }
 {
     let word = first_word(table, slots, i);
     if !is_concerned(word, live) {
-        return 0;
+        return false;
     }
-    let mark = seen[wide(word % 65536)];
+    let mark = seen[cell_of(word)];
     let raised = is_raised(word, live, mark);
-    if !((word / 268435456 == live) | raised) {
-        return 0;
+    if !((depth_of(word) == live) | raised) {
+        return false;
     }
     let out = moves_out(word, live, mark);
     let first = changed_word(word, out, raised);
     let second = body_if(out | raised, second_word(table, slots, i));
-    write_entry(
-        table,
-        slots,
-        at + 2 * n,
-        i,
-        first,
-        second,
-        remaining(budget, 2 * n),
-    );
-    2
+    stage_words(words, i, first, second);
+    true
 }
 
-// Writes the pairs of the entries from index `at` on, and gives their number.
-fn commit_entries(
-    table: &mut [u32],
+// The same for the 64 entries from 64 k on. Their bits are stored at once.
+fn commit_group(
+    table: &[u32],
     slots: usize,
-    at: usize,
     live: u32,
     seen: &[u8],
-    budget: usize,
-) -> usize
-    requires { ⌜ (slots ≤ maxSlots) × (pairsAt slots ≤ at) × (at + 4 * slots ≤ length (now table)) × (1 ≤ live) × (live ≤ maxLive) ⌝ }
-    requires { ⌜ ((i : ℕ) → i < slots → cellIn slots (now table) i < length (now seen)) ⌝ }
-    ensures made { λ r. ⌜ r ≡ length (entryChanges slots (decidedIn slots (now (table .entry)) (now (seen .entry)) live)) ⌝ }
-    ensures words { λ _. ⌜ now (table .exit) ≡ stores (take budget (pairPlans at (entryChanges slots (decidedIn slots (now (table .entry)) (now (seen .entry)) live)))) (now (table .entry)) ⌝ }
+    words: &mut [u32],
+    changed: &mut [u64],
+    k: usize,
+)
+    requires small { ⌜ (64 * k < slots) × (slots ≤ maxSlots) × (pairsAt slots ≤ length (now table)) × (1 ≤ live) × (live ≤ maxLive) ⌝ }
+    requires room { ⌜ (2 * slots ≤ length (now words)) × (slots ≤ 64 * length (now changed)) ⌝ }
+    requires told { ⌜ ((i : ℕ) → i < slots → cellIn slots (now table) i < length (now seen)) × Tells slots (now table) live (now seen) ⌝ }
+    requires before { ⌜ Stages (64 * k) (commitChange slots (now table) live) (now words) (now changed) ⌝ }
+    ensures { λ _. ⌜ Stages (min slots (64 * k + 64)) (commitChange slots (now (table .entry)) live) (now (words .exit)) (now (changed .exit)) ⌝ }
 {
-    let mut n: usize = 0;
-    let mut i: usize = 0;
-    while i < slots {
-        n += commit_entry(table, slots, at, n, i, live, seen, budget);
+    let end = least(slots, 64 * k + 64);
+    let mut bits: u64 = 0;
+    let mut i = 64 * k;
+    while i < end {
+        bits = with_bit(
+            bits,
+            i % 64,
+            commit_entry(table, slots, live, seen, words, i),
+        );
         i += 1;
     }
-    n
+    changed[k] = bits;
 }
 
-// The pairs of commit, and their number.
-fn commit_pairs(table: &mut [u32], seen: &[u8], budget: usize) -> usize
-    requires { ⌜ (length (now table) ≡ tableWords (slotsOf (length (now table)))) × (slotsOf (length (now table)) ≤ maxSlots) × (1 ≤ live (now table)) × (live (now table) ≤ maxLive) ⌝ }
-    requires { ⌜ ((i : ℕ) → i < slotsOf (length (now table)) → cellIn (slotsOf (length (now table))) (now table) i < length (now seen)) × Tells (slotsOf (length (now table))) (now table) (live (now table)) (now seen) ⌝ }
-    ensures made { λ r. ⌜ r ≡ length (commitWords (now (table .entry))) ⌝ }
-    ensures words { λ _. ⌜ now (table .exit) ≡ stores (take budget (pairPlans (pairsAt (slotsOf (length (now (table .entry))))) (commitWords (now (table .entry))))) (now (table .entry)) ⌝ }
+// Stages all entries that change.
+fn commit_entries(
+    table: &[u32],
+    slots: usize,
+    live: u32,
+    seen: &[u8],
+    words: &mut [u32],
+    changed: &mut [u64],
+)
+    requires small { ⌜ (slots ≤ maxSlots) × (pairsAt slots ≤ length (now table)) × (1 ≤ live) × (live ≤ maxLive) ⌝ }
+    requires room { ⌜ (2 * slots ≤ length (now words)) × (slots ≤ 64 * length (now changed)) ⌝ }
+    requires told { ⌜ ((i : ℕ) → i < slots → cellIn slots (now table) i < length (now seen)) × Tells slots (now table) live (now seen) ⌝ }
+    requires before { ⌜ Stages 0 (commitChange slots (now table) live) (now words) (now changed) ⌝ }
+    ensures { λ _. ⌜ Stages slots (commitChange slots (now (table .entry)) live) (now (words .exit)) (now (changed .exit)) ⌝ }
 {
-    let slots = slots_of(table.len());
-    let first = pairs_at(slots);
-    let live = table[LIVE_AT];
-    commit_head(table, first, live, budget);
-    2 + commit_entries(table, slots, first + 4, live, seen, remaining(budget, 4))
+    let mut k: usize = 0;
+    while 64 * k < slots {
+        commit_group(table, slots, live, seen, words, changed, k);
+        k += 1;
+    }
 }
 
-// Commit's part on the table, and its steps uncut.
-fn commit_words(table: &mut [u32], seen: &mut [u8], budget: usize) -> usize
-    requires { ⌜ (length (now table) ≡ tableWords (slotsOf (length (now table)))) × (slotsOf (length (now table)) ≤ maxSlots) × (1 ≤ live (now table)) × (live (now table) ≤ maxLive) ⌝ }
-    requires { ⌜ ((i : ℕ) → i < slotsOf (length (now table)) → cellIn (slotsOf (length (now table))) (now table) i < length (now seen)) × Marked (slotsOf (length (now table))) (now table) (slotsOf (length (now table))) (now seen) × CellsOnce (slotsOf (length (now table))) (now table) (slotsOf (length (now table))) ⌝ }
-    ensures made { λ r. ⌜ r ≡ stepsOf 0 (length (commitWords (now (table .entry)))) ⌝ }
-    ensures words { λ _. ⌜ now (table .exit) ≡ stores (take budget (journal (pairsAt (slotsOf (length (now (table .entry))))) (commitWords (now (table .entry))))) (now (table .entry)) ⌝ }
+// Ends the innermost domain by what the marks tell, with arrays lent for it in which nothing is staged yet. Gives the steps uncut.
+fn end_domain(
+    table: &mut [u32],
+    slots: usize,
+    live: u32,
+    seen: &[u8],
+    words: &mut [u32],
+    changed: &mut [u64],
+    budget: usize,
+) -> usize
+    requires small { ⌜ (slots ≤ maxSlots) × (length (now table) ≡ tableWords slots) × (1 ≤ live) × (live ≤ maxLive) ⌝ }
+    requires room { ⌜ (2 * slots ≤ length (now words)) × (slots ≤ 64 * length (now changed)) ⌝ }
+    requires told { ⌜ ((i : ℕ) → i < slots → cellIn slots (now table) i < length (now seen)) × Tells slots (now table) live (now seen) ⌝ }
+    requires before { ⌜ Stages 0 (commitChange slots (now table) live) (now words) (now changed) ⌝ }
+    ensures made { λ r. ⌜ r ≡ length (journal (pairsAt slots) (endingWords slots (now (table .entry)) live)) ⌝ }
+    ensures words { λ _. ⌜ now (table .exit) ≡ stores (take budget (journal (pairsAt slots) (endingWords slots (now (table .entry)) live))) (now (table .entry)) ⌝ }
 {
-    let slots = slots_of(table.len());
-    let live = table[LIVE_AT];
-    tell_writable(table, slots, live, seen);
-    let p = commit_pairs(table, seen, budget);
-    finish_journal(table, pairs_at(slots), p, budget)
+    commit_entries(table, slots, live, seen, words, changed);
+    write_staged(table, slots, commit_head(live), words, changed, budget)
 }
 
-// Commit, with marks for every cell and body, none made yet.
+// The same with arrays for a table of few slots.
+fn end_few(table: &mut [u32], slots: usize, live: u32, seen: &[u8], budget: usize) -> usize
+    requires small { ⌜ (slots ≤ 256) × (length (now table) ≡ tableWords slots) × (1 ≤ live) × (live ≤ maxLive) ⌝ }
+    requires told { ⌜ ((i : ℕ) → i < slots → cellIn slots (now table) i < length (now seen)) × Tells slots (now table) live (now seen) ⌝ }
+    ensures made { λ r. ⌜ r ≡ length (journal (pairsAt slots) (endingWords slots (now (table .entry)) live)) ⌝ }
+    ensures words { λ _. ⌜ now (table .exit) ≡ stores (take budget (journal (pairsAt slots) (endingWords slots (now (table .entry)) live))) (now (table .entry)) ⌝ }
+{
+    let mut words = few_words();
+    let mut changed = few_bits();
+    end_domain(table, slots, live, seen, &mut words, &mut changed, budget)
+}
+
+// The same with arrays for any table.
+fn end_many(table: &mut [u32], slots: usize, live: u32, seen: &[u8], budget: usize) -> usize
+    requires small { ⌜ (slots ≤ maxSlots) × (length (now table) ≡ tableWords slots) × (1 ≤ live) × (live ≤ maxLive) ⌝ }
+    requires told { ⌜ ((i : ℕ) → i < slots → cellIn slots (now table) i < length (now seen)) × Tells slots (now table) live (now seen) ⌝ }
+    ensures made { λ r. ⌜ r ≡ length (journal (pairsAt slots) (endingWords slots (now (table .entry)) live)) ⌝ }
+    ensures words { λ _. ⌜ now (table .exit) ≡ stores (take budget (journal (pairsAt slots) (endingWords slots (now (table .entry)) live))) (now (table .entry)) ⌝ }
+{
+    let mut words = many_words();
+    let mut changed = many_bits();
+    end_domain(table, slots, live, seen, &mut words, &mut changed, budget)
+}
+
+// The same for any table, in arrays chosen by its slots alone. They are made here and not beside the marks, so that a call that is refused
+// clears none, and a large memory does not make the arrays of a small table large.
+fn commit_words(table: &mut [u32], slots: usize, live: u32, seen: &[u8], budget: usize) -> usize
+    requires small { ⌜ (slots ≤ maxSlots) × (length (now table) ≡ tableWords slots) × (1 ≤ live) × (live ≤ maxLive) ⌝ }
+    requires told { ⌜ ((i : ℕ) → i < slots → cellIn slots (now table) i < length (now seen)) × Tells slots (now table) live (now seen) ⌝ }
+    ensures made { λ r. ⌜ r ≡ length (journal (pairsAt slots) (endingWords slots (now (table .entry)) live)) ⌝ }
+    ensures words { λ _. ⌜ now (table .exit) ≡ stores (take budget (journal (pairsAt slots) (endingWords slots (now (table .entry)) live))) (now (table .entry)) ⌝ }
+{
+    if slots <= FEW_SLOTS {
+        return end_few(table, slots, live, seen, budget);
+    }
+    end_many(table, slots, live, seen, budget)
+}
+
+// Commit with marks that are lent for it, none made yet: the questions leave them made.
 fn commit_marked(
     memory: &[u8],
     bodies: &[u8],
     table: &mut [u32],
     handle: u32,
     seen: &mut [u8],
-    used: &mut [u8],
     budget: usize,
 ) -> Answer
-    requires room { ⌜ (min (cellsOf (length (now memory))) maxCells ≤ length (now seen)) × (length (now used) ≡ maxBodies) ⌝ }
-    requires blank { ⌜ Blank (now seen) × Blank (now used) ⌝ }
-    ensures made { λ r. ⌜ leaves (report r) (buffers (now (memory .entry)) (now (bodies .entry)) (now (table .exit)))
+    requires { ⌜ (min (cellsOf (length (now memory))) maxCells ≤ length (now seen)) × Blank (now seen) ⌝ }
+    ensures { λ r. ⌜ leaves (report r) (buffers (now (memory .entry)) (now (bodies .entry)) (now (table .exit)))
         ≡ outcome (commitCall handle (buffers (now (memory .entry)) (now (bodies .entry)) (now (table .entry)))) budget
         (buffers (now (memory .entry)) (now (bodies .entry)) (now (table .entry))) ⌝ }
 {
-    let no = commit_check(memory.len(), bodies.len(), table, handle, seen, used);
+    let no = commit_check(memory.len(), bodies.len(), table, handle, seen);
     if no != 0 {
         return Answer::Refused(no);
     }
-    let steps = commit_words(table, seen, budget);
+    let slots = slots_of(table.len());
+    let live = table[LIVE_AT];
+    tell_writable(table, slots, live, seen);
+    let steps = commit_words(table, slots, live, seen, budget);
     answer_of(steps, 0, budget)
 }
 
-// The same with marks for a small memory: clearing those for the largest would take longer than all else.
+// Commit in a small memory, where clearing marks for the largest would take longer than all else.
 fn commit_few(memory: &[u8], bodies: &[u8], table: &mut [u32], handle: u32, budget: usize) -> Answer
     requires { ⌜ cellsOf (length (now memory)) ≤ 1024 ⌝ }
-    ensures made { λ r. ⌜ leaves (report r) (buffers (now (memory .entry)) (now (bodies .entry)) (now (table .exit)))
+    ensures { λ r. ⌜ leaves (report r) (buffers (now (memory .entry)) (now (bodies .entry)) (now (table .exit)))
         ≡ outcome (commitCall handle (buffers (now (memory .entry)) (now (bodies .entry)) (now (table .entry)))) budget
         (buffers (now (memory .entry)) (now (bodies .entry)) (now (table .entry))) ⌝ }
 {
     let mut seen = few_marks();
-    let mut used = no_bodies();
-    commit_marked(memory, bodies, table, handle, &mut seen, &mut used, budget)
+    commit_marked(memory, bodies, table, handle, &mut seen, budget)
 }
 
-// The same with marks for every cell that an entry can name.
+// Commit in any memory.
 fn commit_many(
     memory: &[u8],
     bodies: &[u8],
@@ -284,13 +332,12 @@ fn commit_many(
     handle: u32,
     budget: usize,
 ) -> Answer
-    ensures made { λ r. ⌜ leaves (report r) (buffers (now (memory .entry)) (now (bodies .entry)) (now (table .exit)))
+    ensures { λ r. ⌜ leaves (report r) (buffers (now (memory .entry)) (now (bodies .entry)) (now (table .exit)))
         ≡ outcome (commitCall handle (buffers (now (memory .entry)) (now (bodies .entry)) (now (table .entry)))) budget
         (buffers (now (memory .entry)) (now (bodies .entry)) (now (table .entry))) ⌝ }
 {
     let mut seen = many_marks();
-    let mut used = no_bodies();
-    commit_marked(memory, bodies, table, handle, &mut seen, &mut used, budget)
+    commit_marked(memory, bodies, table, handle, &mut seen, budget)
 }
 
 // Ends the innermost domain.

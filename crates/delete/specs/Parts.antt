@@ -1,10 +1,25 @@
--- What delete's code asks of an entry.
+-- What delete's code asks of an entry, and what it leaves of a table.
 use Prim.Native.Nat.{ℕ}
 use mathlib.Core.Bool.{Bool, _&&_}
+use mathlib.Core.List.{List}
+use mathlib.Core.Path.{_≡_}
 use lib.Dec.{eqb}
-use Rattle.table.specs.Entry.{depthOf, viaOf, cellOf}
+use lib.ListN.{length, take}
+use Rattle.words.specs.Layout.{pairsAt}
+use Rattle.words.specs.Stores.{Store, stores}
+use Rattle.words.specs.Journal.{journal}
+use Rattle.table.specs.Entry.{depthOf, cellOf, isVia}
 use Rattle.model.specs.Holdings.{inRange}
 
--- is an entry with first word w of depth d, via parent, and of one of n cells from `first` on?
+-- is an entry with first word w of depth d and of one of n cells from `first` on?
+abbrev pub inCells : (d first n w : ℕ) → Bool
+inCells d first n w = eqb (depthOf w) d && inRange first n (cellOf w)
+
+-- is it via parent as well?
 abbrev pub viaWord : (d first n w : ℕ) → Bool
-viaWord d first n w = eqb (depthOf w) d && (eqb (viaOf w) 1 && inRange first n (cellOf w))
+viaWord d first n w = isVia w && inCells d first n w
+
+-- the words ws are stored by the journal of a table t of e entries, at most k steps of it, which leaves u; r are its steps uncut
+pub record Journaled (e : ℕ) (ws : List Store) (k : ℕ) (t : List ℕ) (r : ℕ) (u : List ℕ) : Type 0 where
+  pub made : r ≡ length (journal (pairsAt e) ws)
+  pub words : u ≡ stores (take k (journal (pairsAt e) ws)) t

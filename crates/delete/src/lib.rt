@@ -1,42 +1,50 @@
 // Delete: frees the named cells of the named domain.
 //
-// The questions come first, in one function that only reads. Then one pass over the entries writes the pairs of those that are freed,
-// and the journal is finished. No body is stored: a free body means nothing.
+// The questions come first, in one function that only reads. Then one pass over the entries stages those that are freed, and what is staged
+// is written. No body is stored: a free body means nothing.
+use changes::few_bits;
+use changes::few_words;
+use changes::many_bits;
+use changes::many_words;
+use changes::no_head;
+use changes::stage_words;
+use changes::with_bit;
+use changes::write_staged;
 use search::find_domain;
 use store::Answer;
 use store::answer_of;
 use store::store_check;
 use table::FEW_CELLS;
+use table::FEW_SLOTS;
 use table::few_marks;
+use table::fields::cell_of;
+use table::fields::depth_of;
+use table::fields::is_via;
 use table::first_word;
 use table::has_depth;
 use table::many_marks;
 use table::no_bodies;
-use table::write_entry;
-use words::finish_journal;
 use words::layout::cells_of;
-use words::layout::pairs_at;
 use words::layout::slots_of;
-use words::remaining;
+use words::least;
 use words::wide;
 ghost use mathlib.Core.Path.{_≡_};
-ghost use mathlib.Core.Bool.{not};
-ghost use Prim.Native.Nat.{_+_, _*_, _≤_, _<_, min};
-ghost use lib.ListN.{length, take, getD};
-ghost use Rattle.words.specs.Layout.{cellsOf, pairsAt, slotsOf, tableWords, maxSlots, maxBodies, maxCells};
+ghost use mathlib.Core.Bool.{true, not};
+ghost use Prim.Native.Nat.{ℕ, _+_, _*_, _≤_, _<_, min};
+ghost use lib.ListN.{length, getD};
+ghost use Rattle.words.specs.Layout.{cellsOf, pairsAt, tableWords, maxSlots, maxCells};
 ghost use Rattle.words.specs.Scan.{all};
-ghost use Rattle.words.specs.Stores.{stores};
-ghost use Rattle.words.specs.Journal.{pairPlans, journal};
 ghost use Rattle.table.specs.Entry.{word1};
 ghost use Rattle.table.specs.Marks.{has, Blank};
-ghost use Rattle.table.specs.Changes.{entryStores, entryChanges};
+ghost use Rattle.table.specs.Changes.{keep, entryChanges};
+ghost use Rattle.changes.specs.Staged.{Turned, Stages};
 ghost use Rattle.model.specs.Holdings.{rangeOk};
 ghost use Rattle.store.specs.Outcome.{buffers, report, leaves, outcome};
 ghost use Rattle.store.specs.Means.{seen};
-ghost use Rattle.delete.specs.Delete.{deleteCheck, deleteChange, deleteWords, deleteCall, deleteMeans};
-ghost use Rattle.delete.specs.Parts.{viaWord};
+ghost use Rattle.delete.specs.Delete.{deleteCheck, deleteChange, deleteCall, deleteMeans};
+ghost use Rattle.delete.specs.Parts.{inCells, viaWord, Journaled};
 
-// ---- the questions: 0, or the number of the first no
+// ---- the questions
 
 // Question 8: at least one cell, and all of them in memory. The sum of two words does not wrap in a usize.
 fn range_ok(cells: usize, first: u32, count: u32) -> bool
@@ -59,14 +67,13 @@ fn all_held(seen: &[u8], depth: u32, first: usize, count: usize) -> bool
     held
 }
 
-// Is an entry of this depth, via parent, and of one of these cells?
-fn via_word(word: u32, depth: u32, first: u32, count: u32) -> bool
+// Is an entry of this depth and of one of these cells?
+fn in_cells(word: u32, depth: u32, first: u32, count: u32) -> bool
     requires { ⌜ first + count ≤ maxCells ⌝ }
-    ensures { λ r. ⌜ r ≡ viaWord depth first count word ⌝ }
+    ensures { λ r. ⌜ r ≡ inCells depth first count word ⌝ }
 {
-    let cell = word % 65536;
-    (word / 268435456 == depth)
-        & ((word / 67108864 % 2 == 1) & ((first <= cell) & (cell < first + count)))
+    let cell = cell_of(word) as u32;
+    (depth_of(word) == depth) & ((first <= cell) & (cell < first + count))
 }
 
 // Question 14, asked of the depth of the next domain in: is none of its entries via parent and of one of these cells? All entries are
@@ -78,13 +85,14 @@ fn none_via(table: &[u32], slots: usize, depth: u32, first: u32, count: u32) -> 
     let mut none = true;
     let mut i: usize = 0;
     while i < slots {
-        none = none & !via_word(first_word(table, slots, i), depth, first, count);
+        let word = first_word(table, slots, i);
+        none = none & !(is_via(word) & in_cells(word, depth, first, count));
         i += 1;
     }
     none
 }
 
-// The questions put to delete, with marks for every cell and body, none made yet.
+// The questions put to delete, with marks lent for them, none of which is made yet: 0, or the number of the first no.
 fn check_marked(
     memory: usize,
     bodies: usize,
@@ -93,13 +101,12 @@ fn check_marked(
     first: u32,
     count: u32,
     seen: &mut [u8],
-    used: &mut [u8],
 ) -> u32
-    requires room { ⌜ (min (cellsOf memory) maxCells ≤ length (now seen)) × (length (now used) ≡ maxBodies) ⌝ }
-    requires blank { ⌜ Blank (now seen) × Blank (now used) ⌝ }
+    requires { ⌜ (min (cellsOf memory) maxCells ≤ length (now seen)) × Blank (now seen) ⌝ }
     ensures { λ r. ⌜ r ≡ deleteCheck memory bodies (now (table .entry)) handle first count ⌝ }
 {
-    let no = store_check(memory, bodies, table, seen, used);
+    let mut used = no_bodies();
+    let no = store_check(memory, bodies, table, seen, &mut used);
     if no != 0 {
         return no;
     }
@@ -119,7 +126,7 @@ fn check_marked(
     0
 }
 
-// The same with marks for a small memory: clearing those for the largest would take longer than all else.
+// The same in a small memory, where clearing marks for the largest would take longer than all else.
 fn check_few(
     memory: usize,
     bodies: usize,
@@ -132,20 +139,10 @@ fn check_few(
     ensures { λ r. ⌜ r ≡ deleteCheck memory bodies (now (table .entry)) handle first count ⌝ }
 {
     let mut seen = few_marks();
-    let mut used = no_bodies();
-    check_marked(
-        memory,
-        bodies,
-        table,
-        handle,
-        first,
-        count,
-        &mut seen,
-        &mut used,
-    )
+    check_marked(memory, bodies, table, handle, first, count, &mut seen)
 }
 
-// The same with marks for every cell that an entry can name.
+// The same in any memory.
 fn check_many(
     memory: usize,
     bodies: usize,
@@ -157,20 +154,10 @@ fn check_many(
     ensures { λ r. ⌜ r ≡ deleteCheck memory bodies (now (table .entry)) handle first count ⌝ }
 {
     let mut seen = many_marks();
-    let mut used = no_bodies();
-    check_marked(
-        memory,
-        bodies,
-        table,
-        handle,
-        first,
-        count,
-        &mut seen,
-        &mut used,
-    )
+    check_marked(memory, bodies, table, handle, first, count, &mut seen)
 }
 
-// The questions put to delete. They alone need the marks.
+// The questions put to delete. They alone need marks.
 fn delete_check(
     memory: usize,
     bodies: usize,
@@ -187,75 +174,195 @@ fn delete_check(
     check_many(memory, bodies, table, handle, first, count)
 }
 
-// ---- the words
+// ---- what is staged
 
-// Writes the pairs that free entry i, if it is of this depth and of one of these cells, at index `at`. Returns their number.
+// Stages entry i, if it is freed: both its words become 0. Tells whether it is.
 fn free_entry(
-    table: &mut [u32],
+    table: &[u32],
     slots: usize,
-    at: usize,
-    i: usize,
     depth: u32,
-    first: usize,
-    count: usize,
-    budget: usize,
-) -> usize
-    requires { ⌜ (i < slots) × (slots ≤ maxSlots) × (pairsAt slots ≤ at) × (at + 3 < length (now table)) × (first + count ≤ maxCells) ⌝ }
-    ensures counted { λ r. ⌜ r ≡ length (entryStores slots i (deleteChange slots (now (table .entry)) depth first count i)) ⌝ }
-    ensures words { λ _. ⌜ now (table .exit) ≡ stores (take budget (pairPlans at (entryStores slots i (deleteChange slots (now (table .entry)) depth first count i)))) (now (table .entry)) ⌝ }
+    first: u32,
+    count: u32,
+    words: &mut [u32],
+    i: usize,
+) -> bool
+    requires { ⌜ (i < slots) × (slots ≤ maxSlots) × (pairsAt slots ≤ length (now table)) × (first + count ≤ maxCells) × (2 * slots ≤ length (now words)) ⌝ }
+    ensures { λ r. ⌜ Turned (deleteChange slots (now (table .entry)) depth first count i) i (now (words .entry)) (now (words .exit)) r ⌝ }
 {
-    let word = first_word(table, slots, i);
-    let cell = wide(word % 65536);
-    let freed = (word / 268435456 == depth) & ((first <= cell) & (cell < first + count));
-    if !freed {
-        return 0;
+    if !in_cells(first_word(table, slots, i), depth, first, count) {
+        return false;
     }
-    write_entry(table, slots, at, i, 0, 0, budget);
-    2
+    stage_words(words, i, 0, 0);
+    true
 }
 
-// Writes the pairs of all entries that are freed, and returns their number.
-fn free_pairs(
+// Is none of the entries from `from` to `end` freed? All of them are asked, with no branch, so that the compiler can ask many at once.
+fn none_freed(
+    table: &[u32],
+    slots: usize,
+    depth: u32,
+    first: u32,
+    count: u32,
+    from: usize,
+    end: usize,
+) -> bool
+    requires { ⌜ (end ≤ slots) × (slots ≤ maxSlots) × (pairsAt slots ≤ length (now table)) × (first + count ≤ maxCells) ⌝ }
+    ensures { λ r. ⌜ (r ≡ true → (i : ℕ) → from ≤ i → i < end → deleteChange slots (now (table .entry)) depth first count i ≡ keep) ⌝ }
+{
+    let mut none = true;
+    let mut i = from;
+    while i < end {
+        none = none & !in_cells(first_word(table, slots, i), depth, first, count);
+        i += 1;
+    }
+    none
+}
+
+// Stages those of the 64 entries from 64 k on that are freed. Their bits are stored at once. Most groups have none, and are passed over.
+fn free_group(
+    table: &[u32],
+    slots: usize,
+    depth: u32,
+    first: u32,
+    count: u32,
+    words: &mut [u32],
+    changed: &mut [u64],
+    k: usize,
+)
+    requires small { ⌜ (64 * k < slots) × (slots ≤ maxSlots) × (pairsAt slots ≤ length (now table)) × (first + count ≤ maxCells) ⌝ }
+    requires room { ⌜ (2 * slots ≤ length (now words)) × (slots ≤ 64 * length (now changed)) ⌝ }
+    requires before { ⌜ Stages (64 * k) (deleteChange slots (now table) depth first count) (now words) (now changed) ⌝ }
+    ensures { λ _. ⌜ Stages (min slots (64 * k + 64)) (deleteChange slots (now (table .entry)) depth first count) (now (words .exit)) (now (changed .exit)) ⌝ }
+{
+    let end = least(slots, 64 * k + 64);
+    if none_freed(table, slots, depth, first, count, 64 * k, end) {
+        return;
+    }
+    let mut bits: u64 = 0;
+    let mut i = 64 * k;
+    while i < end {
+        let freed = free_entry(table, slots, depth, first, count, words, i);
+        bits = with_bit(bits, i % 64, freed);
+        i += 1;
+    }
+    changed[k] = bits;
+}
+
+// Stages all entries that are freed.
+fn free_entries(
+    table: &[u32],
+    slots: usize,
+    depth: u32,
+    first: u32,
+    count: u32,
+    words: &mut [u32],
+    changed: &mut [u64],
+)
+    requires small { ⌜ (slots ≤ maxSlots) × (pairsAt slots ≤ length (now table)) × (first + count ≤ maxCells) ⌝ }
+    requires room { ⌜ (2 * slots ≤ length (now words)) × (slots ≤ 64 * length (now changed)) ⌝ }
+    requires before { ⌜ Stages 0 (deleteChange slots (now table) depth first count) (now words) (now changed) ⌝ }
+    ensures { λ _. ⌜ Stages slots (deleteChange slots (now (table .entry)) depth first count) (now (words .exit)) (now (changed .exit)) ⌝ }
+{
+    let mut k: usize = 0;
+    while 64 * k < slots {
+        free_group(table, slots, depth, first, count, words, changed, k);
+        k += 1;
+    }
+}
+
+// ---- the words
+
+// Frees the cells, with arrays lent for it in which nothing is staged yet. Gives the steps uncut.
+fn free_staged(
     table: &mut [u32],
     slots: usize,
     depth: u32,
-    first: usize,
-    count: usize,
+    first: u32,
+    count: u32,
+    words: &mut [u32],
+    changed: &mut [u64],
+    budget: usize,
+) -> usize
+    requires small { ⌜ (slots ≤ maxSlots) × (length (now table) ≡ tableWords slots) × (first + count ≤ maxCells) ⌝ }
+    requires room { ⌜ (2 * slots ≤ length (now words)) × (slots ≤ 64 * length (now changed)) ⌝ }
+    requires before { ⌜ Stages 0 (deleteChange slots (now table) depth first count) (now words) (now changed) ⌝ }
+    ensures { λ r. ⌜ Journaled slots (entryChanges slots (deleteChange slots (now (table .entry)) depth first count)) budget (now (table .entry)) r (now (table .exit)) ⌝ }
+{
+    free_entries(table, slots, depth, first, count, words, changed);
+    write_staged(table, slots, no_head(), words, changed, budget)
+}
+
+// The same with arrays for a table of few slots.
+fn free_few(
+    table: &mut [u32],
+    slots: usize,
+    depth: u32,
+    first: u32,
+    count: u32,
+    budget: usize,
+) -> usize
+    requires { ⌜ (slots ≤ 256) × (length (now table) ≡ tableWords slots) × (first + count ≤ maxCells) ⌝ }
+    ensures { λ r. ⌜ Journaled slots (entryChanges slots (deleteChange slots (now (table .entry)) depth first count)) budget (now (table .entry)) r (now (table .exit)) ⌝ }
+{
+    let mut words = few_words();
+    let mut changed = few_bits();
+    free_staged(
+        table,
+        slots,
+        depth,
+        first,
+        count,
+        &mut words,
+        &mut changed,
+        budget,
+    )
+}
+
+// The same with arrays for any table.
+fn free_many(
+    table: &mut [u32],
+    slots: usize,
+    depth: u32,
+    first: u32,
+    count: u32,
     budget: usize,
 ) -> usize
     requires { ⌜ (slots ≤ maxSlots) × (length (now table) ≡ tableWords slots) × (first + count ≤ maxCells) ⌝ }
-    ensures counted { λ r. ⌜ r ≡ length (entryChanges slots (deleteChange slots (now (table .entry)) depth first count)) ⌝ }
-    ensures words { λ _. ⌜ now (table .exit) ≡ stores (take budget (pairPlans (pairsAt slots) (entryChanges slots (deleteChange slots (now (table .entry)) depth first count)))) (now (table .entry)) ⌝ }
+    ensures { λ r. ⌜ Journaled slots (entryChanges slots (deleteChange slots (now (table .entry)) depth first count)) budget (now (table .entry)) r (now (table .exit)) ⌝ }
 {
-    let at = pairs_at(slots);
-    let mut n: usize = 0;
-    let mut i: usize = 0;
-    while i < slots {
-        n += free_entry(
-            table,
-            slots,
-            at + 2 * n,
-            i,
-            depth,
-            first,
-            count,
-            remaining(budget, 2 * n),
-        );
-        i += 1;
-    }
-    n
+    let mut words = many_words();
+    let mut changed = many_bits();
+    free_staged(
+        table,
+        slots,
+        depth,
+        first,
+        count,
+        &mut words,
+        &mut changed,
+        budget,
+    )
 }
 
-// Delete's part on the table. Returns the steps of its journal uncut.
-fn delete_words(table: &mut [u32], depth: u32, first: usize, count: usize, budget: usize) -> usize
-    requires { ⌜ (slotsOf (length (now table)) ≤ maxSlots) × (length (now table) ≡ tableWords (slotsOf (length (now table)))) × (first + count ≤ maxCells) ⌝ }
-    ensures made { λ r. ⌜ r ≡ length (journal (pairsAt (slotsOf (length (now (table .entry))))) (deleteWords (now (table .entry)) depth first count)) ⌝ }
-    ensures words { λ _. ⌜ now (table .exit) ≡ stores (take budget (journal (pairsAt (slotsOf (length (now (table .entry))))) (deleteWords (now (table .entry)) depth first count))) (now (table .entry)) ⌝ }
+// Frees the cells, and gives the steps uncut. The arrays are as the table needs them, whatever the marks were.
+fn free_cells(
+    table: &mut [u32],
+    slots: usize,
+    depth: u32,
+    first: u32,
+    count: u32,
+    budget: usize,
+) -> usize
+    requires { ⌜ (slots ≤ maxSlots) × (length (now table) ≡ tableWords slots) × (first + count ≤ maxCells) ⌝ }
+    ensures { λ r. ⌜ Journaled slots (entryChanges slots (deleteChange slots (now (table .entry)) depth first count)) budget (now (table .entry)) r (now (table .exit)) ⌝ }
 {
-    let slots = slots_of(table.len());
-    let p = free_pairs(table, slots, depth, first, count, budget);
-    finish_journal(table, pairs_at(slots), p, budget)
+    if slots <= FEW_SLOTS {
+        return free_few(table, slots, depth, first, count, budget);
+    }
+    free_many(table, slots, depth, first, count, budget)
 }
+
+// ---- the call
 
 // Frees the named cells of the named domain, whether it is the innermost or not.
 pub fn delete(
@@ -277,7 +384,8 @@ pub fn delete(
     if no != 0 {
         return Answer::Refused(no);
     }
+    let slots = slots_of(table.len());
     let depth = find_domain(table, handle);
-    let steps = delete_words(table, depth, wide(first), wide(count), budget);
+    let steps = free_cells(table, slots, depth, first, count, budget);
     answer_of(steps, 0, budget)
 }

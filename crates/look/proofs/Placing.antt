@@ -1,5 +1,5 @@
 -- Where the bytes of a cell stand: the words say it as the model does. And what the code of look cites. Assumes nothing.
-use Prim.Native.Nat.{ℕ, zero, suc, _+_, _-_, _≤_, _<_}
+use Prim.Native.Nat.{ℕ, zero, suc, _+_, _≤_, _<_}
 use mathlib.Core.Bool.{true, false}
 use mathlib.Core.List.{List}
 use mathlib.Core.Path.{_≡_, refl, sym, ap, subst, _∙_}
@@ -7,15 +7,15 @@ use native.Mathlib.Omega.{arith}
 use borrow.Author.Tests.{le-leb, lt-leb, leb-true, lt-ltb, le-ltb, ltb-true}
 use lib.Dec.{ltb}
 use lib.ListN.{length}
-use Rattle.words.specs.Layout.{cellAt, cellsOf, slotsOf, pairsAt, maxSlots, maxLive}
+use Rattle.words.specs.Layout.{cellAt, cellsOf, bodiesOf, slotsOf, pairsAt, maxSlots, maxLive}
 use Rattle.words.specs.Cells.{cellBytes}
-use Rattle.words.proofs.Scan.{by-bool, by-le, is-false, not-lt}
-use Rattle.table.specs.Entry.{live, word1, word2, viaOf}
-use Rattle.search.specs.Search.{stepsIn, heldFrom, holderIn, sourceIn, bodyFrom}
+use Rattle.words.proofs.Scan.{by-bool}
+use Rattle.table.specs.Entry.{live}
+use Rattle.search.specs.Search.{heldFrom, bodyFrom, HasSource, valueFrom}
 use Rattle.search.specs.Domain.{depthNamed}
-use Rattle.search.specs.declared.Holder.the-variants.{At, Nobody}
-use Rattle.search.proofs.Holders.{HolderFacts, holder-facts}
-use Rattle.search.proofs.Value.{source-copy-at, source-via-at, source-zero}
+use Rattle.search.specs.declared.Held.{Held}
+use Rattle.search.specs.declared.Held.the-variants.{Nowhere, InBody}
+use Rattle.search.proofs.Behind.{value-none, value-some, from-slot, from-fits}
 use Rattle.model.specs.Answer.{done, refused, ask, orElse}
 use Rattle.model.specs.Holdings.{rangeOk}
 use Rattle.model.specs.Restore.{Looked, lookedBy, looked, restoredCell}
@@ -25,86 +25,31 @@ use Rattle.store.specs.State.{stateOf}
 use Rattle.store.proofs.Checks.{ask-yes, ask-rest, orElse-both, store-shape, shape-facts}
 use Rattle.store.proofs.Means.{by-check}
 use Rattle.store.proofs.Raw.{raw-named, check-rule}
-use Rattle.store.proofs.Outermost.{from-slot, from-fits, store-bytes}
-use Rattle.look.specs.Look.{lookCheck, placeIn, placed, lookPlace, placeReport, placePart, placeWithin, shownAt, orLookRefused, lookMeans}
+use Rattle.store.proofs.Outermost.{store-bytes}
+use Rattle.look.specs.Look.{lookCheck, placeOf, placeIn, placed, lookPlace, placeReport, placePart, placeWithin, shownAt, orLookRefused, lookMeans}
 use Rattle.look.specs.declared.Place.{Place}
 use Rattle.look.specs.declared.Place.the-variants.{Refused, Memory, Bodies}
-
-zero-one : _≡_ {A = ℕ} 0 1 → ⊥
-zero-one z = omega arith
 
 -- ---- the place in the words of a table
 
 module _ (e : ℕ) (t : List ℕ) (d c : ℕ) where
   pub place-memory : heldFrom e t d c ≡ false → placeIn e t d c ≡ Memory (cellAt c)
   unfolding placeIn
-  place-memory h = rw h
+  place-memory h = ap (placeOf c) (value-none e t d c h)
 
   pub place-bodies : heldFrom e t d c ≡ true → placeIn e t d c ≡ Bodies (cellAt (bodyFrom e t d c))
   unfolding placeIn
-  place-bodies h = rw h
+  place-bodies h = ap (placeOf c) (value-some e t d c h)
 
-  -- what the holder that was found tells
-  nobody-held : holderIn e t d c ≡ Nobody → heldFrom e t d c ≡ false
-  unfolding holderIn
-  nobody-held h =
-      is-false (heldFrom e t d c) (λ p. let q = rw p at h in let z : _≡_ {A = ℕ} 0 1 = cc in zero-one z)
+  -- the code's two exits, by what the search answered
+  module _ (v : Held) (q : v ≡ valueFrom e t d c) (w at : ℕ) (p : at ≡ cellAt w) where
+    pub at-memory : v ≡ Nowhere → w ≡ c → Memory at ≡ placeIn e t d c
+    unfolding placeIn
+    at-memory n r = ap Memory (p ∙ ap cellAt r) ∙ ap (placeOf c) (sym n ∙ q)
 
-  record FoundAt (x : ℕ) : Type 0 where
-    held : heldFrom e t d c ≡ true
-    depth : d + stepsIn e t d c ≡ x
-
-  found-at : (x i : ℕ) → holderIn e t d c ≡ At x i → FoundAt x
-  unfolding holderIn
-  found-at x i h =
-      by-bool (heldFrom e t d c)
-      (λ p. let q = rw p at h in record { held = p; depth = cc })
-      (λ p. let q = rw p at h in let z : _≡_ {A = ℕ} 0 1 = cc in absurd (zero-one z))
-
-  -- where nobody holds the cell
-  pub at-memory : (w at : ℕ) → holderIn e t d c ≡ Nobody → w ≡ c → at ≡ cellAt w → Memory at ≡ placeIn e t d c
-  at-memory w at h p q = ap Memory (q ∙ ap cellAt p) ∙ sym (place-memory (nobody-held h))
-
-  -- where a holder was found: by its own entry, or by the copy further out
-  module _ (fits : heldFrom e t d c ≡ true → sourceIn e t (d + stepsIn e t d c) c < e) (x i : ℕ) (h : holderIn e t d c ≡ At x i) where
-    found : FoundAt x
-    found = found-at x i h
-
-    facts : HolderFacts e t d c x i
-    facts = holder-facts e t d c x i h
-
-    source : sourceIn e t x c < e
-    source = subst (λ (y : ℕ). sourceIn e t y c < e) (found .depth) (fits (found .held))
-
-    pub found-entry : i < e
-    found-entry = facts .slot
-
-    -- behind depth 0 there is no copy
-    pub found-deep : 0 < x
-    found-deep =
-        by-le x 0
-        (λ l. absurd (not-lt (sourceIn e t x c) e source (subst (λ (y : ℕ). e ≤ y) (sym (source-zero e t x c l)) (omega arith))))
-        (λ l. l)
-
-    at-bodies : (s v w at : ℕ) → s ≡ sourceIn e t x c → v ≡ word2 e t s → w ≡ v → at ≡ cellAt w → Bodies at ≡ placeIn e t d c
-    at-bodies s v w at p q r l =
-        let same : s ≡ sourceIn e t (d + stepsIn e t d c) c = p ∙ ap (λ (y : ℕ). sourceIn e t y c) (sym (found .depth)) in
-        ap Bodies (l ∙ ap cellAt (r ∙ q ∙ ap (word2 e t) same)) ∙ sym (place-bodies (found .held))
-
-    pub at-copy : (w₁ v w at : ℕ) → w₁ ≡ word1 e t i → viaOf w₁ ≡ 0 → v ≡ word2 e t i → w ≡ v → at ≡ cellAt w → Bodies at ≡ placeIn e t d c
-    at-copy w₁ v w at r z =
-        at-bodies i v w at (sym (source-copy-at e t x c i found-deep (sym (facts .entry)) found-entry (ap viaOf (sym r) ∙ z)))
-
-    module _ (w₁ s : ℕ) (r : w₁ ≡ word1 e t i) (z : viaOf w₁ ≡ 0 → ⊥) (o : s ≡ sourceIn e t (x - 1) c) where
-      out : s ≡ sourceIn e t x c
-      out = o ∙ sym (source-via-at e t x c i found-deep (sym (facts .entry)) found-entry (λ u. z (ap viaOf r ∙ u)))
-
-      -- the entry of that copy is one of the table's
-      pub source-slot : s < e
-      source-slot = subst (λ (y : ℕ). y < e) (sym out) source
-
-      pub at-source : (v w at : ℕ) → v ≡ word2 e t s → w ≡ v → at ≡ cellAt w → Bodies at ≡ placeIn e t d c
-      at-source v w at = at-bodies s v w at out
+    pub at-bodies : (x k : ℕ) → v ≡ InBody x k → w ≡ k → Bodies at ≡ placeIn e t d c
+    unfolding placeIn
+    at-bodies x k n r = ap Bodies (p ∙ ap cellAt r) ∙ ap (placeOf c) (sym n ∙ q)
 
 -- ---- the questions
 
@@ -160,16 +105,16 @@ store-room memory bodies t pass =
 -- ---- the place that look finds
 
 -- in a table that passes the questions, the copy behind the first holder has an entry, and its body fits
-module _ (memory bodies : ℕ) (t : List ℕ) (h c : ℕ) (p : Passed memory bodies t h c) (held : heldFrom (slotsOf (length t)) t (depthNamed t h) c ≡ true) where
-  pub found-slot : sourceIn (slotsOf (length t)) t (depthNamed t h + stepsIn (slotsOf (length t)) t (depthNamed t h) c) c < slotsOf (length t)
-  found-slot = from-slot (cellsOf memory) (slotsOf (length t)) (cellsOf bodies) t (check-rule memory bodies t (p .store)) (depthNamed t h) c (p .live) held
+module _ (memory bodies : ℕ) (t : List ℕ) (h c : ℕ) (p : Passed memory bodies t h c) where
+  found-slot : HasSource (slotsOf (length t)) t (depthNamed t h) c
+  found-slot = from-slot (cellsOf memory) (slotsOf (length t)) (bodiesOf bodies) t (check-rule memory bodies t (p .store)) (depthNamed t h) c (p .live)
 
-  pub found-body : bodyFrom (slotsOf (length t)) t (depthNamed t h) c < cellsOf bodies
-  found-body = from-fits (cellsOf memory) (slotsOf (length t)) (cellsOf bodies) t (check-rule memory bodies t (p .store)) (depthNamed t h) c (p .live) held
+  found-body : heldFrom (slotsOf (length t)) t (depthNamed t h) c ≡ true → bodyFrom (slotsOf (length t)) t (depthNamed t h) c < bodiesOf bodies
+  found-body = from-fits (cellsOf memory) (slotsOf (length t)) (bodiesOf bodies) t (check-rule memory bodies t (p .store)) (depthNamed t h) c (p .live)
 
 -- what `find_place` asks, by the numbers that the code has
 pub place-requires : (memory bodies : ℕ) (t : List ℕ) (h c slots d : ℕ) → Passed memory bodies t h c → slots ≡ slotsOf (length t) → d ≡ depthNamed t h
-    → ((slots ≤ maxSlots) × (pairsAt slots ≤ length t) × (live t ≤ maxLive)) × (heldFrom slots t d c ≡ true → sourceIn slots t (d + stepsIn slots t d c) c < slots)
+    → ((slots ≤ maxSlots) × (pairsAt slots ≤ length t) × (live t ≤ maxLive)) × HasSource slots t d c
 place-requires memory bodies t h c slots d p q r =
     rw (q, r)
     (let room = store-room memory bodies t (p .store) in ((room .0, room .1, live-within memory bodies t (p .store)), found-slot memory bodies t h c p))

@@ -5,7 +5,9 @@ use mathlib.Core.List.{List, []}
 use lib.Dec.{ltb}
 use lib.ListN.{length, take, drop}
 use Rattle.words.specs.Layout.{cellAt, cellsOf, slotsOf}
-use Rattle.search.specs.Search.{heldFrom, bodyFrom}
+use Rattle.search.specs.Search.{bodyFrom, valueFrom}
+use Rattle.search.specs.declared.Held.{Held}
+use Rattle.search.specs.declared.Held.the-variants.{Nowhere, InBody}
 use Rattle.search.specs.Domain.{depthNamed}
 use Rattle.model.specs.Answer.{Report, done, refused, ask, orElse}
 use Rattle.model.specs.Holdings.{named, isHeld, rangeOk}
@@ -22,8 +24,12 @@ lookCheck memory bodies t h c =
     orElse (storeCheck memory bodies t) (ask (ltb 0 (depthNamed t h)) 5 (ask (rangeOk (cellsOf memory) c 1) 8 0))
 
 -- "a part of the lent bodies, or of the lent memory where nobody from that domain inwards holds the cell"
+abbrev pub placeOf : (c : ℕ) → Held → Place
+placeOf c Nowhere = Memory (cellAt c)
+placeOf c (InBody d k) = Bodies (cellAt k)
+
 unfoldable pub placeIn : (e : ℕ) → List ℕ → (d c : ℕ) → Place
-placeIn e t d c = cond (heldFrom e t d c) (Bodies (cellAt (bodyFrom e t d c))) (Memory (cellAt c))
+placeIn e t d c = placeOf c (valueFrom e t d c)
 
 -- by the number of its questions: 0 shows the part
 abbrev pub placed : ℕ → Place → Place

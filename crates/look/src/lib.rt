@@ -1,23 +1,19 @@
 // Look: the 64 bytes that restore would leave in a cell, shown as a part of the lent bodies or of the lent memory. It changes nothing.
-use search::Holder;
+use search::Held;
 use search::find_domain;
-use search::find_holder;
-use search::find_source;
+use search::find_value;
 use store::Answer;
 use store::plain_check;
-use table::first_word;
-use table::second_word;
 use words::layout::cell_at;
 use words::layout::cells_of;
 use words::layout::slots_of;
 use words::wide;
 ghost use mathlib.Core.Path.{_≡_};
-ghost use mathlib.Core.Bool.{true};
-ghost use Prim.Native.Nat.{_+_, _≤_, _<_};
+ghost use Prim.Native.Nat.{_≤_};
 ghost use lib.ListN.{length};
 ghost use Rattle.words.specs.Layout.{pairsAt, maxSlots, maxLive};
 ghost use Rattle.table.specs.Entry.{live};
-ghost use Rattle.search.specs.Search.{stepsIn, heldFrom, sourceIn};
+ghost use Rattle.search.specs.Search.{HasSource};
 ghost use Rattle.store.specs.Outcome.{buffers, report};
 ghost use Rattle.look.specs.Look.{lookCheck, placeIn, lookPlace, placePart, placeWithin, shownAt, lookMeans};
 
@@ -48,19 +44,12 @@ fn look_check(memory: usize, bodies: usize, table: &[u32], handle: u32, cell: u3
 // The place of a cell's bytes in a table that passed the questions.
 fn find_place(table: &[u32], slots: usize, depth: u32, cell: u32) -> Place
     requires { ⌜ (slots ≤ maxSlots) × (pairsAt slots ≤ length (now table)) × (live (now table) ≤ maxLive) ⌝ }
-    requires { ⌜ (heldFrom slots (now table) depth cell ≡ true → sourceIn slots (now table) (depth + stepsIn slots (now table) depth cell) cell < slots) ⌝ }
+    requires { ⌜ HasSource slots (now table) depth cell ⌝ }
     ensures { λ r. ⌜ r ≡ placeIn slots (now (table .entry)) depth cell ⌝ }
 {
-    match find_holder(table, slots, depth, cell) {
-        Holder::Nobody => Place::Memory(cell_at(wide(cell))),
-        Holder::At(at, entry) => {
-            if first_word(table, slots, entry) / 67108864 % 2 == 0 {
-                return Place::Bodies(cell_at(wide(second_word(table, slots, entry))));
-            }
-            // the holder's own entry has no body where it is via parent: the copy further out has
-            let source = find_source(table, slots, at - 1, cell);
-            Place::Bodies(cell_at(wide(second_word(table, slots, source))))
-        }
+    match find_value(table, slots, depth, cell) {
+        Held::Nowhere => Place::Memory(cell_at(wide(cell))),
+        Held::InBody(_, body) => Place::Bodies(cell_at(wide(body))),
     }
 }
 

@@ -8,7 +8,7 @@ use native.Mathlib.Omega.{arith}
 use lib.Dec.{ltb, eqb}
 use lib.ListN.{length, getD, take}
 use lib.Seq.{take-all}
-use Rattle.words.specs.Layout.{cellsOf, slotsOf, pairsAt}
+use Rattle.words.specs.Layout.{cellsOf, bodiesOf, slotsOf, pairsAt}
 use Rattle.words.specs.Stores.{Store, stores}
 use Rattle.words.specs.Journal.{pending}
 use Rattle.words.proofs.Scan.{by-bool}
@@ -47,7 +47,7 @@ module _ (memory bodies t : List ℕ) (yes : storeCheck (length memory) (length 
   e = slotsOf (length t)
 
   abbrev b : ℕ
-  b = cellsOf (length bodies)
+  b = bodiesOf (length bodies)
 
   abbrev first : ℕ
   first = pairsAt (slotsOf (length t))
@@ -71,7 +71,7 @@ module _ (memory bodies t : List ℕ) (yes : storeCheck (length memory) (length 
   yes-then : (k : ℕ) → storeCheck (length (filled k)) (length bodies) t ≡ 0
   yes-then k = subst (λ (n : ℕ). storeCheck n (length bodies) t ≡ 0) (same-length k) yes
 
-  rule-then : (k : ℕ) → Rule (cellsOf (length (filled k))) e b (stores ws (take (pairsAt (slotsOf (length t))) t))
+  rule-then : (k : ℕ) → Rule (bodiesOf (length (filled k))) e b (stores ws (take (pairsAt (slotsOf (length t))) t))
   rule-then k =
       subst (λ (n : ℕ). Rule (cellsOf n) e b (stores ws (take (pairsAt (slotsOf (length t))) t))) (same-length k) (new-rule memory bodies t yes d low high)
 

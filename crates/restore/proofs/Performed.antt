@@ -2,25 +2,26 @@
 use Prim.Native.Nat.{ℕ, _+_, _-_, _≤_}
 use mathlib.Core.Bool.{true, false}
 use mathlib.Core.List.{List}
-use mathlib.Core.Path.{_≡_, refl, _∙_}
+use mathlib.Core.Path.{_≡_, _∙_}
 use native.Mathlib.Omega.{arith}
 use borrow.Author.Tests.{lt-ltb, le-ltb}
 use lib.Dec.{ltb}
 use lib.ListN.{length, take}
-use Rattle.words.specs.Layout.{cellsOf, slotsOf, pairsAt, maxLive}
+use Rattle.words.specs.Layout.{cellsOf, bodiesOf, slotsOf, pairsAt, maxLive}
 use Rattle.words.specs.Stores.{stores}
-use Rattle.words.specs.Journal.{journal, journalSteps}
+use Rattle.words.specs.Journal.{journal}
 use Rattle.table.specs.Entry.{live}
 use Rattle.table.specs.Rule.{ruleOk}
 use Rattle.table.proofs.Rule.{ok-make}
 use Rattle.search.specs.Domain.{depthNamed}
-use Rattle.model.specs.Answer.{Report, refused, ended, stepsOf}
+use Rattle.model.specs.Answer.{Report, refused, ended}
 use Rattle.store.specs.Outcome.{buffers, outcome, leaves}
 use Rattle.store.specs.Checks.{storeCheck}
 use Rattle.store.proofs.Checks.{orElse-both}
 use Rattle.store.proofs.Outcome.{refuses}
 use Rattle.store.proofs.Raw.{check-rule}
 use Rattle.restore.specs.Restore.{restoreCheck, restoreBytes, restoreWords, restoreCall}
+use Rattle.restore.specs.Parts.{Journaled}
 use Rattle.restore.proofs.Plan.{plan-performed}
 use Rattle.restore.proofs.Restored.{asked, asked-low}
 
@@ -34,8 +35,8 @@ pub some-named : (r d : ℕ) → r ≡ d → (r ≡ 0 → ⊥) → ltb 0 d ≡ t
 some-named r d p q = lt-ltb 0 d (omega (arith, q))
 
 -- the rule of a table that passes questions 1 to 4
-pub rule-passed : (memory bodies : ℕ) (t : List ℕ) → storeCheck memory bodies t ≡ 0 → ruleOk (cellsOf memory) (slotsOf (length t)) (cellsOf bodies) t ≡ true
-rule-passed memory bodies t passed = ok-make (cellsOf memory) (slotsOf (length t)) (cellsOf bodies) t (check-rule memory bodies t passed)
+pub rule-passed : (memory bodies : ℕ) (t : List ℕ) → storeCheck memory bodies t ≡ 0 → ruleOk (cellsOf memory) (slotsOf (length t)) (bodiesOf bodies) t ≡ true
+rule-passed memory bodies t passed = ok-make (cellsOf memory) (slotsOf (length t)) (bodiesOf bodies) t (check-rule memory bodies t passed)
 
 pub live-within : (memory bodies : ℕ) (t : List ℕ) → storeCheck memory bodies t ≡ 0 → live t ≤ maxLive
 live-within memory bodies t passed = check-rule memory bodies t passed .live
@@ -51,10 +52,6 @@ module _ (memory bodies : ℕ) (t : List ℕ) (h : ℕ) (passed : restoreCheck m
 
 -- ---- the call
 
-need-steps : (bytes p : ℕ) → bytes + journalSteps p ≡ stepsOf bytes p
-unfolding journalSteps
-need-steps bytes p = refl
-
 module _ (m b t : List ℕ) (h k : ℕ) where
   pub restore-refused : (q : ℕ) → q ≡ restoreCheck (length m) (length b) t h → (q ≡ 0 → ⊥) → leaves (refused q) (buffers m b t) ≡ outcome (restoreCall h (buffers m b t)) k (buffers m b t)
   unfolding restoreCall
@@ -63,13 +60,13 @@ module _ (m b t : List ℕ) (h k : ℕ) where
   -- d is the depth found, and left what remains of the budget for the words
   pub restore-performed : (d nb nw left : ℕ) (m′ t′ : List ℕ) (r : Report) → restoreCheck (length m) (length b) t h ≡ 0 → d ≡ depthNamed t h
       → nb ≡ length (restoreBytes (cellsOf (length m)) d b t) → m′ ≡ stores (take k (restoreBytes (cellsOf (length m)) d b t)) m
-      → left ≡ k - nb → nw ≡ journalSteps (length (restoreWords d t)) → t′ ≡ stores (take left (journal (pairsAt (slotsOf (length t))) (restoreWords d t))) t
+      → left ≡ k - nb → Journaled (slotsOf (length t)) (restoreWords d t) left t nw t′
       → r ≡ ended (nb + nw) 0 k → leaves r (buffers m′ b t′) ≡ outcome (restoreCall h (buffers m b t)) k (buffers m b t)
   unfolding restoreCall
-  restore-performed d nb nw left m′ t′ r passed named nbytes put rest nwords written q =
-      let need : nb + nw ≡ stepsOf (length (restoreBytes (cellsOf (length m)) d b t)) (length (restoreWords d t)) =
-      rw (nbytes, nwords) (need-steps (length (restoreBytes (cellsOf (length m)) d b t)) (length (restoreWords d t))) in
+  restore-performed d nb nw left m′ t′ r passed named nbytes put rest written q =
+      let need : nb + nw ≡ length (restoreBytes (cellsOf (length m)) d b t) + length (journal (pairsAt (slotsOf (length t))) (restoreWords d t)) =
+      rw (nbytes, written .made) in
       let words : t′ ≡ stores (take (k - length (restoreBytes (cellsOf (length m)) d b t)) (journal (pairsAt (slotsOf (length t))) (restoreWords d t))) t =
-      written ∙ rw (rest, nbytes) in
+      written .words ∙ rw (rest, nbytes) in
       rw (passed, ← named)
       (plan-performed (pairsAt (slotsOf (length t))) (nb + nw) 0 k (restoreBytes (cellsOf (length m)) d b t) (restoreWords d t) m b t m′ t′ r need put words q)

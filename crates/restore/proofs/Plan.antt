@@ -1,5 +1,5 @@
 -- Restore's stores, bytes into memory and then words by the journal, under one budget. Assumes nothing.
-use Prim.Native.Nat.{ℕ, _-_}
+use Prim.Native.Nat.{ℕ, _+_, _-_}
 use mathlib.Core.List.{List, [], _∷_, map}
 use mathlib.Core.Path.{_≡_, refl, _∙_}
 use native.Mathlib.Omega.{arith}
@@ -19,13 +19,17 @@ pub steps-inMemory : (ps : List Store) (m b t : List ℕ) → steps (map inMemor
 steps-inMemory [] m b t = refl
 steps-inMemory (p ∷ ps) m b t = steps-inMemory ps (store p m) b t
 
-pub restore-length : (first : ℕ) (bytes ws : List Store) → length (restorePlan first bytes ws) ≡ stepsOf (length bytes) (length ws)
-restore-length first bytes ws =
+plan-length : (first : ℕ) (bytes ws : List Store) → length (restorePlan first bytes ws) ≡ length bytes + length (journal first ws)
+plan-length first bytes ws =
     length-append (map inMemory bytes) (map inTable (journal first ws))
     ∙ rw (length-map bytes inMemory, length-map (journal first ws) inTable)
-    (by-le (length ws) 0
+
+pub restore-length : (first : ℕ) (bytes ws : List Store) → length (restorePlan first bytes ws) ≡ stepsOf (length bytes) (length ws)
+restore-length first bytes ws =
+    plan-length first bytes ws
+    ∙ by-le (length ws) 0
     (λ l. let z : length ws ≡ 0 = omega arith in rw (journal-none first ws z, eq-eqb (length ws) 0 z))
-    (λ l. rw (length-journal first ws l, ne-eqb (length ws) 0 (λ z. omega arith))))
+    (λ l. rw (length-journal first ws l, ne-eqb (length ws) 0 (λ z. omega arith)))
 
 -- memory is whole before any word of the table changes
 pub restore-steps : (first k : ℕ) (bytes ws : List Store) (m b t : List ℕ)
@@ -36,8 +40,8 @@ restore-steps first k bytes ws m b t =
 
 -- from what restore's code did to its outcome
 pub plan-performed : (first need h k : ℕ) (bytes ws : List Store) (m b t m′ t′ : List ℕ) (r : Report)
-    → need ≡ stepsOf (length bytes) (length ws) → m′ ≡ stores (take k bytes) m → t′ ≡ stores (take (k - length bytes) (journal first ws)) t → r ≡ ended need h k
+    → need ≡ length bytes + length (journal first ws) → m′ ≡ stores (take k bytes) m → t′ ≡ stores (take (k - length bytes) (journal first ws)) t → r ≡ ended need h k
     → leaves r (buffers m′ b t′) ≡ outcome (perform (restorePlan first bytes ws) h) k (buffers m b t)
 unfolding outcome
 plan-performed first need h k bytes ws m b t m′ t′ r n p q e =
-    rw (p, q, e, n, ← restore-length first bytes ws, ← restore-steps first k bytes ws m b t)
+    rw (p, q, e, n, ← plan-length first bytes ws, ← restore-steps first k bytes ws m b t)

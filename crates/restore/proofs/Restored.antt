@@ -9,7 +9,7 @@ use borrow.Author.Tests.{eqb-true, eqb-false, ltb-true, lt-ltb, le-ltb}
 use lib.Dec.{ltb, eqb}
 use lib.ListN.{length, take}
 use lib.Seq.{take-nil}
-use Rattle.words.specs.Layout.{cellAt, cellsOf, slotsOf, pairsAt, maxPairs, maxLive}
+use Rattle.words.specs.Layout.{cellAt, cellsOf, bodiesOf, slotsOf, pairsAt, maxPairs, maxLive}
 use Rattle.words.specs.Stores.{Store, stores}
 use Rattle.words.specs.Journal.{namesOk, journal}
 use Rattle.words.proofs.Scan.{by-bool, by-le}
@@ -55,7 +55,7 @@ module _ (memory bodies t : List ℕ) (yes : storeCheck (length memory) (length 
   e = slotsOf (length t)
 
   abbrev b : ℕ
-  b = cellsOf (length bodies)
+  b = bodiesOf (length bodies)
 
   abbrev first : ℕ
   first = pairsAt (slotsOf (length t))
@@ -102,7 +102,7 @@ module _ (memory bodies t : List ℕ) (yes : storeCheck (length memory) (length 
       (λ z. rw (words-some t d (eqb-false (live t) d z)) (end-state m e b t ok long d low high bodies))
 
   -- the new table is right
-  pub new-rule : Rule (cellsOf (length memory)) (slotsOf (length t)) (cellsOf (length bodies)) (stores (restoreWords d t) (take (pairsAt (slotsOf (length t))) t))
+  pub new-rule : Rule (cellsOf (length memory)) (slotsOf (length t)) (bodiesOf (length bodies)) (stores (restoreWords d t) (take (pairsAt (slotsOf (length t))) t))
   new-rule = raw-next memory bodies t yes ws below whole-rule
 
   -- and stands for the state without the domains inside

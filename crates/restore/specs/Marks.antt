@@ -1,15 +1,21 @@
--- The cells that restore puts back, by the marks of all entries.
-use Prim.Native.Nat.{ℕ, _/_, _^_}
+-- The cells that restore puts back, by the marks of all entries: those whose marks have one of the domains that it names.
+use Prim.Native.Nat.{ℕ, _-_, _/_, _^_}
+use mathlib.Core.Bool.{Bool, not}
 use mathlib.Core.List.{List}
 use mathlib.Core.Path.{_≡_}
-use lib.Dec.{leb}
+use lib.Bits.{bitAnd}
+use lib.Dec.{eqb}
 use lib.ListN.{getD}
 use Rattle.search.specs.Search.{heldFrom}
 
--- the mark that has depth d alone: a mark is less exactly if it has neither d nor a deeper one
-abbrev pub leastMark : ℕ → ℕ
-leastMark d = 2 ^ d / 2
+-- the mask of the domains from depth d inwards: as in a mark, depth k is bit k - 1, and it has every depth from d to 8
+abbrev pub inwards : ℕ → ℕ
+inwards d = 256 - 2 ^ d / 2
 
--- the marks that are not less are those of the cells held by depth d or one inside it
-abbrev pub Tells : ℕ → List ℕ → (d limit : ℕ) → (seen : List ℕ) → Type 0
-Tells e t d limit seen = (c : ℕ) → leb limit (getD seen c 0) ≡ heldFrom e t d c
+-- has a mark one of the mask's domains?
+unfoldable pub heldBy : (mask mark : ℕ) → Bool
+heldBy mask mark = not (eqb (bitAnd mark mask) 0)
+
+-- the marks that have one are those of the cells held by depth d or one inside it
+abbrev pub Tells : ℕ → List ℕ → (d mask : ℕ) → (seen : List ℕ) → Type 0
+Tells e t d mask seen = (c : ℕ) → heldBy mask (getD seen c 0) ≡ heldFrom e t d c

@@ -1,9 +1,12 @@
 -- Restore's stores by the parts that the code makes one after another.
-use Prim.Native.Nat.{ℕ, _+_}
+use Prim.Native.Nat.{ℕ, _+_, _*_, _≤_}
 use mathlib.Core.Bool.{cond}
 use mathlib.Core.List.{List, [], _∷_, _++_}
-use Rattle.words.specs.Layout.{liveAt}
-use Rattle.words.specs.Stores.{Store, _≔_, gather}
+use mathlib.Core.Path.{_≡_}
+use lib.ListN.{length, take}
+use Rattle.words.specs.Layout.{liveAt, pairsAt, maxPairs}
+use Rattle.words.specs.Stores.{Store, _≔_, stores, gather}
+use Rattle.words.specs.Journal.{journal}
 use Rattle.words.specs.Cells.{cellPlan}
 use Rattle.table.specs.Changes.{entryChanges}
 use Rattle.search.specs.Search.{heldFrom, bodyFrom}
@@ -24,3 +27,9 @@ headWords d n = (liveAt ≔ d) ∷ clearedHandles d n
 -- and all the words then
 abbrev pub endingWords : (e : ℕ) → List ℕ → (d n : ℕ) → List Store
 endingWords e t d n = headWords d n ++ entryChanges e (restoreChange e t d)
+
+-- the words ws are stored by the journal of a table t of e entries, at most k steps of it, which leaves u; r are its steps uncut
+pub record Journaled (e : ℕ) (ws : List Store) (k : ℕ) (t : List ℕ) (r : ℕ) (u : List ℕ) : Type 0 where
+  pub made : r ≡ length (journal (pairsAt e) ws)
+  pub few : r ≤ 3 * maxPairs e + 2
+  pub words : u ≡ stores (take k (journal (pairsAt e) ws)) t

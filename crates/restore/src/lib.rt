@@ -1,53 +1,58 @@
 // Restore: it puts back each cell held by the named domain or one inside it, with the value of the outermost of these holders, and then ends
 // the domains inside.
 //
-// The questions leave a mark for each cell, with the depths that hold it. Then the cells are walked in their order, past the groups of 64 in
-// which the marks have no depth from the domain's inwards, with one search for the holder of each cell that is put back. Memory is whole
-// before any word of the table changes.
-use search::Holder;
+// The questions leave a mark for each cell, with the domains that hold it. Then the cells are walked in their order, past the groups of 64 in
+// which no mark has a domain from the named one inwards, with one search for the value of each cell that is put back. Memory is whole before
+// any word of the table changes. Where domains end, their entries and the head's words are staged, and one writer stores them.
+use changes::Head;
+use changes::few_bits;
+use changes::few_words;
+use changes::many_bits;
+use changes::many_words;
+use changes::no_head;
+use changes::stage_words;
+use changes::with_bit;
+use changes::with_word;
+use changes::write_staged;
+use search::Held;
 use search::find_domain;
-use search::find_holder;
-use search::find_source;
+use search::find_value;
 use store::Answer;
 use store::answer_of;
 use store::store_check;
 use table::FEW_CELLS;
+use table::FEW_SLOTS;
 use table::few_marks;
+use table::fields::depth_of;
 use table::first_word;
 use table::many_marks;
 use table::no_bodies;
-use table::second_word;
-use table::write_entry;
 use words::copy_bytes;
-use words::finish_journal;
 use words::layout::LIVE_AT;
 use words::layout::cell_at;
 use words::layout::cells_of;
 use words::layout::handle_at;
-use words::layout::pairs_at;
 use words::layout::slots_of;
+use words::least;
 use words::remaining;
 use words::wide;
-use words::write_pair;
 ghost use mathlib.Core.Path.{_≡_};
 ghost use mathlib.Core.Bool.{true, false};
-ghost use Prim.Native.Nat.{ℕ, _+_, _-_, _*_, _≤_, _<_, min};
+ghost use Prim.Native.Nat.{ℕ, _+_, _*_, _≤_, _<_, min};
 ghost use lib.ListN.{length, take, getD};
-ghost use lib.Dec.{leb};
-ghost use Rattle.words.specs.Layout.{cellAt, cellsOf, pairsAt, slotsOf, tableWords, maxSlots, maxLive, maxCells, maxBodies};
+ghost use Rattle.words.specs.Layout.{cellAt, cellsOf, bodiesOf, pairsAt, slotsOf, tableWords, maxSlots, maxLive, maxCells, maxBodies};
 ghost use Rattle.words.specs.Stores.{stores, gather};
-ghost use Rattle.words.specs.Journal.{pairPlans, journal, journalSteps};
 ghost use Rattle.words.specs.Cells.{cellPlan};
-ghost use Rattle.table.specs.Entry.{live};
-ghost use Rattle.table.specs.Changes.{entryStores, entryChanges};
+ghost use Rattle.table.specs.Entry.{live, word1, depthOf};
 ghost use Rattle.table.specs.Marks.{Blank, Marked, AllMarked};
 ghost use Rattle.table.specs.Rule.{ruleOk};
-ghost use Rattle.search.specs.Search.{stepsIn, heldFrom, sourceIn, bodyFrom};
+ghost use Rattle.search.specs.Search.{heldFrom};
+ghost use Rattle.changes.specs.Staged.{Turned, Stages, HeadOk, headStores};
 ghost use Rattle.store.specs.Outcome.{buffers, report, leaves, outcome};
 ghost use Rattle.store.specs.Means.{seen};
 ghost use Rattle.restore.specs.Restore.{restoreCheck, restoreBytes, restoreChange, restoreWords, restoreCall, restoreMeans};
-ghost use Rattle.restore.specs.Marks.{leastMark, Tells};
-ghost use Rattle.restore.specs.Parts.{backPlan, groupPlan, headWords, endingWords};
+ghost use Rattle.restore.specs.Marks.{inwards, heldBy, Tells};
+ghost use Rattle.restore.specs.Parts.{backPlan, groupPlan, headWords, endingWords, Journaled};
 
 // The questions put to restore: 0, or the number of the first no. It leaves the marks of all entries where it says 0.
 fn restore_check(
@@ -75,23 +80,30 @@ fn restore_check(
 
 // ---- memory
 
-// The mark that has this depth alone. The marks that are less have neither this depth nor a deeper one.
-fn least_mark(depth: u32) -> u8
-    requires { ⌜ depth ≤ maxLive ⌝ }
-    ensures { λ r. ⌜ r ≡ leastMark depth ⌝ }
+// The mask of the domains from this depth inwards. It has every depth that there may be; a mark has those of live domains alone.
+fn inwards_of(depth: u32) -> u8
+    requires { ⌜ (1 ≤ depth) × (depth ≤ maxLive) ⌝ }
+    ensures { λ r. ⌜ r ≡ inwards depth ⌝ }
 {
-    ((1u32 << depth) / 2) as u8
+    (256 - (1u32 << depth) / 2) as u8
 }
 
-// Is one of 64 marks not less than this one? All of them are compared, so that the compiler can compare many at once.
-fn any_from(marks: &[u8], limit: u8) -> bool
+// Has a mark one of the mask's domains?
+fn held_by(mask: u8, mark: u8) -> bool
+    ensures { λ r. ⌜ r ≡ heldBy mask mark ⌝ }
+{
+    (mark & mask) != 0
+}
+
+// Has one of 64 marks a domain of the mask? All of them are asked, so that the compiler can ask many at once.
+fn any_held(marks: &[u8], mask: u8) -> bool
     requires { ⌜ length (now marks) ≡ 64 ⌝ }
-    ensures { λ r. ⌜ (r ≡ false → (j : ℕ) → j < 64 → leb limit (getD (now (marks .entry)) j 0) ≡ false) ⌝ }
+    ensures { λ r. ⌜ (r ≡ false → (j : ℕ) → j < 64 → heldBy mask (getD (now (marks .entry)) j 0) ≡ false) ⌝ }
 {
     let mut any = false;
     let mut j: usize = 0;
     while j < 64 {
-        any = any | (limit <= marks[j]);
+        any = any | held_by(mask, marks[j]);
         j += 1;
     }
     any
@@ -99,33 +111,14 @@ fn any_from(marks: &[u8], limit: u8) -> bool
 
 // May a cell of this group be one to be put back? The cells of a group that is not full, which only the last can be, are not asked for all
 // at once.
-fn group_held(seen: &[u8], from: usize, n: usize, limit: u8) -> bool
+fn group_held(seen: &[u8], from: usize, n: usize, mask: u8) -> bool
     requires { ⌜ (n ≤ 64) × (from + n ≤ length (now seen)) ⌝ }
-    ensures { λ r. ⌜ (r ≡ false → (j : ℕ) → j < n → leb limit (getD (now (seen .entry)) (from + j) 0) ≡ false) ⌝ }
+    ensures { λ r. ⌜ (r ≡ false → (j : ℕ) → j < n → heldBy mask (getD (now (seen .entry)) (from + j) 0) ≡ false) ⌝ }
 {
     if n < 64 {
         return true;
     }
-    any_from(&seen[from..from + 64], limit)
-}
-
-// The body behind what the first holder of a held cell, from this depth inwards, holds of it.
-fn find_body(table: &[u32], slots: usize, depth: u32, cell: u32) -> usize
-    requires { ⌜ (slots ≤ maxSlots) × (pairsAt slots ≤ length (now table)) × (live (now table) ≤ maxLive) ⌝ }
-    requires { ⌜ (heldFrom slots (now table) depth cell ≡ true) × (sourceIn slots (now table) (depth + stepsIn slots (now table) depth cell) cell < slots) ⌝ }
-    ensures { λ r. ⌜ r ≡ bodyFrom slots (now (table .entry)) depth cell ⌝ }
-{
-    match find_holder(table, slots, depth, cell) {
-        Holder::Nobody => 0,
-        Holder::At(at, entry) => {
-            if first_word(table, slots, entry) / 67108864 % 2 == 0 {
-                return wide(second_word(table, slots, entry));
-            }
-            // the holder's own entry has no body where it is via parent: the copy further out has
-            let source = find_source(table, slots, at - 1, cell);
-            wide(second_word(table, slots, source))
-        }
-    }
+    any_held(&seen[from..from + 64], mask)
 }
 
 // Puts 64 bytes back into a cell of memory, at most budget of them. It is lent the bytes that the holder holds, and no table.
@@ -149,7 +142,7 @@ fn put_held(
     budget: usize,
 ) -> usize
     requires { ⌜ (slots ≤ maxSlots) × (pairsAt slots ≤ length (now table)) × (1 ≤ depth) × (cell < maxCells) × (cellAt cell + 64 ≤ length (now memory)) ⌝ }
-    requires { ⌜ (ruleOk (cellsOf (length (now memory))) slots (cellsOf (length (now bodies))) (now table) ≡ true) × (held ≡ heldFrom slots (now table) depth cell) ⌝ }
+    requires { ⌜ (ruleOk (cellsOf (length (now memory))) slots (bodiesOf (length (now bodies))) (now table) ≡ true) × (held ≡ heldFrom slots (now table) depth cell) ⌝ }
     ensures made { λ r. ⌜ r ≡ length (backPlan slots (now (table .entry)) depth (now (bodies .entry)) cell) ⌝ }
     ensures few { λ r. ⌜ r ≤ 64 ⌝ }
     ensures bytes { λ _. ⌜ now (memory .exit) ≡ stores (take budget (backPlan slots (now (table .entry)) depth (now (bodies .entry)) cell)) (now (memory .entry)) ⌝ }
@@ -157,9 +150,14 @@ fn put_held(
     if !held {
         return 0;
     }
-    let at = cell_at(find_body(table, slots, depth, cell as u32));
-    put_cell(&bodies[at..at + 64], memory, cell, budget);
-    64
+    match find_value(table, slots, depth, cell as u32) {
+        Held::Nowhere => 0,
+        Held::InBody(_, body) => {
+            let at = cell_at(wide(body));
+            put_cell(&bodies[at..at + 64], memory, cell, budget);
+            64
+        }
+    }
 }
 
 // Puts back the held ones of n cells from `from` on, in their order, and gives how many bytes that is uncut.
@@ -170,18 +168,18 @@ fn put_group(
     slots: usize,
     depth: u32,
     seen: &[u8],
-    limit: u8,
+    mask: u8,
     from: usize,
     n: usize,
     budget: usize,
 ) -> usize
     requires { ⌜ (slots ≤ maxSlots) × (pairsAt slots ≤ length (now table)) × (1 ≤ depth) × (cellsOf (length (now memory)) ≤ maxCells) × (n ≤ 64) × (from + n ≤ length (now seen)) × (from + n ≤ cellsOf (length (now memory))) ⌝ }
-    requires { ⌜ (ruleOk (cellsOf (length (now memory))) slots (cellsOf (length (now bodies))) (now table) ≡ true) × Tells slots (now table) depth limit (now seen) ⌝ }
+    requires { ⌜ (ruleOk (cellsOf (length (now memory))) slots (bodiesOf (length (now bodies))) (now table) ≡ true) × Tells slots (now table) depth mask (now seen) ⌝ }
     ensures made { λ r. ⌜ r ≡ length (groupPlan slots (now (table .entry)) depth (now (bodies .entry)) from n) ⌝ }
     ensures few { λ r. ⌜ r ≤ 64 * n ⌝ }
     ensures bytes { λ _. ⌜ now (memory .exit) ≡ stores (take budget (groupPlan slots (now (table .entry)) depth (now (bodies .entry)) from n)) (now (memory .entry)) ⌝ }
 {
-    if !group_held(seen, from, n, limit) {
+    if !group_held(seen, from, n, mask) {
         return 0;
     }
     let mut bytes: usize = 0;
@@ -195,21 +193,12 @@ fn put_group(
             slots,
             depth,
             cell,
-            limit <= seen[cell],
+            held_by(mask, seen[cell]),
             remaining(budget, bytes),
         );
         j += 1;
     }
     bytes
-}
-
-// How many cells of memory the group that begins at this cell has: 64, or fewer at the end.
-fn group_size(from: usize, cells: usize) -> usize
-    requires { ⌜ from ≤ cells ⌝ }
-    ensures { λ r. ⌜ r ≡ min 64 (cells - from) ⌝ }
-{
-    let n = cells - from;
-    if n < 64 { n } else { 64 }
 }
 
 // Puts back every held cell, in the order of the cells, and gives how many bytes that is uncut.
@@ -220,11 +209,11 @@ fn put_back(
     slots: usize,
     depth: u32,
     seen: &[u8],
-    limit: u8,
+    mask: u8,
     budget: usize,
 ) -> usize
     requires { ⌜ (slots ≤ maxSlots) × (pairsAt slots ≤ length (now table)) × (1 ≤ depth) × (cellsOf (length (now memory)) ≤ maxCells) × (cellsOf (length (now memory)) ≤ length (now seen)) ⌝ }
-    requires { ⌜ (ruleOk (cellsOf (length (now memory))) slots (cellsOf (length (now bodies))) (now table) ≡ true) × Tells slots (now table) depth limit (now seen) ⌝ }
+    requires { ⌜ (ruleOk (cellsOf (length (now memory))) slots (bodiesOf (length (now bodies))) (now table) ≡ true) × Tells slots (now table) depth mask (now seen) ⌝ }
     ensures made { λ r. ⌜ r ≡ length (gather (cellsOf (length (now (memory .entry)))) (backPlan slots (now (table .entry)) depth (now (bodies .entry)))) ⌝ }
     ensures few { λ r. ⌜ r ≤ 64 * maxCells ⌝ }
     ensures bytes { λ _. ⌜ now (memory .exit) ≡ stores (take budget (gather (cellsOf (length (now (memory .entry)))) (backPlan slots (now (table .entry)) depth (now (bodies .entry))))) (now (memory .entry)) ⌝ }
@@ -233,7 +222,7 @@ fn put_back(
     let mut bytes: usize = 0;
     let mut cell: usize = 0;
     while cell < cells {
-        let n = group_size(cell, cells);
+        let n = least(64, cells - cell);
         bytes += put_group(
             memory,
             bodies,
@@ -241,7 +230,7 @@ fn put_back(
             slots,
             depth,
             seen,
-            limit,
+            mask,
             cell,
             n,
             remaining(budget, bytes),
@@ -261,107 +250,158 @@ fn restore_memory(
     budget: usize,
 ) -> usize
     requires { ⌜ (slotsOf (length (now table)) ≤ maxSlots) × (pairsAt (slotsOf (length (now table))) ≤ length (now table)) × (1 ≤ depth) × (depth ≤ maxLive) × (cellsOf (length (now memory)) ≤ maxCells) × (cellsOf (length (now memory)) ≤ length (now seen)) ⌝ }
-    requires { ⌜ (ruleOk (cellsOf (length (now memory))) (slotsOf (length (now table))) (cellsOf (length (now bodies))) (now table) ≡ true) × Marked (slotsOf (length (now table))) (now table) (slotsOf (length (now table))) (now seen) ⌝ }
+    requires { ⌜ (ruleOk (cellsOf (length (now memory))) (slotsOf (length (now table))) (bodiesOf (length (now bodies))) (now table) ≡ true) × Marked (slotsOf (length (now table))) (now table) (slotsOf (length (now table))) (now seen) ⌝ }
     ensures made { λ r. ⌜ r ≡ length (restoreBytes (cellsOf (length (now (memory .entry)))) depth (now (bodies .entry)) (now (table .entry))) ⌝ }
     ensures few { λ r. ⌜ r ≤ 64 * maxCells ⌝ }
     ensures bytes { λ _. ⌜ now (memory .exit) ≡ stores (take budget (restoreBytes (cellsOf (length (now (memory .entry)))) depth (now (bodies .entry)) (now (table .entry)))) (now (memory .entry)) ⌝ }
 {
     let slots = slots_of(table.len());
-    let limit = least_mark(depth);
-    put_back(memory, bodies, table, slots, depth, seen, limit, budget)
+    let mask = inwards_of(depth);
+    put_back(memory, bodies, table, slots, depth, seen, mask, budget)
 }
 
 // ---- the table
 
-// The pairs of the head: the number of live domains, and the handles that leave.
-fn restore_head(table: &mut [u32], first: usize, depth: u32, live: u32, budget: usize)
-    requires { ⌜ (depth ≤ live) × (live ≤ maxLive) × (first + 2 * (1 + (live - depth)) ≤ length (now table)) ⌝ }
-    ensures { λ _. ⌜ now (table .exit) ≡ stores (take budget (pairPlans first (headWords depth live))) (now (table .entry)) ⌝ }
+// The words of the head where domains end: the number of live domains, and the handles that leave.
+fn stage_head(depth: u32, live: u32) -> Head
+    requires { ⌜ (depth ≤ live) × (live ≤ maxLive) ⌝ }
+    ensures right { λ r. ⌜ HeadOk r ⌝ }
+    ensures stored { λ r. ⌜ headStores r ≡ headWords depth live ⌝ }
 {
-    write_pair(table, first, LIVE_AT as u32, depth, budget);
+    let mut head = with_word(no_head(), LIVE_AT as u32, depth);
     let mut k = depth;
     while k < live {
-        let n = 1 + wide(k - depth);
-        write_pair(
-            table,
-            first + 2 * n,
-            handle_at(wide(k)) as u32,
-            0,
-            remaining(budget, 2 * n),
-        );
+        head = with_word(head, handle_at(wide(k)) as u32, 0);
+        k += 1;
+    }
+    head
+}
+
+// Is an entry of these slots deeper than this depth? All of them are asked, so that the compiler can ask several at once.
+fn any_deeper(table: &[u32], slots: usize, depth: u32, from: usize, end: usize) -> bool
+    requires { ⌜ (from ≤ end) × (end ≤ slots) × (slots ≤ maxSlots) × (length (now table) ≡ tableWords slots) ⌝ }
+    ensures { λ r. ⌜ (r ≡ false → (i : ℕ) → from ≤ i → i < end → depthOf (word1 slots (now (table .entry)) i) ≤ depth) ⌝ }
+{
+    let mut any = false;
+    let mut i = from;
+    while i < end {
+        any = any | (depth < depth_of(first_word(table, slots, i)));
+        i += 1;
+    }
+    any
+}
+
+// One slot of the pass: an entry deeper than this depth is freed. Says whether it is.
+fn stage_turn(table: &[u32], slots: usize, depth: u32, words: &mut [u32], i: usize) -> bool
+    requires { ⌜ (i < slots) × (slots ≤ maxSlots) × (length (now table) ≡ tableWords slots) × (2 * slots ≤ length (now words)) ⌝ }
+    ensures { λ r. ⌜ Turned (restoreChange slots (now (table .entry)) depth i) i (now (words .entry)) (now (words .exit)) r ⌝ }
+{
+    if depth_of(first_word(table, slots, i)) <= depth {
+        return false;
+    }
+    stage_words(words, i, 0, 0);
+    true
+}
+
+// 64 slots, or fewer at the end. Most groups have no entry that is freed, and are passed over.
+fn stage_group(
+    table: &[u32],
+    slots: usize,
+    depth: u32,
+    words: &mut [u32],
+    changed: &mut [u64],
+    k: usize,
+)
+    requires { ⌜ (64 * k < slots) × (slots ≤ maxSlots) × (length (now table) ≡ tableWords slots) × (2 * slots ≤ length (now words)) × (slots ≤ 64 * length (now changed)) ⌝ }
+    requires { ⌜ Stages (64 * k) (restoreChange slots (now table) depth) (now words) (now changed) ⌝ }
+    ensures { λ _. ⌜ Stages (min slots (64 * k + 64)) (restoreChange slots (now (table .entry)) depth) (now (words .exit)) (now (changed .exit)) ⌝ }
+{
+    let end = least(slots, 64 * k + 64);
+    if !any_deeper(table, slots, depth, 64 * k, end) {
+        return;
+    }
+    let mut bits: u64 = 0;
+    let mut i = 64 * k;
+    while i < end {
+        bits = with_bit(bits, i % 64, stage_turn(table, slots, depth, words, i));
+        i += 1;
+    }
+    changed[k] = bits;
+}
+
+// All entries that are freed.
+fn stage_freed(table: &[u32], slots: usize, depth: u32, words: &mut [u32], changed: &mut [u64])
+    requires { ⌜ (slots ≤ maxSlots) × (length (now table) ≡ tableWords slots) × (2 * slots ≤ length (now words)) × (slots ≤ 64 * length (now changed)) ⌝ }
+    requires { ⌜ Stages 0 (restoreChange slots (now table) depth) (now words) (now changed) ⌝ }
+    ensures { λ _. ⌜ Stages slots (restoreChange slots (now (table .entry)) depth) (now (words .exit)) (now (changed .exit)) ⌝ }
+{
+    let mut k: usize = 0;
+    while 64 * k < slots {
+        stage_group(table, slots, depth, words, changed, k);
         k += 1;
     }
 }
 
-// Writes the pairs of entry i at index `at` if it is deeper than this depth: it is freed. Gives their number.
-fn free_entry(
+// Ends the domains inside this depth, with arrays lent for it in which nothing is staged yet. Gives the steps uncut.
+fn end_domains(
     table: &mut [u32],
     slots: usize,
-    at: usize,
-    i: usize,
     depth: u32,
+    live: u32,
+    words: &mut [u32],
+    changed: &mut [u64],
     budget: usize,
 ) -> usize
-    requires { ⌜ (i < slots) × (slots ≤ maxSlots) × (pairsAt slots ≤ length (now table)) × (at + 3 < length (now table)) ⌝ }
-    ensures made { λ r. ⌜ r ≡ length (entryStores slots i (restoreChange slots (now (table .entry)) depth i)) ⌝ }
-    ensures words { λ _. ⌜ now (table .exit) ≡ stores (take budget (pairPlans at (entryStores slots i (restoreChange slots (now (table .entry)) depth i)))) (now (table .entry)) ⌝ }
+    requires { ⌜ (slots ≤ maxSlots) × (length (now table) ≡ tableWords slots) × (depth ≤ live) × (live ≤ maxLive) × (2 * slots ≤ length (now words)) × (slots ≤ 64 * length (now changed)) ⌝ }
+    requires { ⌜ Stages 0 (restoreChange slots (now table) depth) (now words) (now changed) ⌝ }
+    ensures { λ r. ⌜ Journaled slots (endingWords slots (now (table .entry)) depth live) budget (now (table .entry)) r (now (table .exit)) ⌝ }
 {
-    if first_word(table, slots, i) / 268435456 <= depth {
-        return 0;
-    }
-    write_entry(table, slots, at, i, 0, 0, budget);
-    2
+    stage_freed(table, slots, depth, words, changed);
+    write_staged(
+        table,
+        slots,
+        stage_head(depth, live),
+        words,
+        changed,
+        budget,
+    )
 }
 
-// Writes the pairs of the entries that are freed from index `at` on, and gives their number.
-fn free_entries(table: &mut [u32], slots: usize, at: usize, depth: u32, budget: usize) -> usize
-    requires { ⌜ (slots ≤ maxSlots) × (pairsAt slots ≤ at) × (at + 4 * slots ≤ length (now table)) ⌝ }
-    ensures made { λ r. ⌜ r ≡ length (entryChanges slots (restoreChange slots (now (table .entry)) depth)) ⌝ }
-    ensures words { λ _. ⌜ now (table .exit) ≡ stores (take budget (pairPlans at (entryChanges slots (restoreChange slots (now (table .entry)) depth)))) (now (table .entry)) ⌝ }
+// The same with arrays for a table of few slots.
+fn end_few(table: &mut [u32], slots: usize, depth: u32, live: u32, budget: usize) -> usize
+    requires { ⌜ (slots ≤ 256) × (length (now table) ≡ tableWords slots) × (depth ≤ live) × (live ≤ maxLive) ⌝ }
+    ensures { λ r. ⌜ Journaled slots (endingWords slots (now (table .entry)) depth live) budget (now (table .entry)) r (now (table .exit)) ⌝ }
 {
-    let mut n: usize = 0;
-    let mut i: usize = 0;
-    while i < slots {
-        let next = at + 2 * n;
-        n += free_entry(table, slots, next, i, depth, remaining(budget, 2 * n));
-        i += 1;
-    }
-    n
+    let mut words = few_words();
+    let mut changed = few_bits();
+    end_domains(table, slots, depth, live, &mut words, &mut changed, budget)
 }
 
-// The pairs of a restore that ends domains, and their number.
-fn restore_pairs(table: &mut [u32], slots: usize, depth: u32, live: u32, budget: usize) -> usize
-    requires { ⌜ (slots ≤ maxSlots) × (length (now table) ≡ tableWords slots) × (depth < live) × (live ≤ maxLive) ⌝ }
-    ensures made { λ r. ⌜ r ≡ length (endingWords slots (now (table .entry)) depth live) ⌝ }
-    ensures words { λ _. ⌜ now (table .exit) ≡ stores (take budget (pairPlans (pairsAt slots) (endingWords slots (now (table .entry)) depth live))) (now (table .entry)) ⌝ }
+// The same with arrays for any table.
+fn end_many(table: &mut [u32], slots: usize, depth: u32, live: u32, budget: usize) -> usize
+    requires { ⌜ (slots ≤ maxSlots) × (length (now table) ≡ tableWords slots) × (depth ≤ live) × (live ≤ maxLive) ⌝ }
+    ensures { λ r. ⌜ Journaled slots (endingWords slots (now (table .entry)) depth live) budget (now (table .entry)) r (now (table .exit)) ⌝ }
 {
-    let first = pairs_at(slots);
-    restore_head(table, first, depth, live, budget);
-    let heads = 1 + wide(live - depth);
-    heads
-        + free_entries(
-            table,
-            slots,
-            first + 2 * heads,
-            depth,
-            remaining(budget, 2 * heads),
-        )
+    let mut words = many_words();
+    let mut changed = many_bits();
+    end_domains(table, slots, depth, live, &mut words, &mut changed, budget)
 }
 
-// Restore's part on the table, and its steps uncut: none where no domain ends.
+// Restore's part on the table, and its steps uncut. Where no domain ends, which is the usual case, nothing is staged, so the arrays for it are
+// made here and not beside the marks: that case clears none.
 fn restore_words(table: &mut [u32], depth: u32, budget: usize) -> usize
-    requires { ⌜ (slotsOf (length (now table)) ≤ maxSlots) × (length (now table) ≡ tableWords (slotsOf (length (now table)))) × (1 ≤ depth) × (depth ≤ live (now table)) × (live (now table) ≤ maxLive) ⌝ }
-    ensures made { λ r. ⌜ r ≡ journalSteps (length (restoreWords depth (now (table .entry)))) ⌝ }
-    ensures few { λ r. ⌜ r ≤ 6 * maxSlots + 26 ⌝ }
-    ensures words { λ _. ⌜ now (table .exit) ≡ stores (take budget (journal (pairsAt (slotsOf (length (now (table .entry))))) (restoreWords depth (now (table .entry))))) (now (table .entry)) ⌝ }
+    requires { ⌜ (slotsOf (length (now table)) ≤ maxSlots) × (length (now table) ≡ tableWords (slotsOf (length (now table)))) × (depth ≤ live (now table)) × (live (now table) ≤ maxLive) ⌝ }
+    ensures { λ r. ⌜ Journaled (slotsOf (length (now (table .entry)))) (restoreWords depth (now (table .entry))) budget (now (table .entry)) r (now (table .exit)) ⌝ }
 {
     let live = table[LIVE_AT];
     if live == depth {
         return 0;
     }
     let slots = slots_of(table.len());
-    let p = restore_pairs(table, slots, depth, live, budget);
-    finish_journal(table, pairs_at(slots), p, budget)
+    if slots <= FEW_SLOTS {
+        return end_few(table, slots, depth, live, budget);
+    }
+    end_many(table, slots, depth, live, budget)
 }
 
 // ---- the call

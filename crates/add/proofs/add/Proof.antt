@@ -6,6 +6,12 @@ use borrow.Author.Needs.{needs}
 use Rattle.add.proofs.add.Statement.{statement}
 use Rattle.add.proofs.add.Tie as tie
 
+wide-requires : tie.Need-wide-requires
+wide-requires c κs = search needs
+
+wide-requires-2 : tie.Need-wide-requires-2
+wide-requires-2 c κs = search needs
+
 cells-of-requires : tie.Need-cells-of-requires
 cells-of-requires c κs = search needs
 
@@ -19,7 +25,10 @@ same-length-2 : tie.Need-same-length-2
 same-length-2 c = search needs
 
 returns : tie.Need-returns
-returns c = (c .before .before .before .before .add-few .ensures, ap seenOf (c .before .before .before .before .add-few .ensures) ∙ add-means (c .before .before .before .before .before .before .before .before .before .before .before .before .args .handle) (c .before .before .before .before .before .before .before .before .before .before .before .before .args .first) (c .before .before .before .before .before .before .before .before .before .before .before .before .args .count) (c .before .before .before .before .before .before .before .before .before .before .before .before .args .kind) (c .before .before .before .before .before .before .before .before .before .before .before .before .args .label) _ _)
+returns c =
+    let a = c .before .before .before .before .before .before .before .before .before .before .before .before .before .before .args in
+    let r = rw (c .before .before .before .before .before .before .before .before .before .before .wide .ensures, c .before .before .before .before .before .before .before .before .before .wide2 .ensures) at (c .before .before .before .before .add-few .ensures) in
+    (r, ap seenOf r ∙ add-means (a .handle) (a .first) (a .count) (a .kind) (a .label) _ _)
 
 add-many-requires : tie.Need-add-many-requires
 add-many-requires c κs = search needs
@@ -31,12 +40,17 @@ same-length-4 : tie.Need-same-length-4
 same-length-4 c = search needs
 
 returns-2 : tie.Need-returns-2
-returns-2 c = (c .before .before .before .before .add-many .ensures, ap seenOf (c .before .before .before .before .add-many .ensures) ∙ add-means (c .before .before .before .before .before .before .before .before .before .before .before .before .args .handle) (c .before .before .before .before .before .before .before .before .before .before .before .before .args .first) (c .before .before .before .before .before .before .before .before .before .before .before .before .args .count) (c .before .before .before .before .before .before .before .before .before .before .before .before .args .kind) (c .before .before .before .before .before .before .before .before .before .before .before .before .args .label) _ _)
+returns-2 c =
+    let a = c .before .before .before .before .before .before .before .before .before .before .before .before .before .before .args in
+    let r = rw (c .before .before .before .before .before .before .before .before .before .before .wide .ensures, c .before .before .before .before .before .before .before .before .before .wide2 .ensures) at (c .before .before .before .before .add-many .ensures) in
+    (r, ap seenOf r ∙ add-means (a .handle) (a .first) (a .count) (a .kind) (a .label) _ _)
 
 pub add-spec : {M : Type 1} → statement M
 add-spec =
     tie.close
     (tie.spec
+    wide-requires
+    wide-requires-2
     cells-of-requires
     add-few-requires
     same-length

@@ -1,10 +1,11 @@
 -- `add::add_check` meets its contract. Assumes nothing.
-use Prim.Native.Nat.{_+_, _-_, _≤_}
+use Prim.Native.Nat.{_-_}
 use mathlib.Core.Path.{sym, _∙_}
 use native.Mathlib.Omega.{arith}
 use lib.ListN.{length}
 use Rattle.words.specs.Layout.{cellsOf}
-use Rattle.add.proofs.Asking.{lengths, table-right, range-facts, check-store, check-range, check-rest}
+use Rattle.store.proofs.Raw.{raw-rule}
+use Rattle.add.proofs.Asking.{lengths, range-facts, check-store, check-range, check-rest}
 use borrow.Author.Needs.{needs}
 use Rattle.add.proofs.add_check.Statement.{statement}
 use Rattle.add.proofs.add_check.Tie as tie
@@ -31,7 +32,7 @@ range-check-requires c κs =
     let a = c .before .before .before .before .before .before .before .before .before .before .before .before .before .before .args in
     let good = sym (c .before .before .before .before .before .before .store-check .ensures .0) ∙ c .before .if1 .left in
     let f = lengths (a .memory .now) (a .bodies .now) (a .table .now) good in
-    (omega (arith, f .table-exact), table-right (a .memory .now) (a .bodies .now) (a .table .now) good .live)
+    (omega (arith, f .table-exact), raw-rule (a .memory .now) (a .bodies .now) (a .table .now) good .live)
 
 same-length-3 : tie.Need-same-length-3
 same-length-3 c = search needs
@@ -45,21 +46,14 @@ returns-2 c =
     let here = rw (c .before .before .cells-of .ensures) at (c .before .range-check .ensures) in
     (check-range (a .memory .now) (a .bodies .now) (a .table .now) _ _ _ _ _ (c .before .range-check .result) (sym (c .before .before .before .before .before .before .before .before .store-check .ensures .0) ∙ c .before .before .before .if1 .left) here (c .if2 .taken), λ z. absurd (c .if2 .taken z))
 
-wide-requires : tie.Need-wide-requires
-wide-requires c κs = search needs
-
-wide-requires-2 : tie.Need-wide-requires-2
-wide-requires-2 c κs = search needs
-
 held-check-requires : tie.Need-held-check-requires
 held-check-requires c κs =
-    let a = c .before .before .before .before .before .before .before .before .before .before .before .before .before .before .before .before .before .before .before .args in
-    let good = sym (c .before .before .before .before .before .before .before .before .before .before .before .store-check .ensures .0) ∙ c .before .before .before .before .before .before .if1 .left in
+    let a = c .before .before .before .before .before .before .before .before .before .before .before .before .before .before .before .before .before .args in
+    let good = sym (c .before .before .before .before .before .before .before .before .before .store-check .ensures .0) ∙ c .before .before .before .before .if1 .left in
     let f = lengths (a .memory .now) (a .bodies .now) (a .table .now) good in
-    let r = range-facts (a .table .now) (cellsOf (length (a .memory .now))) (a .handle) (a .base) (a .len) (a .kind) (a .label) (sym (rw (c .before .before .before .before .before .cells-of .ensures) at (c .before .before .before .before .range-check .ensures)) ∙ c .before .before .before .if2 .left) in
-    let within : c .before .wide .result + c .wide2 .result ≤ cellsOf (length (a .memory .now)) = omega (arith, r .range, c .before .wide .ensures, c .wide2 .ensures) in (
-      (good, r .inner, within),
-      (omega (arith, within, f .cells-high, c .before .before .before .before .before .before .before .before .before .before .before .before .before .before .before .before .before .before .before .pre .0 .0, c .before .before .before .before .before .before .before .before .before .before .before .store-check .kept .1 .1 .1 .0), c .before .before .before .before .before .before .before .before .before .before .before .store-check .ensures .1 (c .before .before .before .before .before .before .if1 .left) .cells),
+    let r = range-facts (a .table .now) (cellsOf (length (a .memory .now))) (a .handle) (a .range .first) (a .range .count) (a .range .kind) (a .range .label) (sym (rw (c .before .before .before .cells-of .ensures) at (c .before .before .range-check .ensures)) ∙ c .before .if2 .left) in (
+      (good, r .inner, r .range),
+      (omega (arith, r .range, f .cells-high, c .before .before .before .before .before .before .before .before .before .before .before .before .before .before .before .before .before .pre .0 .0, c .before .before .before .before .before .before .before .before .before .store-check .kept .1 .1 .1 .0), c .before .before .before .before .before .before .before .before .before .store-check .ensures .1 (c .before .before .before .before .if1 .left) .cells),
     )
 
 same-length-5 : tie.Need-same-length-5
@@ -70,10 +64,9 @@ same-length-6 c = search needs
 
 returns-3 : tie.Need-returns-3
 returns-3 c =
-    let a = c .before .before .before .before .before .before .before .before .before .before .before .before .before .before .before .before .before .before .before .before .args in (
-      check-rest (a .memory .now) (a .bodies .now) (a .table .now) (a .handle) (a .base) (a .len) (a .kind) (a .label) (c .held-check .result) (sym (c .before .before .before .before .before .before .before .before .before .before .before .before .store-check .ensures .0) ∙ c .before .before .before .before .before .before .before .if1 .left) (sym (rw (c .before .before .before .before .before .before .cells-of .ensures) at (c .before .before .before .before .before .range-check .ensures)) ∙ c .before .before .before .before .if2 .left)
-          (rw (c .before .before .wide .ensures, c .before .wide2 .ensures) at (c .held-check .ensures)),
-      λ z. c .before .before .before .before .before .before .before .before .before .before .before .before .store-check .ensures .1 (c .before .before .before .before .before .before .before .if1 .left),
+    let a = c .before .before .before .before .before .before .before .before .before .before .before .before .before .before .before .before .before .before .args in (
+      check-rest (a .memory .now) (a .bodies .now) (a .table .now) (a .handle) (a .range .first) (a .range .count) (a .range .kind) (a .range .label) (c .held-check .result) (sym (c .before .before .before .before .before .before .before .before .before .before .store-check .ensures .0) ∙ c .before .before .before .before .before .if1 .left) (sym (rw (c .before .before .before .before .cells-of .ensures) at (c .before .before .before .range-check .ensures)) ∙ c .before .before .if2 .left) (c .held-check .ensures),
+      λ z. c .before .before .before .before .before .before .before .before .before .before .store-check .ensures .1 (c .before .before .before .before .before .if1 .left),
     )
 
 pub add-check-spec : {M : Type 1} → statement M
@@ -89,8 +82,6 @@ add-check-spec =
     same-length-3
     same-length-4
     returns-2
-    wide-requires
-    wide-requires-2
     held-check-requires
     same-length-5
     same-length-6

@@ -1,6 +1,5 @@
 -- `add::add_many` meets its contract. Assumes nothing.
 use mathlib.Core.Path.{sym, ap, subst, _∙_}
-use mathlib.Core.List.{List}
 use native.Mathlib.Omega.{arith}
 use lib.ListN.{length}
 use Rattle.table.specs.Marks.{Blank}
@@ -23,8 +22,10 @@ slice-aggregate-add-marked-2 c = search needs
 
 add-marked-requires : tie.Need-add-marked-requires
 add-marked-requires c κs =
-    let long = ap length (c .before .before .before .before .before .many-marks .ensures) ∙ zeros-length 65536 in
-    ((omega (arith, long), ap length (c .before .before .before .before .no-bodies .ensures) ∙ zeros-length 4096), (subst Blank (sym (c .before .before .before .before .before .many-marks .ensures)) (blank-zeros 65536), subst Blank (sym (c .before .before .before .before .no-bodies .ensures)) (blank-zeros 4096)))
+    let long = ap length (c .before .before .before .before .before .many-marks .ensures) ∙ zeros-length 65536 in (
+      (omega (arith, long), ap length (c .before .before .before .before .no-bodies .ensures) ∙ zeros-length 4096),
+      (subst Blank (sym (c .before .before .before .before .before .many-marks .ensures)) (blank-zeros 65536), subst Blank (sym (c .before .before .before .before .no-bodies .ensures)) (blank-zeros 4096)),
+    )
 
 same-length : tie.Need-same-length
 same-length c = search needs

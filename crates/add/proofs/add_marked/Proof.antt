@@ -1,5 +1,4 @@
 -- `add::add_marked` meets its contract. Assumes nothing.
-use Prim.Native.Nat.{_-_}
 use mathlib.Core.Path.{sym, _∙_}
 use native.Mathlib.Omega.{arith}
 use Rattle.add.proofs.Asking.{lengths, add-ready}
@@ -9,7 +8,7 @@ use Rattle.add.proofs.add_marked.Statement.{statement}
 use Rattle.add.proofs.add_marked.Tie as tie
 
 add-check-requires : tie.Need-add-check-requires
-add-check-requires c κs = search needs
+add-check-requires c κs = c .before .before .before .before .before .before .before .before .before .pre
 
 same-length : tie.Need-same-length
 same-length c = search needs
@@ -26,24 +25,18 @@ same-length-4 c = search needs
 returns : tie.Need-returns
 returns c =
     let a = c .before .before .before .before .before .before .before .before .before .before .before .before .before .before .before .args in
-    add-refused (a .memory .now) (a .bodies .now) (a .table .now) (a .handle) (a .first) (a .count) (a .kind) (a .label) (a .budget) _ (c .before .before .before .before .before .add-check .ensures .0) (c .if1 .taken)
-
-wide-requires : tie.Need-wide-requires
-wide-requires c κs = search needs
-
-wide-requires-2 : tie.Need-wide-requires-2
-wide-requires-2 c κs = search needs
+    add-refused (a .memory .now) (a .bodies .now) (a .table .now) (a .handle) (a .range .first) (a .range .count) (a .range .kind) (a .range .label) (a .budget) _ (c .before .before .before .before .before .add-check .ensures .0) (c .if1 .taken)
 
 add-stores-requires : tie.Need-add-stores-requires
 add-stores-requires c κs =
-    let a = c .before .before .before .before .before .before .before .before .before .before .before .before .before .before .before .before .before .before .before .before .before .args in
-    let ready = add-ready (a .memory .now) (a .bodies .now) (a .table .now) (a .handle) (a .first) (a .count) (a .kind) (a .label) (sym (c .before .before .before .before .before .before .before .before .before .before .before .add-check .ensures .0) ∙ c .before .before .before .before .before .before .if1 .left) in
+    let a = c .before .before .before .before .before .before .before .before .before .before .before .before .before .before .before .before .before .before .before .args in
+    let ready = add-ready (a .memory .now) (a .bodies .now) (a .table .now) (a .handle) (a .range .first) (a .range .count) (a .range .kind) (a .range .label) (sym (c .before .before .before .before .before .before .before .before .before .add-check .ensures .0) ∙ c .before .before .before .before .if1 .left) in
     let f = lengths (a .memory .now) (a .bodies .now) (a .table .now) (ready .store) in (
-      rw (c .before .wide .ensures, c .wide2 .ensures) ready,
+      ready,
       (
-        omega (arith, ready .range, c .before .wide .ensures, c .wide2 .ensures, f .cells-high, c .before .before .before .before .before .before .before .before .before .before .before .before .before .before .before .before .before .before .before .before .before .pre .0 .0, c .before .before .before .before .before .before .before .before .before .before .before .add-check .kept .1 .1 .1 .0),
-        c .before .before .before .before .before .before .before .before .before .before .before .add-check .kept .1 .1 .1 .1 .0 ∙ c .before .before .before .before .before .before .before .before .before .before .before .before .before .before .before .before .before .before .before .before .before .pre .0 .1,
-        c .before .before .before .before .before .before .before .before .before .before .before .add-check .ensures .1 (c .before .before .before .before .before .before .if1 .left),
+        omega (arith, ready .range, f .cells-high, c .before .before .before .before .before .before .before .before .before .before .before .before .before .before .before .before .before .before .before .pre .0 .0, c .before .before .before .before .before .before .before .before .before .add-check .kept .1 .1 .1 .0),
+        c .before .before .before .before .before .before .before .before .before .add-check .kept .1 .1 .1 .1 .0 ∙ c .before .before .before .before .before .before .before .before .before .before .before .before .before .before .before .before .before .before .before .pre .0 .1,
+        c .before .before .before .before .before .before .before .before .before .add-check .ensures .1 (c .before .before .before .before .if1 .left),
       ),
     )
 
@@ -64,9 +57,9 @@ same-length-8 c = search needs
 
 returns-2 : tie.Need-returns-2
 returns-2 c =
-    let a = c .before .before .before .before .before .before .before .before .before .before .before .before .before .before .before .before .before .before .before .before .before .before .before .before .before .before .before .args in
-    let s = rw (c .before .before .before .before .before .before .before .wide .ensures, c .before .before .before .before .before .before .wide2 .ensures) at (c .before .before .before .before .before .add-stores .ensures) in
-    add-performed (a .memory .now) (a .bodies .now) (a .table .now) (a .handle) (a .first) (a .count) (a .kind) (a .label) (a .budget) (c .before .before .before .before .before .add-stores .result) _ _ _ (sym (c .before .before .before .before .before .before .before .before .before .before .before .before .before .before .before .before .before .add-check .ensures .0) ∙ c .before .before .before .before .before .before .before .before .before .before .before .before .if1 .left) (s .0) (s .1 .0) (s .1 .1) (c .answer-of .ensures)
+    let a = c .before .before .before .before .before .before .before .before .before .before .before .before .before .before .before .before .before .before .before .before .before .before .before .before .before .args in
+    let s = c .before .before .before .before .before .add-stores .ensures in
+    add-performed (a .memory .now) (a .bodies .now) (a .table .now) (a .handle) (a .range .first) (a .range .count) (a .range .kind) (a .range .label) (a .budget) (c .before .before .before .before .before .add-stores .result) _ _ _ (sym (c .before .before .before .before .before .before .before .before .before .before .before .before .before .before .before .add-check .ensures .0) ∙ c .before .before .before .before .before .before .before .before .before .before .if1 .left) (s .0) (s .1 .0) (s .1 .1) (c .answer-of .ensures)
 
 pub add-marked-spec : {M : Type 1} → statement M
 add-marked-spec =
@@ -78,8 +71,6 @@ add-marked-spec =
     same-length-3
     same-length-4
     returns
-    wide-requires
-    wide-requires-2
     add-stores-requires
     answer-of-requires
     same-length-5

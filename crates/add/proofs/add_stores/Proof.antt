@@ -1,12 +1,11 @@
 -- `add::add_stores` meets its contract. Assumes nothing.
-use Prim.Native.Nat.{_-_}
-use mathlib.Core.Path.{_≡_}
 use native.Mathlib.Omega.{arith}
 use lib.ListN.{length}
-use Rattle.words.specs.Layout.{cellsOf}
-use Rattle.add.proofs.Asking.{lengths, table-right}
+use Rattle.words.specs.Layout.{bodiesOf}
+use Rattle.store.proofs.Raw.{raw-rule}
+use Rattle.add.proofs.Asking.{lengths}
 use Rattle.add.proofs.Walks.{start-none}
-use Rattle.add.proofs.Storing.{few, bodies-enough, stored-bytes, stored-words, stored-steps}
+use Rattle.add.proofs.Storing.{few, bodies-enough, stageable, stored-bytes, stored-words, stored-steps}
 use borrow.Author.Needs.{needs}
 use Rattle.add.proofs.add_stores.Statement.{statement}
 use Rattle.add.proofs.add_stores.Tie as tie
@@ -25,11 +24,11 @@ copy-new-requires c κs =
     let a = c .before .before .before .before .before .before .before .before .before .args in
     let p = c .before .before .before .before .before .before .before .before .before .pre in
     let f = lengths (a .memory .now) (a .bodies .now) (a .table .now) (p .0 .store) in
-    let small = few (a .memory .now) (a .bodies .now) (a .table .now) (a .base) (a .len) (a .kind) (a .label) (p .0) (a .held .now) (a .used .now) (p .1 .2) in (
-      (p .1 .0, table-right (a .memory .now) (a .bodies .now) (a .table .now) (p .0 .store) .live, small, omega (arith, p .0 .range, f .memory-exact), omega (arith, p .1 .1, f .bodies-high)),
+    let small = few (a .memory .now) (a .bodies .now) (a .table .now) (a .range) (p .0) (a .held .now) (a .used .now) (p .1 .2) in (
+      (p .1 .0, raw-rule (a .memory .now) (a .bodies .now) (a .table .now) (p .0 .store) .live, small, omega (arith, p .0 .range, f .memory-exact), omega (arith, p .1 .1, f .bodies-high)),
       (
-        bodies-enough (a .memory .now) (a .bodies .now) (a .table .now) (a .base) (a .len) (a .kind) (a .label) (p .0) (a .held .now) (a .used .now) (p .1 .2),
-        start-none (a .used .now) (cellsOf (length (a .bodies .now))) (a .kind) (c .before .take-body .result) (rw (c .before .before .cells-of .ensures) at (c .before .take-body .ensures)),
+        bodies-enough (a .memory .now) (a .bodies .now) (a .table .now) (a .range) (p .0) (a .held .now) (a .used .now) (p .1 .2),
+        start-none (a .used .now) (bodiesOf (length (a .bodies .now))) (a .range .kind) (c .before .take-body .result) (rw (c .before .before .cells-of .ensures) at (c .before .take-body .ensures)),
       ),
     )
 
@@ -40,31 +39,16 @@ add-words-requires : tie.Need-add-words-requires
 add-words-requires c κs =
     let a = c .before .before .before .before .before .before .before .before .before .before .before .before .before .before .args in
     let p = c .before .before .before .before .before .before .before .before .before .before .before .before .before .before .pre in
-    let f = lengths (a .memory .now) (a .bodies .now) (a .table .now) (p .0 .store) in
-    let small = few (a .memory .now) (a .bodies .now) (a .table .now) (a .base) (a .len) (a .kind) (a .label) (p .0) (a .held .now) (a .used .now) (p .1 .2) in
-    let many : c .before .before .before .before .before .before .before .cells-of .result ≡ cellsOf (length (a .bodies .now)) = c .before .before .before .before .before .before .before .cells-of .ensures in (
-      (
-        f .table-exact,
-        f .slots-high,
-        p .1 .0,
-        small,
-        table-right (a .memory .now) (a .bodies .now) (a .table .now) (p .0 .store) .live,
-        p .0 .kind,
-        p .0 .label,
-        omega (arith, many, f .bodies-high),
-        omega (arith, many, p .1 .1, f .bodies-high),
-      ),
-      (
-        (
-          rw many (bodies-enough (a .memory .now) (a .bodies .now) (a .table .now) (a .base) (a .len) (a .kind) (a .label) (p .0) (a .held .now) (a .used .now) (p .1 .2)),
-          start-none (a .used .now) (c .before .before .before .before .before .before .before .cells-of .result) (a .kind) (c .before .before .before .before .before .before .take-body .result) (c .before .before .before .before .before .before .take-body .ensures),
-        ),
-        (p .0 .inner, p .1 .2 .cells),
-      ),
-    )
+    let none = start-none (a .used .now) _ (a .range .kind) _ (rw (c .before .before .before .before .before .before .before .cells-of .ensures) at (c .before .before .before .before .before .before .take-body .ensures)) in
+    rw (c .before .before .before .before .before .before .before .cells-of .ensures)
+    (stageable (a .memory .now) (a .bodies .now) (a .table .now) (a .range) (p .0) (a .held .now) (a .used .now) (p .1 .2) (p .1 .0) (p .1 .1) _ none)
 
 add-result : tie.Need-add-result
-add-result c = search needs
+add-result c =
+    let a = c .before .before .before .before .before .before .before .before .before .before .before .before .before .before .before .before .before .args in
+    let p = c .before .before .before .before .before .before .before .before .before .before .before .before .before .before .before .before .before .pre in
+    let f = lengths (a .memory .now) (a .bodies .now) (a .table .now) (p .0 .store) in
+    omega (arith, c .before .before .before .before .before .before .before .copy-new .ensures .1 .1, p .0 .range, f .cells-high, c .before .before .add-words .ensures .few, f .slots-high)
 
 same-length : tie.Need-same-length
 same-length c = search needs
@@ -76,11 +60,12 @@ returns : tie.Need-returns
 returns c =
     let a = c .before .before .before .before .before .before .before .before .before .before .before .before .before .before .before .before .before .args in
     let p = c .before .before .before .before .before .before .before .before .before .before .before .before .before .before .before .before .before .pre in
-    let many : c .before .before .before .before .before .before .before .before .before .before .cells-of .result ≡ cellsOf (length (a .bodies .now)) = c .before .before .before .before .before .before .before .before .before .before .cells-of .ensures in (
-      stored-steps (a .memory .now) (a .bodies .now) (a .table .now) (a .base) (a .len) (a .kind) (a .label) (p .0) (a .held .now) (a .used .now) (p .1 .2) _ _ _ many (c .before .before .before .before .before .before .before .copy-new .ensures .1 .0) (c .before .before .add-words .ensures .0 .0),
+    let made = c .before .before .before .before .before .before .before .copy-new .ensures .1 .0 in
+    let journaled = rw (c .before .before .before .before .before .before .before .before .before .before .cells-of .ensures) at (c .before .before .add-words .ensures) in (
+      stored-steps (a .memory .now) (a .bodies .now) (a .table .now) (a .range) (p .0) (a .held .now) (a .used .now) (p .1 .2) _ made _ _ _ journaled,
       (
-        stored-bytes (a .memory .now) (a .bodies .now) (a .table .now) (a .base) (a .len) (a .kind) (a .label) (p .0) (a .held .now) (a .used .now) (p .1 .2) (a .budget) _ (c .before .before .before .before .before .before .before .copy-new .ensures .0),
-        stored-words (a .memory .now) (a .bodies .now) (a .table .now) (a .base) (a .len) (a .kind) (a .label) (p .0) (a .held .now) (a .used .now) (p .1 .2) _ _ (a .budget) _ _ many (c .before .before .before .before .before .before .before .copy-new .ensures .1 .0) (c .before .before .before .remaining .ensures) (c .before .before .add-words .ensures .1),
+        stored-bytes (a .memory .now) (a .bodies .now) (a .table .now) (a .range) (p .0) (a .held .now) (a .used .now) (p .1 .2) (a .budget) _ (c .before .before .before .before .before .before .before .copy-new .ensures .0),
+        stored-words (a .memory .now) (a .bodies .now) (a .table .now) (a .range) (p .0) (a .held .now) (a .used .now) (p .1 .2) _ made _ _ _ journaled (a .budget) (c .before .before .before .before .remaining .ensures),
       ),
     )
 

@@ -15,7 +15,7 @@ sub-same-value : tie.Need-sub-same-value
 sub-same-value c = search needs
 
 same-value-requires : tie.Need-same-value-requires
-same-value-requires c κs = (c .before .before .before .before .before .before .pre .0 .0, c .before .before .before .before .before .before .pre .0 .1, c .before .before .before .before .before .before .pre .0 .2, c .before .before .before .before .before .before .pre .0 .3, c .before .before .before .before .before .before .pre .1 (sym (c .before .is-new .ensures) ∙ not-false _ (c .if1 .left)))
+same-value-requires c κs = ((search needs, search needs, search needs, search needs), (search needs, search needs, c .before .before .before .before .before .before .pre .1 .1 (sym (c .before .is-new .ensures) ∙ not-false _ (c .if1 .left))))
 
 returns-2 : tie.Need-returns-2
 returns-2 c = c .same-value .ensures ∙ rw (sym (c .before .before .is-new .ensures) ∙ not-false _ (c .before .if1 .left))

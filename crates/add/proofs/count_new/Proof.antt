@@ -10,10 +10,10 @@ use Rattle.add.proofs.count_new.Statement.{statement}
 use Rattle.add.proofs.count_new.Tie as tie
 
 abbrev Inv-loop : tie.InvT-loop
-Inv-loop held depth base len new₀ j₀ new j = (j ≤ len) × (new ≤ j) × (new ≡ count j (unheld held depth base))
+Inv-loop held depth range new₀ j₀ new j = (j ≤ range .count) × (new ≤ j) × (new ≡ count j (unheld held depth (range .first)))
 
 abbrev μ-loop : tie.MeasureT-loop
-μ-loop held depth base len new₀ j₀ new j = len - j
+μ-loop held depth range new₀ j₀ new j = range .count - j
 
 loop-holds : tie.Need-loop-holds Inv-loop μ-loop
 unfolding count
@@ -26,7 +26,7 @@ new-here-requires : tie.Need-new-here-requires Inv-loop μ-loop
 new-here-requires c κs = search needs
 
 add-new : tie.Need-add-new Inv-loop μ-loop
-add-new c = omega (arith, c .before .before .loop .inv .1, most-one (c .new-here .result) (unheld (c .before .before .before .before .args .held .now) (c .before .before .before .before .args .depth) (c .before .before .before .before .args .base) (c .before .before .loop .j)) (c .new-here .ensures))
+add-new c = omega (arith, c .before .before .before .before .loop .inv .1, most-one (c .new-here .result) (unheld (c .before .before .before .before .before .before .args .held .now) (c .before .before .before .before .before .before .args .depth) (c .before .before .before .before .before .before .args .range .first) (c .before .before .before .before .loop .j)) (c .new-here .ensures))
 
 add-j : tie.Need-add-j Inv-loop μ-loop
 add-j c = search needs
@@ -35,12 +35,12 @@ loop-less : tie.Need-loop-less Inv-loop μ-loop
 loop-less c = search needs
 
 loop-again : tie.Need-loop-again Inv-loop μ-loop
-loop-again c = (search needs, omega (arith, c .before .before .loop .inv .1, most-one (c .new-here .result) (unheld (c .before .before .before .before .args .held .now) (c .before .before .before .before .args .depth) (c .before .before .before .before .args .base) (c .before .before .loop .j)) (c .new-here .ensures)), rw (← (c .new-here .ensures)) at (count-add (c .before .before .loop .j) (c .before .before .loop .new) (unheld (c .before .before .before .before .args .held .now) (c .before .before .before .before .args .depth) (c .before .before .before .before .args .base)) (c .before .before .loop .inv .2)))
+loop-again c = (search needs, omega (arith, c .before .before .before .before .loop .inv .1, most-one (c .new-here .result) (unheld (c .before .before .before .before .before .before .args .held .now) (c .before .before .before .before .before .before .args .depth) (c .before .before .before .before .before .before .args .range .first) (c .before .before .before .before .loop .j)) (c .new-here .ensures)), rw (← (c .new-here .ensures)) at (count-add (c .before .before .before .before .loop .j) (c .before .before .before .before .loop .new) (unheld (c .before .before .before .before .before .before .args .held .now) (c .before .before .before .before .before .before .args .depth) (c .before .before .before .before .before .before .args .range .first)) (c .before .before .before .before .loop .inv .2)))
 
 returns : tie.Need-returns Inv-loop μ-loop
 returns c =
-    let last : c .before .loop .j ≡ c .before .before .before .args .len = omega arith in
-    c .before .loop .inv .2 ∙ ap (λ (k : ℕ). count k (unheld (c .before .before .before .args .held .now) (c .before .before .before .args .depth) (c .before .before .before .args .base))) last
+    let last : c .before .before .loop .j ≡ c .before .before .before .before .args .range .count = omega arith in
+    c .before .before .loop .inv .2 ∙ ap (λ (k : ℕ). count k (unheld (c .before .before .before .before .args .held .now) (c .before .before .before .before .args .depth) (c .before .before .before .before .args .range .first))) last
 
 pub count-new-spec : {M : Type 1} → statement M
 count-new-spec =

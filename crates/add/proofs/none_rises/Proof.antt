@@ -11,7 +11,7 @@ count-new-requires : tie.Need-count-new-requires
 count-new-requires c κs = search needs
 
 returns : tie.Need-returns
-returns c = ap (λ (n : ℕ). eqb (c .before .before .args .label) 0 || eqb n (c .before .before .args .len)) (c .count-new .ensures)
+returns c = ap (λ (n : ℕ). eqb (c .before .before .before .before .args .range .label) 0 || eqb n (c .before .before .before .before .args .range .count)) (c .before .count-new .ensures)
 
 pub none-rises-spec : {M : Type 1} → statement M
 none-rises-spec = tie.close (tie.spec count-new-requires returns)

@@ -1,5 +1,5 @@
 -- `add::take_body` meets its contract. Assumes nothing.
-use mathlib.Core.Path.{_≡_, refl, sym, ap, _∙_}
+use mathlib.Core.Path.{_∙_}
 use borrow.Author.Tests.{eq-eqb, ne-eqb}
 use Rattle.add.proofs.take_body.Statement.{statement}
 use Rattle.add.proofs.take_body.Tie as tie

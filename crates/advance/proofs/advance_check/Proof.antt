@@ -5,14 +5,14 @@ use native.Mathlib.Omega.{arith}
 use borrow.Author.Tests.{eq-eqb, ne-eqb, lt-ltb, le-ltb}
 use borrow.Author.Needs.{needs}
 use lib.ListN.{length}
-use Rattle.words.specs.Layout.{cellsOf, slotsOf}
+use Rattle.words.specs.Layout.{cellsOf, bodiesOf, slotsOf}
 use Rattle.table.specs.Entry.{live}
 use Rattle.search.specs.Domain.{depthNamed}
 use Rattle.store.proofs.Checks.{ask-go, ask-stop, orElse-go, orElse-stop, shape-facts, store-shape}
 use Rattle.store.proofs.Raw.{check-rule}
 use Rattle.advance.specs.Notes.{entriesCheck}
-use Rattle.advance.proofs.Noting.{entries-cells, cells-fit}
-use Rattle.advance.proofs.Advanced.{check-is}
+use Rattle.advance.proofs.Noting.{entries-cells, cells-fit, turned-advances}
+use Rattle.advance.proofs.Advanced.{check-is, advance-room}
 use Rattle.advance.proofs.advance_check.Statement.{statement}
 use Rattle.advance.proofs.advance_check.Tie as tie
 
@@ -83,7 +83,7 @@ entries-check-requires c κs =
     let low : 1 ≤ live (a .table .now) = omega (arith, d, c .before .before .before .before .before .before .before .find-domain .ensures, c .before .before .before .before .if3 .left) in
     let q = c .before .before .before .slots-of .ensures in
     let s = c .before .before .before .before .before .before .before .before .before .before .before .before .before .store-check .kept .1 .1 .1 .0 in
-    let fit = cells-fit (cellsOf (a .memory)) (slotsOf (length (a .table .now))) (cellsOf (a .bodies)) (a .table .now) ok (length (a .seen .now)) (f .cells-low) (omega (arith, f .cells-high, c .before .before .before .before .before .before .before .before .before .before .before .before .before .before .before .before .before .before .before .before .pre .0 .0)) in (
+    let fit = cells-fit (cellsOf (a .memory)) (slotsOf (length (a .table .now))) (bodiesOf (a .bodies)) (a .table .now) ok (length (a .seen .now)) (f .cells-low) (omega (arith, f .cells-high, c .before .before .before .before .before .before .before .before .before .before .before .before .before .before .before .before .before .before .before .before .pre .0 .0)) in (
       (omega (arith, q), omega (arith, q), low, ok .live, rw q (c .before .before .before .before .before .before .before .before .before .before .before .before .before .store-check .ensures .1 (c .before .before .before .before .before .before .before .before .if1 .left) .cells)),
       ((λ i l. rw s (fit i (omega (arith, q, l)))), omega (arith, s, c .before .before .before .before .before .before .before .before .before .before .before .before .before .before .before .before .before .before .before .before .pre .1), c .before .before .before .before .before .before .before .before .before .before .before .before .before .before .before .before .before .before .before .before .pre .1 .2),
     )
@@ -102,12 +102,22 @@ returns-4 c =
     let a = c .before .before .before .before .before .before .before .before .before .before .before .before .before .before .before .before .before .before .before .before .before .before .before .args in
     let d : 0 < depthNamed (a .table .now) (a .handle) = omega (arith, c .before .before .before .before .before .before .before .before .before .before .find-domain .ensures, c .before .before .before .before .before .before .before .before .before .if2 .left) in
     let low : 1 ≤ live (a .table .now) = omega (arith, d, c .before .before .before .before .before .before .before .before .before .before .find-domain .ensures, c .before .before .before .before .before .before .before .if3 .left) in
-    let pass = sym (c .before .before .before .before .before .before .before .before .before .before .before .before .before .before .before .before .store-check .ensures .0) ∙ c .before .before .before .before .before .before .before .before .before .before .before .if1 .left in (
-      c .before .before .entries-check .ensures .0 ∙ (λ i. entriesCheck (c .before .before .before .before .before .before .slots-of .ensures i) (c .before .before .before .before .before .cells-of .ensures i) (a .table .now))
-          ∙ entries-cells (cellsOf (a .memory)) (slotsOf (length (a .table .now))) (cellsOf (a .bodies)) (a .table .now) (check-rule (a .memory) (a .bodies) (a .table .now) pass) low
-          ∙ sym (check-is _ _ _ _ ∙ orElse-go _ _ pass ∙ ask-go _ 5 _ (lt-ltb 0 _ d)
-          ∙ ask-go _ 6 _ (eq-eqb _ _ (sym (c .before .before .before .before .before .before .before .before .before .before .find-domain .ensures) ∙ c .before .before .before .before .before .before .before .if3 .left))),
-      λ _. (c .before .before .before .before .before .before .before .before .before .before .before .before .before .before .before .before .store-check .ensures .1 (c .before .before .before .before .before .before .before .before .before .before .before .if1 .left), rw (c .before .before .before .before .before .before .slots-of .ensures) at (c .before .before .entries-check .ensures .1)),
+    let pass = sym (c .before .before .before .before .before .before .before .before .before .before .before .before .before .before .before .before .store-check .ensures .0) ∙ c .before .before .before .before .before .before .before .before .before .before .before .if1 .left in
+    let ok = check-rule (a .memory) (a .bodies) (a .table .now) pass in
+    let no = c .before .before .entries-check .ensures .0 ∙ (λ i. entriesCheck (c .before .before .before .before .before .before .slots-of .ensures i) (c .before .before .before .before .before .cells-of .ensures i) (a .table .now))
+    ∙ entries-cells (cellsOf (a .memory)) (slotsOf (length (a .table .now))) (bodiesOf (a .bodies)) (a .table .now) ok low
+    ∙ sym (check-is _ _ _ _ ∙ orElse-go _ _ pass ∙ ask-go _ 5 _ (lt-ltb 0 _ d)
+    ∙ ask-go _ 6 _ (eq-eqb _ _ (sym (c .before .before .before .before .before .before .before .before .before .before .find-domain .ensures) ∙ c .before .before .before .before .before .before .before .if3 .left))) in (
+      no,
+      λ z. (
+        record {
+          stands = pass;
+          lives = low;
+          room = advance-room (a .memory) (a .bodies) (a .table .now) (a .handle) (sym no ∙ z);
+          marks = c .before .before .before .before .before .before .before .before .before .before .before .before .before .before .before .before .store-check .ensures .1 (c .before .before .before .before .before .before .before .before .before .before .before .if1 .left) .copies;
+        },
+        record { each = turned-advances (cellsOf (a .memory)) (slotsOf (length (a .table .now))) (bodiesOf (a .bodies)) (a .table .now) ok _ (rw (c .before .before .before .before .before .before .slots-of .ensures) at (c .before .before .entries-check .ensures .1)) },
+      ),
     )
 
 pub advance-check-spec : {M : Type 1} → statement M

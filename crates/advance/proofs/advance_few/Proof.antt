@@ -1,9 +1,8 @@
 -- `advance::advance_few` meets its contract. Assumes nothing.
-use mathlib.Core.Path.{_≡_, ap, _∙_}
-use native.Mathlib.Omega.{arith}
+use mathlib.Core.Path.{sym, _∙_}
 use borrow.Author.Needs.{needs}
-use lib.ListN.{length}
-use Rattle.table.proofs.Marks.{zeros-length, blank-zeros}
+use Rattle.table.proofs.Marks.{blank-zeros}
+use Rattle.advance.proofs.Advanced.{advance-refused, advance-goes}
 use Rattle.advance.proofs.advance_few.Statement.{statement}
 use Rattle.advance.proofs.advance_few.Tie as tie
 
@@ -16,39 +15,53 @@ no-bodies-requires c κs = search needs
 few-groups-requires : tie.Need-few-groups-requires
 few-groups-requires c κs = search needs
 
-few-places-requires : tie.Need-few-places-requires
-few-places-requires c κs = search needs
+slice-aggregate-advance-check : tie.Need-slice-aggregate-advance-check
+slice-aggregate-advance-check c = search needs
 
-slice-aggregate-advance-marked : tie.Need-slice-aggregate-advance-marked
-slice-aggregate-advance-marked c = search needs
+slice-aggregate-advance-check-2 : tie.Need-slice-aggregate-advance-check-2
+slice-aggregate-advance-check-2 c = search needs
 
-slice-aggregate-advance-marked-2 : tie.Need-slice-aggregate-advance-marked-2
-slice-aggregate-advance-marked-2 c = search needs
+slice-aggregate-advance-check-3 : tie.Need-slice-aggregate-advance-check-3
+slice-aggregate-advance-check-3 c = search needs
 
-slice-aggregate-advance-marked-3 : tie.Need-slice-aggregate-advance-marked-3
-slice-aggregate-advance-marked-3 c = search needs
-
-slice-aggregate-advance-marked-4 : tie.Need-slice-aggregate-advance-marked-4
-slice-aggregate-advance-marked-4 c = search needs
-
-advance-marked-requires : tie.Need-advance-marked-requires
-advance-marked-requires c κs =
-    let s : length (c .before .before .before .before .before .before .before .before .before .few-marks .result) ≡ 1024 = ap length (c .before .before .before .before .before .before .before .before .before .few-marks .ensures) ∙ zeros-length 1024 in
-    let u : length (c .before .before .before .before .before .before .before .before .no-bodies .result) ≡ 4096 = ap length (c .before .before .before .before .before .before .before .before .no-bodies .ensures) ∙ zeros-length 4096 in
-    let g : length (c .before .before .before .before .before .before .before .few-groups .result) ≡ 16 = ap length (c .before .before .before .before .before .before .before .few-groups .ensures) ∙ zeros-length 16 in
-    let p : length (c .before .before .before .before .before .before .few-places .result) ≡ 1024 = ap length (c .before .before .before .before .before .before .few-places .ensures) ∙ zeros-length 1024 in (
-      (omega (arith, s, c .before .before .before .before .before .before .before .before .before .before .before .before .before .pre), u, omega (arith, s, g), omega (arith, s), omega (arith, p, c .before .before .before .before .before .before .before .before .before .before .before .before .before .pre)),
-      (rw (c .before .before .before .before .before .before .before .before .before .few-marks .ensures) (blank-zeros 1024), rw (c .before .before .before .before .before .before .before .before .no-bodies .ensures) (blank-zeros 4096), rw (c .before .before .before .before .before .before .before .few-groups .ensures) (blank-zeros 16)),
-    )
+advance-check-requires : tie.Need-advance-check-requires
+advance-check-requires c κs = ((search needs, search needs), (rw (c .before .before .before .before .before .before .few-marks .ensures) (blank-zeros 1024), rw (c .before .before .before .before .before .no-bodies .ensures) (blank-zeros 4096), rw (c .before .before .before .before .few-groups .ensures) (blank-zeros 16), search needs))
 
 same-length : tie.Need-same-length
 same-length c = search needs
 
+returns : tie.Need-returns
+returns c =
+    let a = c .before .before .before .before .before .before .before .before .before .before .before .before .before .before .before .args in
+    advance-refused (a .memory .now) (a .bodies .now) (a .table .now) (a .handle) (a .budget) _ (c .before .before .before .before .advance-check .ensures .0) (c .if1 .taken)
+
+few-ends-requires : tie.Need-few-ends-requires
+few-ends-requires c κs = search needs
+
+slice-aggregate-advance-stored : tie.Need-slice-aggregate-advance-stored
+slice-aggregate-advance-stored c = search needs
+
+slice-aggregate-advance-stored-2 : tie.Need-slice-aggregate-advance-stored-2
+slice-aggregate-advance-stored-2 c = search needs
+
+slice-aggregate-advance-stored-3 : tie.Need-slice-aggregate-advance-stored-3
+slice-aggregate-advance-stored-3 c = search needs
+
+advance-stored-requires : tie.Need-advance-stored-requires
+advance-stored-requires c κs =
+    let ready = c .before .before .before .before .before .before .before .before .before .before .advance-check .ensures .1 (c .before .before .before .before .before .before .if1 .left) in
+    ((ready .0, search needs), ((ready .1, search needs), search needs))
+
 same-length-2 : tie.Need-same-length-2
 same-length-2 c = search needs
 
-returns : tie.Need-returns
-returns c = search needs
+same-length-3 : tie.Need-same-length-3
+same-length-3 c = search needs
+
+returns-2 : tie.Need-returns-2
+returns-2 c =
+    let a = c .before .before .before .before .before .before .before .before .before .before .before .before .before .before .before .before .before .before .before .before .before .before .before .before .before .before .before .args in
+    c .before .before .before .before .before .advance-stored .ensures ∙ advance-goes (a .memory .now) (a .bodies .now) (a .table .now) (a .handle) (a .budget) (sym (c .before .before .before .before .before .before .before .before .before .before .before .before .before .before .before .before .advance-check .ensures .0) ∙ c .before .before .before .before .before .before .before .before .before .before .before .before .if1 .left)
 
 pub advance-few-spec : {M : Type 1} → statement M
 advance-few-spec =
@@ -57,12 +70,17 @@ advance-few-spec =
     few-marks-requires
     no-bodies-requires
     few-groups-requires
-    few-places-requires
-    slice-aggregate-advance-marked
-    slice-aggregate-advance-marked-2
-    slice-aggregate-advance-marked-3
-    slice-aggregate-advance-marked-4
-    advance-marked-requires
+    slice-aggregate-advance-check
+    slice-aggregate-advance-check-2
+    slice-aggregate-advance-check-3
+    advance-check-requires
     same-length
+    returns
+    few-ends-requires
+    slice-aggregate-advance-stored
+    slice-aggregate-advance-stored-2
+    slice-aggregate-advance-stored-3
+    advance-stored-requires
     same-length-2
-    returns)
+    same-length-3
+    returns-2)

@@ -1,9 +1,9 @@
 -- `advance::advance_many` meets its contract. Assumes nothing.
-use mathlib.Core.Path.{_≡_, ap, _∙_}
-use native.Mathlib.Omega.{arith}
+use mathlib.Core.Path.{sym, _∙_}
 use borrow.Author.Needs.{needs}
-use lib.ListN.{length}
-use Rattle.table.proofs.Marks.{zeros-length, blank-zeros}
+use Rattle.table.proofs.Marks.{blank-zeros}
+use Rattle.advance.proofs.Advanced.{advance-refused, advance-goes}
+use Rattle.advance.proofs.Performing.{ready-sizes}
 use Rattle.advance.proofs.advance_many.Statement.{statement}
 use Rattle.advance.proofs.advance_many.Tie as tie
 
@@ -16,39 +16,55 @@ no-bodies-requires c κs = search needs
 many-groups-requires : tie.Need-many-groups-requires
 many-groups-requires c κs = search needs
 
-many-places-requires : tie.Need-many-places-requires
-many-places-requires c κs = search needs
+slice-aggregate-advance-check : tie.Need-slice-aggregate-advance-check
+slice-aggregate-advance-check c = search needs
 
-slice-aggregate-advance-marked : tie.Need-slice-aggregate-advance-marked
-slice-aggregate-advance-marked c = search needs
+slice-aggregate-advance-check-2 : tie.Need-slice-aggregate-advance-check-2
+slice-aggregate-advance-check-2 c = search needs
 
-slice-aggregate-advance-marked-2 : tie.Need-slice-aggregate-advance-marked-2
-slice-aggregate-advance-marked-2 c = search needs
+slice-aggregate-advance-check-3 : tie.Need-slice-aggregate-advance-check-3
+slice-aggregate-advance-check-3 c = search needs
 
-slice-aggregate-advance-marked-3 : tie.Need-slice-aggregate-advance-marked-3
-slice-aggregate-advance-marked-3 c = search needs
-
-slice-aggregate-advance-marked-4 : tie.Need-slice-aggregate-advance-marked-4
-slice-aggregate-advance-marked-4 c = search needs
-
-advance-marked-requires : tie.Need-advance-marked-requires
-advance-marked-requires c κs =
-    let s : length (c .before .before .before .before .before .before .before .before .before .many-marks .result) ≡ 65536 = ap length (c .before .before .before .before .before .before .before .before .before .many-marks .ensures) ∙ zeros-length 65536 in
-    let u : length (c .before .before .before .before .before .before .before .before .no-bodies .result) ≡ 4096 = ap length (c .before .before .before .before .before .before .before .before .no-bodies .ensures) ∙ zeros-length 4096 in
-    let g : length (c .before .before .before .before .before .before .before .many-groups .result) ≡ 1024 = ap length (c .before .before .before .before .before .before .before .many-groups .ensures) ∙ zeros-length 1024 in
-    let p : length (c .before .before .before .before .before .before .many-places .result) ≡ 4096 = ap length (c .before .before .before .before .before .before .many-places .ensures) ∙ zeros-length 4096 in (
-      (omega (arith, s), u, omega (arith, s, g), omega (arith, s), omega (arith, p)),
-      (rw (c .before .before .before .before .before .before .before .before .before .many-marks .ensures) (blank-zeros 65536), rw (c .before .before .before .before .before .before .before .before .no-bodies .ensures) (blank-zeros 4096), rw (c .before .before .before .before .before .before .before .many-groups .ensures) (blank-zeros 1024)),
-    )
+advance-check-requires : tie.Need-advance-check-requires
+advance-check-requires c κs = ((search needs, search needs), (rw (c .before .before .before .before .before .before .many-marks .ensures) (blank-zeros 65536), rw (c .before .before .before .before .before .no-bodies .ensures) (blank-zeros 4096), rw (c .before .before .before .before .many-groups .ensures) (blank-zeros 1024), search needs))
 
 same-length : tie.Need-same-length
 same-length c = search needs
 
+returns : tie.Need-returns
+returns c =
+    let a = c .before .before .before .before .before .before .before .before .before .before .before .before .before .before .before .args in
+    advance-refused (a .memory .now) (a .bodies .now) (a .table .now) (a .handle) (a .budget) _ (c .before .before .before .before .advance-check .ensures .0) (c .if1 .taken)
+
+many-ends-requires : tie.Need-many-ends-requires
+many-ends-requires c κs = search needs
+
+slice-aggregate-advance-stored : tie.Need-slice-aggregate-advance-stored
+slice-aggregate-advance-stored c = search needs
+
+slice-aggregate-advance-stored-2 : tie.Need-slice-aggregate-advance-stored-2
+slice-aggregate-advance-stored-2 c = search needs
+
+slice-aggregate-advance-stored-3 : tie.Need-slice-aggregate-advance-stored-3
+slice-aggregate-advance-stored-3 c = search needs
+
+advance-stored-requires : tie.Need-advance-stored-requires
+advance-stored-requires c κs =
+    let a = c .before .before .before .before .before .before .before .before .before .before .before .before .before .before .before .before .before .before .before .before .before .args in
+    let ready = c .before .before .before .before .before .before .before .before .before .before .advance-check .ensures .1 (c .before .before .before .before .before .before .if1 .left) in
+    let f = ready-sizes (a .memory .now) (a .bodies .now) (a .table .now) _ (ready .0) in
+    ((ready .0, search needs), ((ready .1, search needs), search needs))
+
 same-length-2 : tie.Need-same-length-2
 same-length-2 c = search needs
 
-returns : tie.Need-returns
-returns c = search needs
+same-length-3 : tie.Need-same-length-3
+same-length-3 c = search needs
+
+returns-2 : tie.Need-returns-2
+returns-2 c =
+    let a = c .before .before .before .before .before .before .before .before .before .before .before .before .before .before .before .before .before .before .before .before .before .before .before .before .before .before .before .args in
+    c .before .before .before .before .before .advance-stored .ensures ∙ advance-goes (a .memory .now) (a .bodies .now) (a .table .now) (a .handle) (a .budget) (sym (c .before .before .before .before .before .before .before .before .before .before .before .before .before .before .before .before .advance-check .ensures .0) ∙ c .before .before .before .before .before .before .before .before .before .before .before .before .if1 .left)
 
 pub advance-many-spec : {M : Type 1} → statement M
 advance-many-spec =
@@ -57,12 +73,17 @@ advance-many-spec =
     many-marks-requires
     no-bodies-requires
     many-groups-requires
-    many-places-requires
-    slice-aggregate-advance-marked
-    slice-aggregate-advance-marked-2
-    slice-aggregate-advance-marked-3
-    slice-aggregate-advance-marked-4
-    advance-marked-requires
+    slice-aggregate-advance-check
+    slice-aggregate-advance-check-2
+    slice-aggregate-advance-check-3
+    advance-check-requires
     same-length
+    returns
+    many-ends-requires
+    slice-aggregate-advance-stored
+    slice-aggregate-advance-stored-2
+    slice-aggregate-advance-stored-3
+    advance-stored-requires
     same-length-2
-    returns)
+    same-length-3
+    returns-2)

@@ -1,13 +1,11 @@
 -- `advance::bodies_wanted` meets its contract. The loop's invariant: the two numbers count the copies and the entries that advance among those passed. Assumes nothing.
 use Prim.Native.Nat.{ℕ, _+_, _-_, _≤_}
 use mathlib.Core.Path.{_≡_, refl, ap, _∙_}
-use mathlib.Core.Bool.{not, _&&_}
 use native.Mathlib.Omega.{arith}
 use borrow.Author.Needs.{needs}
-use lib.Dec.{eqb}
 use Rattle.words.specs.Scan.{count}
 use Rattle.words.proofs.Scan.{count-le}
-use Rattle.table.specs.Entry.{word1, viaOf}
+use Rattle.table.specs.Entry.{word1, ownsBody}
 use Rattle.search.specs.Free.{isCopy}
 use Rattle.search.proofs.From.{count-byte, byte-small}
 use Rattle.advance.specs.Notes.{turns}
@@ -28,11 +26,14 @@ loop-holds c = (search needs, refl, refl)
 first-word-requires : tie.Need-first-word-requires Inv-loop μ-loop
 first-word-requires c κs = search needs
 
+owns-body-requires : tie.Need-owns-body-requires Inv-loop μ-loop
+owns-body-requires c κs = search needs
+
 cast-copies : tie.Need-cast-copies Inv-loop μ-loop
 cast-copies c = search needs
 
 add-copies : tie.Need-add-copies Inv-loop μ-loop
-add-copies c = let a = c .before .before .before .before .args in omega (arith, count-le (c .before .before .loop .i) (isCopy (a .slots) (a .table .now)), byte-small (not (eqb (c .first-word .result) 0) && eqb (viaOf (c .first-word .result)) 0))
+add-copies c = let a = c .before .before .before .before .before .args in omega (arith, count-le (c .before .before .before .loop .i) (isCopy (a .slots) (a .table .now)), byte-small (c .owns-body .result))
 
 turns-word-requires : tie.Need-turns-word-requires Inv-loop μ-loop
 turns-word-requires c κs = search needs
@@ -41,7 +42,7 @@ cast-turning : tie.Need-cast-turning Inv-loop μ-loop
 cast-turning c = search needs
 
 add-turning : tie.Need-add-turning Inv-loop μ-loop
-add-turning c = let a = c .before .before .before .before .before .args in omega (arith, count-le (c .before .before .before .loop .i) (λ k. turns (a .live) (word1 (a .slots) (a .table .now) k)), byte-small (c .turns-word .result))
+add-turning c = let a = c .before .before .before .before .before .before .args in omega (arith, count-le (c .before .before .before .before .loop .i) (λ k. turns (a .live) (word1 (a .slots) (a .table .now) k)), byte-small (c .turns-word .result))
 
 add-i : tie.Need-add-i Inv-loop μ-loop
 add-i c = search needs
@@ -51,11 +52,11 @@ loop-less c = search needs
 
 loop-again : tie.Need-loop-again Inv-loop μ-loop
 loop-again c =
-    let a = c .before .before .before .before .before .args in
-    let s = c .before .before .before .loop in
-    let word = c .before .first-word .ensures in (
+    let a = c .before .before .before .before .before .before .args in
+    let s = c .before .before .before .before .loop in
+    let word = c .before .before .first-word .ensures in (
       search needs,
-      count-byte (isCopy (a .slots) (a .table .now)) (s .i) (s .copies) (s .inv .1) _ (ap (λ (w : ℕ). not (eqb w 0) && eqb (viaOf w) 0) word),
+      count-byte (isCopy (a .slots) (a .table .now)) (s .i) (s .copies) (s .inv .1) _ (c .before .owns-body .ensures ∙ ap ownsBody word),
       count-byte (λ k. turns (a .live) (word1 (a .slots) (a .table .now) k)) (s .i) (s .turning) (s .inv .2) _ (c .turns-word .ensures ∙ ap (turns (a .live)) word),
     )
 
@@ -81,6 +82,7 @@ bodies-wanted-spec =
     μ-loop
     loop-holds
     first-word-requires
+    owns-body-requires
     cast-copies
     add-copies
     turns-word-requires

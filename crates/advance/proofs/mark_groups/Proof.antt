@@ -29,11 +29,11 @@ loop-holds c = (search needs, search needs, turned-none (c .before .before .befo
 first-word-requires : tie.Need-first-word-requires Inv-loop μ-loop
 first-word-requires c κs = search needs
 
-wide-requires : tie.Need-wide-requires Inv-loop μ-loop
-wide-requires c κs = search needs
+cell-of-requires : tie.Need-cell-of-requires Inv-loop μ-loop
+cell-of-requires c κs = search needs
 
 shared-slice-read-has-depth : tie.Need-shared-slice-read-has-depth Inv-loop μ-loop
-shared-slice-read-has-depth c = let h = c .before .before .before .before .before .before .before .before .pre .1 .0 (c .before .before .before .before .loop .i) (omega (arith, c .before .before .before .before .before .before .before .before .pre .0)) in omega (arith, h, c .before .wide .ensures, ap cellOf (c .before .before .first-word .ensures))
+shared-slice-read-has-depth c = let h = c .before .before .before .before .before .before .before .before .pre .1 .0 (c .before .before .before .before .loop .i) (omega (arith, c .before .before .before .before .before .before .before .before .pre .0)) in omega (arith, h, c .before .cell-of .ensures, ap cellOf (c .before .before .first-word .ensures))
 
 sub-has-depth : tie.Need-sub-has-depth Inv-loop μ-loop
 sub-has-depth c = search needs
@@ -63,7 +63,7 @@ loop-again c =
     let q = c .before .before .mark-turning .ensures ∙ ap (λ (w : ℕ). markTurning (a .live) w (s .groups)) (c .before .before .before .before .before .before .before .before .first-word .ensures) in
     let at : ℕ → Bool = λ w. not (turns (a .live) w) || has (parent (a .live)) (markAt (a .seen .now) w) in
     let now : (not (c .before .before .before .before .turns-word .result) || c .before .before .before .before .before .has-depth .result) ≡ at (word1 (a .slots) (a .table .now) (s .i)) =
-    (λ j. not (c .before .before .before .before .turns-word .ensures j) || (c .before .before .before .before .before .has-depth .ensures ∙ ap (λ (x : ℕ). has (parent (a .live)) (getD (a .seen .now) x 0)) (c .before .before .before .before .before .before .before .wide .ensures)) j)
+    (λ j. not (c .before .before .before .before .turns-word .ensures j) || (c .before .before .before .before .before .has-depth .ensures ∙ ap (λ (x : ℕ). has (parent (a .live)) (getD (a .seen .now) x 0)) (c .before .before .before .before .before .before .before .cell-of .ensures)) j)
     ∙ ap at (c .before .before .before .before .before .before .before .before .first-word .ensures) in (
       search needs,
       c .before .before .mark-turning .kept .0 ∙ s .inv .1,
@@ -92,7 +92,7 @@ mark-groups-spec =
     μ-loop
     loop-holds
     first-word-requires
-    wide-requires
+    cell-of-requires
     shared-slice-read-has-depth
     sub-has-depth
     has-depth-requires

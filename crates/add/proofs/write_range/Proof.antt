@@ -1,0 +1,54 @@
+-- `add::write_range` meets its contract: what is staged is stored by the journal. Assumes nothing.
+use mathlib.Core.List.{List}
+use mathlib.Core.Path.{ap, _∙_}
+use lib.ListN.{length, take}
+use Rattle.words.specs.Layout.{pairsAt}
+use Rattle.words.specs.Stores.{Store, stores}
+use Rattle.words.specs.Journal.{journal}
+use Rattle.changes.proofs.Staging.{stages-inside, stages-words}
+use borrow.Author.Needs.{needs}
+use Rattle.add.proofs.write_range.Statement.{statement}
+use Rattle.add.proofs.write_range.Tie as tie
+
+stage-range-requires : tie.Need-stage-range-requires
+stage-range-requires c κs = c .before .before .before .before .before .before .before .before .pre
+
+no-head-requires : tie.Need-no-head-requires
+no-head-requires c κs = search needs
+
+write-staged-requires : tie.Need-write-staged-requires
+write-staged-requires c κs =
+    let p = c .before .before .before .before .before .before .before .before .before .before .before .before .before .before .before .before .before .pre in
+    ((p .1 .0 .walk .slots, p .1 .0 .exact, search needs, search needs), (c .before .before .no-head .ensures .0, stages-inside (c .before .before .before .before .before .before .before .before .stage-range .ensures)))
+
+same-length : tie.Need-same-length
+same-length c = search needs
+
+same-length-2 : tie.Need-same-length-2
+same-length-2 c = search needs
+
+same-length-3 : tie.Need-same-length-3
+same-length-3 c = search needs
+
+returns : tie.Need-returns
+returns c =
+    let a = c .before .before .before .before .before .before .before .before .before .before .before .before .before .before .before .before .before .before .before .before .args in
+    let same = stages-words (c .before .before .before .before .before .no-head .ensures .1 .1) (c .before .before .before .before .before .before .before .before .before .before .before .stage-range .ensures) in
+    let r = c .before .before .write-staged .ensures in
+    record {
+      made = r .0 ∙ ap (λ (ws : List Store). length (journal (pairsAt (a .slots)) ws)) same;
+      few = r .1 .0;
+      words = r .1 .1 ∙ ap (λ (ws : List Store). stores (take (a .budget) (journal (pairsAt (a .slots)) ws)) (a .table .now)) same;
+    }
+
+pub write-range-spec : {M : Type 1} → statement M
+write-range-spec =
+    tie.close
+    (tie.spec
+    stage-range-requires
+    no-head-requires
+    write-staged-requires
+    same-length
+    same-length-2
+    same-length-3
+    returns)

@@ -1,0 +1,83 @@
+-- A call that no question refuses, from what its code does to its outcome: what each part of the code may rely on, and what all of them leave. Assumes nothing.
+use Prim.Native.Nat.{ℕ, _+_, _-_, _*_, _≤_, _<_}
+use mathlib.Core.List.{List, [], _++_}
+use mathlib.Core.Path.{_≡_, ap, _∙_}
+use native.Mathlib.Omega.{arith}
+use lib.ListN.{length, take, getD}
+use Rattle.words.specs.Layout.{cellAt, cellsOf, bodiesOf, slotsOf, pairsAt}
+use Rattle.words.specs.Scan.{count, nth}
+use Rattle.words.specs.Stores.{Store, stores, gather}
+use Rattle.words.specs.Cells.{cellPlan}
+use Rattle.words.specs.Journal.{journal}
+use Rattle.table.specs.Entry.{live}
+use Rattle.table.specs.Marks.{cellIn}
+use Rattle.table.specs.Changes.{entryChanges}
+use Rattle.table.proofs.Checks.{Lengths}
+use Rattle.table.proofs.Rule.{Rule}
+use Rattle.changes.specs.Staged.{isSet, staged, Stages}
+use Rattle.changes.proofs.Staging.{stages-ext, stages-words}
+use Rattle.model.specs.Answer.{Report, ended}
+use Rattle.store.specs.Outcome.{buffers, outcome, leaves}
+use Rattle.store.proofs.Checks.{shape-facts, store-shape}
+use Rattle.store.proofs.Raw.{raw-rule}
+use Rattle.advance.specs.Advance.{advances, advanceWords}
+use Rattle.advance.specs.Notes.{CellBits, Ready, performed, OwnBits, Listed, InOrder, unmarked, changeTo}
+use Rattle.advance.proofs.Listing.{plans-length}
+use Rattle.advance.proofs.Noting.{advances-few, bits-count, own-bits, in-order, listed-inside, room-unmarked, listed-bytes, change-all}
+use Rattle.advance.proofs.Advanced.{advance-performed}
+
+module _ (memory bodies t used : List ℕ) (ready : Ready (length memory) (length bodies) t used) where
+  abbrev m : ℕ
+  m = cellsOf (length memory)
+
+  abbrev b : ℕ
+  b = bodiesOf (length bodies)
+
+  abbrev e : ℕ
+  e = slotsOf (length t)
+
+  ok : Rule (cellsOf (length memory)) (slotsOf (length t)) (bodiesOf (length bodies)) t
+  ok = raw-rule memory bodies t (ready .stands)
+
+  pub ready-sizes : Lengths (length memory) (length bodies) (length t)
+  ready-sizes = shape-facts (length memory) (length bodies) t (store-shape (length memory) (length bodies) t (ready .stands))
+
+  -- as many entries advance as cells, and there is a free body for each
+  pub ready-few : count (cellsOf (length memory)) (advances (slotsOf (length t)) t) ≤ slotsOf (length t)
+  ready-few = advances-few m e b t ok (ready .lives)
+
+  pub ready-free : count (cellsOf (length memory)) (advances (slotsOf (length t)) t) ≤ count (bodiesOf (length bodies)) (unmarked used)
+  ready-free = room-unmarked m e b t used ok (ready .room) (ready .marks)
+
+  module _ (groups : List ℕ) (bits : CellBits t groups) where
+    pub ready-own : OwnBits (slotsOf (length t)) t (live t) groups
+    ready-own = own-bits m e b t ok groups (bits .each) (ready .lives)
+
+    pub ready-count : cellsOf (length memory) ≤ 64 * length groups → count (64 * length groups) (isSet groups) ≡ count (cellsOf (length memory)) (advances (slotsOf (length t)) t)
+    ready-count = bits-count m e b t ok groups (bits .each)
+
+    pub ready-order : (n : ℕ) (places : List ℕ) → n ≡ count (cellsOf (length memory)) (advances (slotsOf (length t)) t)
+        → Listed (slotsOf (length t)) t (live t) (isSet groups) (slotsOf (length t)) places → InOrder (slotsOf (length t)) t n places
+    ready-order = in-order m e b t ok groups (bits .each)
+
+  module _ (n : ℕ) (places : List ℕ) (list : InOrder (slotsOf (length t)) t n places) where
+    pub ready-cells : (r : ℕ) → r < n → cellAt (cellIn (slotsOf (length t)) t (getD places r 0)) + 64 ≤ length memory
+    ready-cells r l = omega (arith, listed-inside m e b t ok n places list r l)
+
+    pub ready-performed : (k steps : ℕ) (b′ words changed t′ : List ℕ) (hs : List Store) (r : Report) → n ≡ count (cellsOf (length memory)) (advances (slotsOf (length t)) t)
+        → b′ ≡ stores (take k (gather n (λ r. cellPlan memory (cellIn (slotsOf (length t)) t (getD places r 0)) (nth (bodiesOf (length bodies)) (unmarked used) r)))) bodies
+        → Stages (slotsOf (length t)) (changeTo (slotsOf (length t)) (bodiesOf (length bodies)) t used n) words changed → hs ≡ []
+        → steps ≡ length (journal (pairsAt (slotsOf (length t))) (hs ++ entryChanges (slotsOf (length t)) (staged words changed)))
+        → t′ ≡ stores (take (k - 64 * n) (journal (pairsAt (slotsOf (length t))) (hs ++ entryChanges (slotsOf (length t)) (staged words changed)))) t
+        → r ≡ ended (64 * n + steps) 0 k
+        → leaves r (buffers memory b′ t′) ≡ outcome (performed (buffers memory bodies t)) k (buffers memory bodies t)
+    unfolding advanceWords
+    ready-performed k steps b′ words changed t′ hs r number copied stages none made written told =
+        let bs = listed-bytes m b n t used places ok (ready .marks) number memory list in
+        let ws = stages-words none (stages-ext stages (change-all m b n t used places ok (ready .marks) number)) in
+        advance-performed memory bodies t k (64 * n) steps b′ t′ r
+        (plans-length memory (λ r. cellIn e t (getD places r 0)) (nth b (unmarked used)) n ∙ ap length bs)
+        (copied ∙ ap (λ (ps : List Store). stores (take k ps) bodies) bs)
+        (made ∙ ap (λ (ps : List Store). length (journal (pairsAt e) ps)) ws)
+        (written ∙ ap (λ (ps : List Store). stores (take (k - 64 * n) (journal (pairsAt e) ps)) t) ws)
+        told

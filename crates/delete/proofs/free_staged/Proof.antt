@@ -1,0 +1,51 @@
+-- `delete::free_staged` meets its contract: what is staged is delete's own change, and the writer stores it by the journal. Assumes nothing.
+use mathlib.Core.List.{List}
+use mathlib.Core.Path.{ap, _∙_}
+use borrow.Author.Needs.{needs}
+use lib.ListN.{length, take}
+use Rattle.words.specs.Layout.{pairsAt}
+use Rattle.words.specs.Stores.{Store, stores}
+use Rattle.words.specs.Journal.{journal}
+use Rattle.changes.proofs.Staging.{stages-inside, stages-words}
+use Rattle.delete.proofs.free_staged.Statement.{statement}
+use Rattle.delete.proofs.free_staged.Tie as tie
+
+free-entries-requires : tie.Need-free-entries-requires
+free-entries-requires c κs = search needs
+
+no-head-requires : tie.Need-no-head-requires
+no-head-requires c κs = search needs
+
+write-staged-requires : tie.Need-write-staged-requires
+write-staged-requires c κs = (search needs, (c .before .before .no-head .ensures .0, stages-inside (c .before .before .before .before .before .before .before .before .free-entries .ensures)))
+
+same-length : tie.Need-same-length
+same-length c = search needs
+
+same-length-2 : tie.Need-same-length-2
+same-length-2 c = search needs
+
+same-length-3 : tie.Need-same-length-3
+same-length-3 c = search needs
+
+returns : tie.Need-returns
+returns c =
+    let a = c .before .before .before .before .before .before .before .before .before .before .before .before .before .before .before .before .before .before .args in
+    let same = stages-words (c .before .before .before .before .before .no-head .ensures .1 .1) (c .before .before .before .before .before .before .before .before .before .before .before .free-entries .ensures) in
+    let r = c .before .before .write-staged .ensures in
+    record {
+      made = r .0 ∙ ap (λ (ws : List Store). length (journal (pairsAt (a .slots)) ws)) same;
+      words = r .1 .1 ∙ ap (λ (ws : List Store). stores (take (a .budget) (journal (pairsAt (a .slots)) ws)) (a .table .now)) same;
+    }
+
+pub free-staged-spec : {M : Type 1} → statement M
+free-staged-spec =
+    tie.close
+    (tie.spec
+    free-entries-requires
+    no-head-requires
+    write-staged-requires
+    same-length
+    same-length-2
+    same-length-3
+    returns)

@@ -1,0 +1,59 @@
+-- `stage_freed` meets its contract. The loop's invariant: the entries of the groups passed are staged. Assumes nothing.
+use Prim.Native.Nat.{_+_, _-_, _*_, _≤_, min}
+use mathlib.Core.Path.{_≡_, refl, _∙_}
+use lib.ListN.{length}
+use Rattle.changes.specs.Staged.{Stages}
+use Rattle.changes.proofs.Staging.{stages-to}
+use Rattle.restore.specs.Restore.{restoreChange}
+use borrow.Author.Needs.{needs}
+use Rattle.restore.proofs.stage_freed.Statement.{statement}
+use Rattle.restore.proofs.stage_freed.Tie as tie
+
+abbrev Inv-loop : tie.InvT-loop
+Inv-loop table slots depth words₀ changed₀ k₀ words changed k = (64 * k ≤ slots + 63) × (length words ≡ length words₀) × (length changed ≡ length changed₀) × Stages (min slots (64 * k)) (restoreChange slots table depth) words changed
+
+abbrev μ-loop : tie.MeasureT-loop
+μ-loop table slots depth words₀ changed₀ k₀ words changed k = slots + 64 - 64 * k
+
+loop-holds : tie.Need-loop-holds Inv-loop μ-loop
+loop-holds c = (search needs, refl, refl, stages-to _ (c .before .before .before .pre .1) (search needs))
+
+mul-loop : tie.Need-mul-loop Inv-loop μ-loop
+mul-loop c = search needs
+
+stage-group-requires : tie.Need-stage-group-requires Inv-loop μ-loop
+stage-group-requires c κs = (search needs, stages-to _ (c .before .before .before .loop .inv .3) (search needs))
+
+add-k : tie.Need-add-k Inv-loop μ-loop
+add-k c = search needs
+
+loop-less : tie.Need-loop-less Inv-loop μ-loop
+loop-less c = search needs
+
+loop-again : tie.Need-loop-again Inv-loop μ-loop
+loop-again c = (search needs, c .before .before .before .before .stage-group .kept .1 .1 .1 .0 ∙ c .before .before .before .before .before .before .before .before .loop .inv .1, c .before .before .before .before .stage-group .kept .1 .1 .1 .1 .0 ∙ c .before .before .before .before .before .before .before .before .loop .inv .2, stages-to _ (c .before .before .before .before .stage-group .ensures) (search needs))
+
+same-length : tie.Need-same-length Inv-loop μ-loop
+same-length c = search needs
+
+same-length-2 : tie.Need-same-length-2 Inv-loop μ-loop
+same-length-2 c = search needs
+
+returns : tie.Need-returns Inv-loop μ-loop
+returns c = stages-to _ (c .before .loop .inv .3) (search needs)
+
+pub stage-freed-spec : {M : Type 1} → statement M
+stage-freed-spec =
+    tie.close
+    (tie.spec
+    Inv-loop
+    μ-loop
+    loop-holds
+    mul-loop
+    stage-group-requires
+    add-k
+    loop-less
+    loop-again
+    same-length
+    same-length-2
+    returns)
