@@ -1,7 +1,10 @@
--- The laws of `demands`. Demands has one term of each demand; the others lead to it.
+-- The laws of `demands`. Demands has one term of each demand; the others lead to it. Calls has what is proved of each call, in one list.
 pub mod Demands
 pub mod Edges
 pub mod Counts
+pub mod Planned
+pub mod Questions
+pub mod Calls
 pub mod Shape
 pub mod Within
 pub mod Seen

@@ -8,12 +8,12 @@ use native.Mathlib.Omega.{arith}
 use borrow.Author.Tests.{ltb-true, lt-ltb, leb-false}
 use lib.Dec.{leb, ltb}
 use lib.ListN.{length}
-use Rattle.words.specs.Layout.{cellsOf}
+use Rattle.words.specs.Layout.{cellsOf, bodiesOf}
 use Rattle.words.specs.Journal.{pending}
 use Rattle.words.proofs.Scan.{by-bool}
 use Rattle.table.proofs.Checks.{lengths-facts}
 use Rattle.model.specs.State.{State}
-use Rattle.model.specs.Answer.{isDone, isStopped, isRefused, Report, ended, View, stepsOf}
+use Rattle.model.specs.Answer.{isDone, isStopped, isRefused, ended, View, stepsOf}
 use Rattle.model.specs.Calls.{Effect, refuse, change, makeSteps, listed}
 use Rattle.model.specs.Restore.{viewedWith}
 use Rattle.model.specs.History.{Request}
@@ -23,11 +23,11 @@ use Rattle.store.specs.Outcome.{Buffers, buffers, inTable, perform, Outcome, ou
 use Rattle.store.specs.Checks.{makeCheck}
 use Rattle.store.specs.State.{stateOf, standing, slots}
 use Rattle.store.specs.Calls.{makePlan, makeCall, openCall}
-use Rattle.store.specs.Means.{seen, orRefused, listMeans, roomOf}
+use Rattle.store.specs.Means.{listMeans, roomOf}
 use Rattle.store.proofs.Checks.{store-shape, shape-lengths}
 use Rattle.store.proofs.Outcome.{table-after}
 use Rattle.store.proofs.Making.{make-none}
-use Rattle.store.proofs.Means.{seenOf, by-check, long, make-means, open-means}
+use Rattle.store.proofs.Means.{seenOf, long, make-means, open-means}
 use Rattle.store.proofs.Pending.{afterPending}
 use Rattle.store.proofs.Standing.{stands-for, only-state}
 use Rattle.add.proofs.Added.{add-takes, add-is, add-with-means, add-with-reopens}
@@ -35,9 +35,9 @@ use Rattle.advance.proofs.Advanced.{advance-takes, advance-is, advance-with-mea
 use Rattle.look.proofs.Placing.{look-means, look-within}
 use Rattle.look.proofs.Shown.{look-tells}
 use Rattle.demands.specs.Session.{callOn}
-use Rattle.demands.specs.Demands.{asked, opens, callView, Found, not-made, wholly-made, lengthsRight, madeFrom, Demand2}
-use Rattle.demands.proofs.Seen.{call-means, call-refusal, call-passed}
-use Rattle.demands.proofs.Steps.{pairs-left, call-kept}
+use Rattle.demands.specs.Demands.{asked, opens, Found, not-made, wholly-made, lengthsRight, madeFrom, Demand2}
+use Rattle.demands.proofs.Seen.{call-means, call-passed}
+use Rattle.demands.proofs.Calls.{facts}
 use Rattle.demands.proofs.Theorem.{Halted}
 use Rattle.demands.proofs.Bounded.{input-bounded}
 use Rattle.demands.proofs.Stepping.{stepped, call-stepped}
@@ -50,26 +50,17 @@ exact b e =
     lengths-facts (length (b .memory)) (length (b .bodies)) (length (b .table))
     (shape-lengths (length (b .memory)) (length (b .bodies)) (b .table) (store-shape (length (b .memory)) (length (b .bodies)) (b .table) e)) .memory-exact
 
-call-shows : (c : Request) (k : ℕ) (b : Buffers) → seenOf (callOn c k b) ≡ callView c k b
-call-shows c k b =
-    by-check (λ q. asked b ≡ q → seenOf (callOn c k b) ≡ orRefused q b (viewOf (roomOf b) c k (stateOf b) (b .memory))) (asked b)
-    (λ n e _.
-    let r = call-refusal c k n b e in
-    λ i. seen (r i) (call-kept c k b (ap (λ (x : Report). x .status) r) i))
-    (λ e _. call-means c k b e)
-    refl
-
 -- ---- a make cut after a store: no store is left
 
 make-performs : (k : ℕ) (b : Buffers) → lengthsRight b ≡ true → outcome (makeCall b) k b
-    ≡ outcome (perform (map (λ x. inTable x) (makePlan (cellsOf (length (b .memory))) (slots b) (cellsOf (length (b .bodies))))) 0) k b
+    ≡ outcome (perform (map (λ x. inTable x) (makePlan (cellsOf (length (b .memory))) (slots b) (bodiesOf (length (b .bodies))))) 0) k b
 unfolding makeCall makeCheck
 make-performs k b fit = rw fit
 
 cut-made : (k : ℕ) (b : Buffers) → lengthsRight b ≡ true → 0 < k → k < makeSteps (slots b) → opens (madeFrom b k) ≡ 2
 cut-made k b fit pos less =
     ap (λ (o : Outcome). opens (o .buffers))
-    (make-performs k b fit ∙ table-after (makePlan (cellsOf (length (b .memory))) (slots b) (cellsOf (length (b .bodies)))) 0 k (b .memory) (b .bodies) (b .table))
+    (make-performs k b fit ∙ table-after (makePlan (cellsOf (length (b .memory))) (slots b) (bodiesOf (length (b .bodies)))) 0 k (b .memory) (b .bodies) (b .table))
     ∙ make-none (b .memory) (b .bodies) (b .table) fit (long (length (b .memory)) (length (b .bodies)) (b .table) fit) k pos less
 
 list-shows : (b : Buffers) → asked b ≡ 0 → listMeans b ≡ listed (stateOf b)
@@ -97,7 +88,7 @@ cut c k b stop = go (effectOf (roomOf b) (b .memory) c (stateOf b)) refl
         let late : x + 2 * w < k = ltb-true (x + 2 * w) k t in
         let more : k < stepsOf x w = leb-false (stepsOf x w) k short in
         let p : pending (left .table) ≡ w =
-        pairs-left c k b good ∙ ap (λ (f : Effect). afterPending f k) e ∙ rw (t, lt-ltb k (stepsOf x w) more) in
+        facts c b .pends k good ∙ ap (λ (f : Effect). afterPending f k) e ∙ rw (t, lt-ltb k (stepsOf x w) more) in
         let pos : 0 < w = words-some x w more late in
         wholly-made e s (subst (λ (n : ℕ). 0 < n) (sym p) pos)
         (ap (λ (v : View). v .memory) seen-is ∙ shown-memory e ∙ memory-whole (roomOf b) c (stateOf b) new (b .memory) k x w h (exact b good) e (omega arith))
@@ -109,7 +100,7 @@ cut c k b stop = go (effectOf (roomOf b) (b .memory) c (stateOf b)) refl
         shown-memory : effectOf (roomOf b) (b .memory) c (stateOf b) ≡ change x w h new → (viewOf (roomOf b) c k (stateOf b) (b .memory)) .memory ≡ memoryAt k c (stateOf b) (b .memory)
         shown-memory e = ap (λ (f : Effect). (viewedWith f k (stateOf b) (b .memory) (memoryAt k c (stateOf b) (b .memory))) .memory) e
     found x w h new e short false t s =
-        let p : pending (left .table) ≡ 0 = pairs-left c k b good ∙ ap (λ (f : Effect). afterPending f k) e ∙ rw t in
+        let p : pending (left .table) ≡ 0 = facts c b .pends k good ∙ ap (λ (f : Effect). afterPending f k) e ∙ rw t in
         let m : left .memory ≡ memoryAt k c (stateOf b) (b .memory) =
         ap (λ (v : View). v .memory) seen-is ∙ ap (λ (f : Effect). (viewedWith f k (stateOf b) (b .memory) (memoryAt k c (stateOf b) (b .memory))) .memory) e in
         not-made s p (subst (λ (y : List ℕ). Mixed (b .memory) (memoryAfter c (stateOf b) (b .memory)) y) (sym m) (memory-mixed c (stateOf b) (b .memory) k))
@@ -132,7 +123,7 @@ pub demand-2 : Demand2
 demand-2 = record {
   make-shows = make-means;
   open-shows = open-means;
-  call-shows = call-shows;
+  call-shows = λ c k b. facts c b .shows k;
   look-shows = look-means;
   look-tells = look-tells;
   look-within = look-within;

@@ -28,9 +28,10 @@ use Rattle.store.proofs.Standing.{standing-opens}
 use Rattle.store.proofs.Pending.{afterPending, leftPending, make-pending, open-pending-after}
 use Rattle.demands.specs.Session.{callOn, inputOn, buffersAfter, wasStopped}
 use Rattle.demands.specs.Demands.{asked, opens, isCall, madeFrom, MakeDone, isCutMake, noCutMake}
-use Rattle.demands.proofs.Shape.{refused-kept}
+use Rattle.demands.proofs.Shape.{refused-kept, call-kept}
+use Rattle.demands.proofs.Calls.{facts}
 use Rattle.demands.proofs.Seen.{call-means, call-refusal, call-passed}
-use Rattle.demands.proofs.Steps.{call-kept, pairs-left, viewed-stands, open-seen, open-refusal, still-opens, unstepped}
+use Rattle.demands.proofs.Steps.{viewed-stands, open-seen, open-refusal, still-opens, unstepped}
 use Rattle.demands.proofs.Theorem.{Told, make-passed, make-enough, make-stands, ended-enough}
 
 -- ---- nothing pending
@@ -48,7 +49,7 @@ done-left (change x w h new) k s m n d =
 call-clears : (c : Request) (k : ℕ) (b : Buffers) → (callOn c k b) .report .status ≡ isDone → leftPending (callOn c k b) ≡ 0
 call-clears c k b d =
     let good : asked b ≡ 0 = call-passed c k b (λ r. subst Told (sym d ∙ r) tt) in
-    pairs-left c k b good
+    facts c b .pends k good
     ∙ done-left (effectOf (roomOf b) (b .memory) c (stateOf b)) k (stateOf b) (b .memory) (memoryAt k c (stateOf b) (b .memory))
     (ap (λ (v : View). v .report .status) (sym (call-means c k b good)) ∙ d)
 

@@ -1,30 +1,26 @@
 -- Demand 1: what is refused, by which number, and that a refusal changes nothing. Assumes nothing.
-use Prim.Native.Nat.{ℕ, zero, suc}
+use Prim.Native.Nat.{ℕ, suc}
 use mathlib.Core.Bool.{true, false, false≢true}
-use mathlib.Core.Option.{Option, none, some}
-use mathlib.Core.Path.{_≡_, refl, sym, ap, subst, _∙_}
+use mathlib.Core.Path.{_≡_, ap, subst, _∙_}
 use borrow.Author.Tests.{ne-eqb, eq-eqb}
 use Rattle.words.specs.Journal.{pending}
 use Rattle.model.specs.Answer.{Status, isDone, isStopped, isRefused, Report, refused, View}
-use Rattle.model.specs.Calls.{Effect, refuse, listed}
-use Rattle.model.specs.Holdings.{isLive}
+use Rattle.model.specs.Calls.{Effect, refuse}
 use Rattle.model.specs.Restore.{viewedWith}
-use Rattle.model.specs.History.{Request, create, list, add, delete, advance, commit, restore, look}
+use Rattle.model.specs.History.{add, delete, look, Request, changes, reads}
 use Rattle.model.specs.Session.{Input, make, call, opening, write, effectOf, memoryAt, viewOf}
 use Rattle.store.specs.Outcome.{Buffers, Outcome, outcome, leaves}
 use Rattle.store.specs.Checks.{shapeCheck, tableCheck, makeCheck, openCheck, storeCheck}
 use Rattle.store.specs.State.{stateOf}
 use Rattle.store.specs.Calls.{makeCall, openCall}
-use Rattle.store.specs.Means.{makeMeans, listMeans, orListRefused, roomOf}
+use Rattle.store.specs.Means.{makeMeans, roomOf}
 use Rattle.store.proofs.Means.{make-means}
-use Rattle.look.specs.Look.{lookPlace, placeReport}
-use Rattle.look.specs.declared.Place.{Place}
-use Rattle.look.specs.declared.Place.the-variants.{Refused, Memory, Bodies}
 use Rattle.demands.specs.Session.{callOn, inputOn}
-use Rattle.demands.specs.Demands.{lengthsRight, headerRight, tableRight, asked, opens, isCall, isLater, handleOf, Demand1}
-use Rattle.demands.proofs.Shape.{refused-kept, refused-report}
+use Rattle.demands.specs.Demands.{lengthsRight, headerRight, tableRight, asked, opens, isCall, isLater, Demand1}
+use Rattle.demands.proofs.Shape.{refused-kept, refused-report, call-kept, call-report}
+use Rattle.demands.proofs.Calls.{facts}
 use Rattle.demands.proofs.Seen.{call-means, call-refusal}
-use Rattle.demands.proofs.Steps.{call-kept, open-refusal}
+use Rattle.demands.proofs.Steps.{open-refusal}
 use Rattle.demands.proofs.Numbers.{input-numbered}
 
 abbrev Done : Status → Type 0
@@ -32,39 +28,10 @@ Done isDone = Unit {0}
 Done isStopped = ⊥
 Done isRefused = ⊥
 
-abbrev None : Option ℕ → Type 0
-None none = Unit {0}
-None (some h) = ⊥
-
 -- ---- a refusal leaves everything as lent
 
 refused-outcome : (o : Outcome) (q : ℕ) (b : Buffers) → o .report ≡ refused q → o .buffers ≡ b → o ≡ leaves (refused q) b
 refused-outcome o q b r s = λ i. leaves (r i) (s i)
-
--- of list and look the report is read off a meaning
-list-report : (b : Buffers) → (listMeans b) .report .status ≡ isRefused → (listMeans b) .report ≡ refused ((listMeans b) .report .refusal)
-unfolding listMeans
-list-report b e = go (asked b) e
-  where
-    go : (q : ℕ) → (orListRefused q (listed (stateOf b))) .report .status ≡ isRefused
-        → (orListRefused q (listed (stateOf b))) .report ≡ refused ((orListRefused q (listed (stateOf b))) .report .refusal)
-    go zero e = absurd (subst Done e tt)
-    go (suc n) e = refl
-
-look-report : (p : Place) → (placeReport p) .status ≡ isRefused → placeReport p ≡ refused ((placeReport p) .refusal)
-look-report (Refused n) e = refl
-look-report (Memory at) e = absurd (subst Done e tt)
-look-report (Bodies at) e = absurd (subst Done e tt)
-
-call-report : (c : Request) (k : ℕ) (b : Buffers) → (callOn c k b) .report .status ≡ isRefused → (callOn c k b) .report ≡ refused ((callOn c k b) .report .refusal)
-call-report create k b e = refused-report _ k b e
-call-report list k b e = list-report b e
-call-report (add h first n i l) k b e = refused-report _ k b e
-call-report (delete h first n) k b e = refused-report _ k b e
-call-report (advance h) k b e = refused-report _ k b e
-call-report (commit h) k b e = refused-report _ k b e
-call-report (restore h) k b e = refused-report _ k b e
-call-report (look h c) k b e = look-report (lookPlace h c b) e
 
 input-kept : (i : Input) (b : Buffers) → (inputOn i b) .report .status ≡ isRefused → inputOn i b ≡ leaves (refused ((inputOn i b) .report .refusal)) b
 input-kept (make k) b e = refused-outcome _ _ b (refused-report _ k b e) (refused-kept _ k b e)
@@ -115,13 +82,6 @@ make-refuses k b e =
     let r : (outcome (makeCall b) k b) .report ≡ refused 1 = ap (λ (v : View). v .report) (make-means k b) ∙ v in
     refused-outcome _ 1 b r (refused-kept (makeCall b) k b (ap (λ (x : Report). x .status) r))
 
-abbrev someHandle : ℕ → Option ℕ → ℕ
-someHandle n none = n
-someHandle n (some h) = h
-
-dead : (a h : ℕ) (b : Buffers) → some a ≡ some h → isLive h (stateOf b) ≡ false → isLive a (stateOf b) ≡ false
-dead a h b e d = subst (λ (x : ℕ). isLive x (stateOf b) ≡ false) (sym (ap (someHandle 0) e)) d
-
 call-refuses : (c : Request) (k n : ℕ) (b : Buffers) → asked b ≡ suc n → callOn c k b ≡ leaves (refused (suc n)) b
 call-refuses c k n b e =
     let r = call-refusal c k n b e in
@@ -135,16 +95,6 @@ state-refuses c k q b good e =
     ap (λ (f : Effect). (viewedWith f k (stateOf b) (b .memory) (memoryAt k c (stateOf b) (b .memory))) .report) e in
     let r : (callOn c k b) .report ≡ refused q = ap (λ (v : View). v .report) (call-means c k b good) ∙ v in
     refused-outcome _ q b r (call-kept c k b (ap (λ (x : Report). x .status) r))
-
-stale : (c : Request) (h : ℕ) (b : Buffers) → handleOf c ≡ some h → isLive h (stateOf b) ≡ false → effectOf (roomOf b) (b .memory) c (stateOf b) ≡ refuse 5
-stale create h b e d = absurd (subst None e tt)
-stale list h b e d = absurd (subst None e tt)
-stale (add a first n i l) h b e d = rw (dead a h b e d)
-stale (delete a first n) h b e d = rw (dead a h b e d)
-stale (advance a) h b e d = rw (dead a h b e d)
-stale (commit a) h b e d = rw (dead a h b e d)
-stale (restore a) h b e d = rw (dead a h b e d)
-stale (look a c) h b e d = rw (dead a h b e d)
 
 wrong-length : (i : Input) (b : Buffers) → isCall i ≡ true → lengthsRight b ≡ false → inputOn i b ≡ leaves (refused 1) b
 wrong-length (make k) b c e = make-refuses k b e
@@ -167,8 +117,8 @@ demand-1 = record {
   unopened = λ c k b e f n. call-refuses c k 2 b (asked-3 b e f n);
   wrong-table = λ c k b e f p t. call-refuses c k 3 b (asked-4 b e f p t);
   wrong-table-opening = λ k b e f t. open-refuses k 3 b (opens-4 b e f t);
-  stale-handle = λ c h k b good e d. state-refuses c k 5 b good (stale c h b e d);
-  past-add = λ h first n kind label k b good live inner kinds range. state-refuses (add h first n kind label) k 8 b good (rw (live, inner, kinds, range));
-  past-delete = λ h first n k b good live range. state-refuses (delete h first n) k 8 b good (rw (live, range));
-  past-look = λ h c k b good live range. state-refuses (look h c) k 8 b good (rw (live, range));
+  stale-handle = λ c h k b good e d. state-refuses c k 5 b good (facts c b .dead h e d);
+  past-add = λ h first n kind label k b good live inner kinds range. state-refuses (changes (add h first n kind label)) k 8 b good (rw (live, inner, kinds, range));
+  past-delete = λ h first n k b good live range. state-refuses (changes (delete h first n)) k 8 b good (rw (live, range));
+  past-look = λ h c k b good live range. state-refuses (reads (look h c)) k 8 b good (rw (live, range));
 }

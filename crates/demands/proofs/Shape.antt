@@ -1,20 +1,21 @@
--- What holds of every call on every buffers by its shape: the lengths stay, and a refusal leaves everything as it is. Assumes nothing.
+-- What holds of every call on every buffers by its plan: the lengths stay, and a refusal leaves everything as it is. Assumes nothing.
 use Prim.Native.Nat.{ℕ}
 use mathlib.Core.List.{List, [], _∷_}
 use mathlib.Core.Option.{Option, none, some}
-use mathlib.Core.Path.{_≡_, refl, subst, _∙_}
+use mathlib.Core.Path.{_≡_, refl, sym, ap, subst, _∙_}
 use lib.Dec.{leb, eqb·suc-zero}
 use lib.ListN.{length, take, length-set}
 use Rattle.words.proofs.Plans.{length-stores}
 use Rattle.words.proofs.Scan.{by-bool}
 use Rattle.model.specs.Answer.{Status, isDone, isStopped, isRefused, refused, ended}
 use Rattle.model.specs.State.{State}
-use Rattle.model.specs.History.{Request, create, list, add, delete, advance, commit, restore, look}
+use Rattle.model.specs.History.{Request}
 use Rattle.model.specs.Session.{Input, make, call, opening, write}
-use Rattle.store.specs.Outcome.{Buffers, buffers, Step, inMemory, inBodies, inTable, step, steps, outcome, Call, refuse, perform}
+use Rattle.store.specs.Outcome.{Buffers, buffers, Step, inMemory, inBodies, inTable, step, steps, Outcome, outcome, Call, refuse, perform}
 use Rattle.store.specs.Checks.{openCheck}
 use Rattle.store.specs.State.{standing}
 use Rattle.demands.specs.Session.{callOn, inputOn}
+use Rattle.demands.proofs.Calls.{facts}
 
 -- buffers of the same lengths
 pub record Alike (b c : Buffers) : Type 0 where
@@ -43,14 +44,9 @@ outcome-alike (refuse n) k b = alike-self b
 outcome-alike (perform plan h) k b = steps-alike (take k plan) b
 
 pub call-alike : (c : Request) (k : ℕ) (b : Buffers) → Alike b ((callOn c k b) .buffers)
-call-alike create k b = outcome-alike _ k b
-call-alike list k b = alike-self b
-call-alike (add h first n i l) k b = outcome-alike _ k b
-call-alike (delete h first n) k b = outcome-alike _ k b
-call-alike (advance h) k b = outcome-alike _ k b
-call-alike (commit h) k b = outcome-alike _ k b
-call-alike (restore h) k b = outcome-alike _ k b
-call-alike (look h c) k b = alike-self b
+call-alike c k b =
+    let p = facts c b .planned in
+    subst (λ (o : Outcome). Alike b (o .buffers)) (sym (p .is k)) (outcome-alike (p .call) k b)
 
 pub input-alike : (i : Input) (b : Buffers) → Alike b ((inputOn i b) .buffers)
 input-alike (make k) b = outcome-alike _ k b
@@ -79,6 +75,19 @@ pub refused-report : (c : Call) (k : ℕ) (b : Buffers) → (outcome c k b) .rep
 unfolding outcome
 refused-report (refuse n) k b e = refl
 refused-report (perform plan h) k b e = absurd (subst Answered e (ended-answers (length plan) h k))
+
+-- of every call on a store
+pub call-kept : (c : Request) (k : ℕ) (b : Buffers) → (callOn c k b) .report .status ≡ isRefused → (callOn c k b) .buffers ≡ b
+call-kept c k b e =
+    let p = facts c b .planned in
+    ap (λ (o : Outcome). o .buffers) (p .is k)
+    ∙ refused-kept (p .call) k b (ap (λ (o : Outcome). o .report .status) (sym (p .is k)) ∙ e)
+
+pub call-report : (c : Request) (k : ℕ) (b : Buffers) → (callOn c k b) .report .status ≡ isRefused → (callOn c k b) .report ≡ refused ((callOn c k b) .report .refusal)
+call-report c k b e =
+    let p = facts c b .planned in
+    subst (λ (o : Outcome). o .report .status ≡ isRefused → o .report ≡ refused (o .report .refusal)) (sym (p .is k))
+    (refused-report (p .call) k b) e
 
 -- ---- the state that opening finds
 

@@ -1,24 +1,20 @@
 -- One store a step, in every call. Assumes nothing.
 use Prim.Native.Nat.{ℕ, _≤_, _<_}
 use mathlib.Core.List.{List, []}
-use mathlib.Core.Logic.{inl}
 use mathlib.Core.Path.{_≡_, refl, sym, ap, subst}
-use native.Mathlib.Omega.{arith}
 use borrow.Author.Tests.{le-leb, lt-leb}
 use lib.ListN.{length}
 use lib.Seq.{take-nil}
 use Rattle.words.proofs.Scan.{by-le}
-use Rattle.model.specs.Answer.{isDone, isStopped, Report, ended}
-use Rattle.model.specs.History.{Request, create, list, add, delete, advance, commit, restore, look}
-use Rattle.store.specs.Outcome.{Buffers, Step, steps, outcome, leaves, Call, refuse, perform}
-use Rattle.store.specs.Means.{listMeans}
+use Rattle.model.specs.Answer.{isDone, isStopped, ended}
+use Rattle.model.specs.History.{Request}
+use Rattle.store.specs.Outcome.{Buffers, Step, steps, Outcome, outcome, Call, refuse, perform}
 use Rattle.store.proofs.Outcome.{one-store}
 use Rattle.store.proofs.Reopened.{done-enough}
-use Rattle.look.specs.Look.{lookPlace, placeReport}
 use Rattle.demands.specs.Session.{callOn}
 use Rattle.demands.specs.Demands.{Stepped}
 use Rattle.demands.proofs.Theorem.{Told, Halted}
-use Rattle.demands.proofs.Bounded.{list-bounded, look-bounded, Bounded}
+use Rattle.demands.proofs.Calls.{facts}
 
 done-steps : (need h k : ℕ) → (ended need h k) .status ≡ isDone → ((ended need h k) .steps ≡ need) × (need ≤ k)
 unfolding ended
@@ -48,22 +44,7 @@ stepped (perform plan h) b = record {
   one-more = λ k. one-store (perform plan h) k b;
 }
 
--- a call that only reads makes no store and no step
-reads : (r : Report) (b : Buffers) → ((n : ℕ) → Bounded n 0 r) → Stepped (λ k. leaves r b) b
-reads r b f = record {
-  plan = [];
-  made = λ k. sym (ap (λ (ss : List Step). steps ss b) (take-nil k));
-  done-all = λ k e. let l = f 0 .few in (omega arith, omega arith);
-  stopped-short = λ k e. absurd (f 0 .whole (omega arith) e);
-  one-more = λ k. inl refl;
-}
-
 pub call-stepped : (c : Request) (b : Buffers) → Stepped (λ k. callOn c k b) b
-call-stepped create b = stepped _ b
-call-stepped list b = reads ((listMeans b) .report) b (λ n. list-bounded n 0 b)
-call-stepped (add h first n i l) b = stepped _ b
-call-stepped (delete h first n) b = stepped _ b
-call-stepped (advance h) b = stepped _ b
-call-stepped (commit h) b = stepped _ b
-call-stepped (restore h) b = stepped _ b
-call-stepped (look h c) b = reads (placeReport (lookPlace h c b)) b (λ n. look-bounded n 0 (lookPlace h c b))
+call-stepped c b =
+    let p = facts c b .planned in
+    subst (λ (at : ℕ → Outcome). Stepped at b) (λ i k. sym (p .is k) i) (stepped (p .call) b)

@@ -17,31 +17,24 @@ use Rattle.words.proofs.Scan.{by-bool}
 use Rattle.table.specs.Checks.{lengthsOk}
 use Rattle.table.proofs.Checks.{lengths-facts}
 use Rattle.model.specs.State.{State}
-use Rattle.model.specs.Answer.{isRefused, Report, refused, ended, View, stepsOf}
-use Rattle.model.specs.Calls.{Effect, refuse, change, orRefuse, makeSteps, makeView, openSteps, openView}
-use Rattle.model.specs.Restore.{viewedWith, lookChecks}
-use Rattle.model.specs.History.{Request, create, list, add, delete, advance, commit, restore, look}
+use Rattle.model.specs.Answer.{Report, refused, ended, View, stepsOf}
+use Rattle.model.specs.Calls.{Effect, refuse, change, makeSteps, makeView, openSteps, openView}
+use Rattle.model.specs.Restore.{viewedWith}
+use Rattle.model.specs.History.{Request}
 use Rattle.model.specs.Session.{Input, make, call, opening, write, Due, nothingDue, dropDue, finishDue, World, world, effectOf, memoryAt, viewOf, Move, call-refused, open-refused, written-to}
-use Rattle.model.proofs.Views.{dueAfter, make-moves, open-idle-moves, open-drop-moves, open-finish-moves}
-use Rattle.model.proofs.Idle.{every-view-moves}
+use Rattle.model.proofs.Views.{dueAfter, view-moves, make-moves, open-idle-moves, open-drop-moves, open-finish-moves}
 use Rattle.store.specs.Outcome.{Buffers, buffers, Outcome, outcome, Call, refuse as refusing, perform}
 use Rattle.store.specs.Checks.{makeCheck}
 use Rattle.store.specs.State.{stateOf, standing, slots}
 use Rattle.store.specs.Calls.{makeCall, openCall}
 use Rattle.store.specs.Means.{makeMeans, openMeans, roomOf}
 use Rattle.store.proofs.Means.{seenOf, by-check, make-means, open-means, store-standing}
-use Rattle.store.proofs.Checks.{store-idle}
-use Rattle.store.proofs.Created.{create-pending}
 use Rattle.store.proofs.Standing.{is-standing, standing-opens}
-use Rattle.store.proofs.Pending.{afterPending, leftPending, make-pending, open-pending-after}
-use Rattle.add.proofs.Added.{add-pending}
-use Rattle.delete.proofs.Deleted.{delete-pending}
-use Rattle.advance.proofs.Advanced.{advance-pending}
-use Rattle.commit.proofs.Committed.{commit-pending}
-use Rattle.restore.proofs.Cuts.{restore-pending}
+use Rattle.store.proofs.Pending.{afterPending, make-pending, open-pending-after}
 use Rattle.demands.specs.Session.{callOn, inputOn, wasStopped, isOpening}
 use Rattle.demands.specs.Demands.{asked, opens}
-use Rattle.demands.proofs.Shape.{Alike, call-alike, input-alike, refused-kept, None, standing-none}
+use Rattle.demands.proofs.Shape.{Alike, call-alike, input-alike, refused-kept, call-kept, None, standing-none}
+use Rattle.demands.proofs.Calls.{facts}
 use Rattle.demands.proofs.Seen.{call-means, call-refusal}
 use Rattle.demands.proofs.Within.{store-within}
 
@@ -116,37 +109,8 @@ viewed-free (change b w h new) k s m n f =
     (λ t. rw t)
     (λ t. let g = rw t at f in absurd (true≢false g))
 
-pub call-kept : (c : Request) (k : ℕ) (b : Buffers) → (callOn c k b) .report .status ≡ isRefused → (callOn c k b) .buffers ≡ b
-call-kept create k b e = refused-kept _ k b e
-call-kept list k b e = refl
-call-kept (add h first n i l) k b e = refused-kept _ k b e
-call-kept (delete h first n) k b e = refused-kept _ k b e
-call-kept (advance h) k b e = refused-kept _ k b e
-call-kept (commit h) k b e = refused-kept _ k b e
-call-kept (restore h) k b e = refused-kept _ k b e
-call-kept (look h c) k b e = refl
-
 pub exact : {cells : ℕ} {b : Buffers} {d : Due} → Fits cells b d → length (b .memory) ≡ 64 * cellsOf (length (b .memory))
 exact {b = b} f = lengths-facts (length (b .memory)) (length (b .bodies)) (length (b .table)) (f .lengths) .memory-exact
-
-zero-either : (c : Bool) → cond {A = ℕ} c 0 0 ≡ 0
-zero-either true = refl
-zero-either false = refl
-
--- the pairs that a call leaves pending: the law of each call in one
-pub pairs-left : (c : Request) (k : ℕ) (b : Buffers) → asked b ≡ 0 → leftPending (callOn c k b) ≡ afterPending (effectOf (roomOf b) (b .memory) c (stateOf b)) k
-pairs-left create k b e = create-pending k b e
-pairs-left list k b e = store-idle (length (b .memory)) (length (b .bodies)) (b .table) e ∙ sym (zero-either (ltb (0 + 2 * 0) k && ltb k (stepsOf 0 0)))
-pairs-left (add h first n i l) k b e = add-pending h first n i l k b e
-pairs-left (delete h first n) k b e = delete-pending h first n k b e
-pairs-left (advance h) k b e = advance-pending h k b e
-pairs-left (commit h) k b e = commit-pending h k b e
-pairs-left (restore h) k b e = restore-pending h k b e
-pairs-left (look h c) k b e = store-idle (length (b .memory)) (length (b .bodies)) (b .table) e ∙ sym (by-checks (lookChecks (cellsOf (length (b .memory))) h c (stateOf b)))
-  where
-    by-checks : (q : ℕ) → afterPending (orRefuse q (change 0 0 0 (stateOf b))) k ≡ 0
-    by-checks zero = zero-either (ltb (0 + 2 * 0) k && ltb k (stepsOf 0 0))
-    by-checks (suc q) = refl
 
 call-moves : (cells : ℕ) (c : Request) (k : ℕ) (b : Buffers) → Fits cells b nothingDue → Moves cells (call c k) b nothingDue
 call-moves cells c k b f = by-check (λ q. asked b ≡ q → Moves cells (call c k) b nothingDue) (asked b) (λ n e _. refused-at n e) (λ e _. made e) refl
@@ -176,14 +140,14 @@ call-moves cells c k b f = by-check (λ q. asked b ≡ q → Moves cells (call c
         let after : standing ((callOn c k b) .buffers) ≡ some (stands .0) = ap (λ (v : View). v .state) seen-is ∙ stands .1 in
         let moves : Move (cellsOf (length (b .memory))) (world (some (stateOf b)) (b .memory) nothingDue) (call c k) ((viewOf (roomOf b) c k (stateOf b) (b .memory)) .report)
         (world ((viewOf (roomOf b) c k (stateOf b) (b .memory)) .state) ((viewOf (roomOf b) c k (stateOf b) (b .memory)) .memory) (dueAfter (effectOf (roomOf b) (b .memory) c (stateOf b)) k)) =
-        every-view-moves k (roomOf b) c (stateOf b) (b .memory) (exact f) (store-within (b .memory) (b .bodies) (b .table) e) in
+        view-moves k (roomOf b) c (stateOf b) (b .memory) (exact f) (store-within (b .memory) (b .bodies) (b .table) e) in
         record {
           due = d;
           move = subst (λ (n : ℕ). Move n (worldOf b nothingDue) (call c k) ((callOn c k b) .report) (worldOf ((callOn c k b) .buffers) (dueAfter (effectOf (roomOf b) (b .memory) c (stateOf b)) k))) (f .size)
               (recast (ap (λ (x : Option State). world x (b .memory) nothingDue) (sym start)) (ap (λ (v : View). v .report) (sym seen-is))
               (ap (λ (v : View). world (v .state) (v .memory) (dueAfter (effectOf (roomOf b) (b .memory) c (stateOf b)) k)) (sym seen-is)) moves);
           fits = kept f (call-alike c k b)
-              (due-pends (effectOf (roomOf b) (b .memory) c (stateOf b)) k ((callOn c k b) .buffers) (pairs-left c k b e) (standing-opens ((callOn c k b) .buffers) (stands .0) after));
+              (due-pends (effectOf (roomOf b) (b .memory) c (stateOf b)) k ((callOn c k b) .buffers) (facts c b .pends k e) (standing-opens ((callOn c k b) .buffers) (stands .0) after));
           free = λ w. viewed-free (effectOf (roomOf b) (b .memory) c (stateOf b)) k (stateOf b) (b .memory) (memoryAt k c (stateOf b) (b .memory))
               (ap (λ (v : View). wasStopped (v .report .status)) (sym seen-is) ∙ w);
         }

@@ -1,6 +1,6 @@
 -- Demand 3 over lent buffers: every session over buffers is a session over what they stand for, so every mismatch count in it is 0; and the laws
 -- against an empty count. Assumes nothing.
-use Prim.Native.Nat.{ℕ, suc, _+_, _*_}
+use Prim.Native.Nat.{ℕ, suc, _*_}
 use mathlib.Core.Bool.{Bool, true, false, not, _||_}
 use mathlib.Core.List.{List, [], _∷_, _++_, append-assoc, append-nil}
 use mathlib.Core.Option.{Option, none, some}

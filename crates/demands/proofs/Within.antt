@@ -5,7 +5,7 @@ use mathlib.Core.Option.{none}
 use mathlib.Core.Path.{_≡_, sym, ap, subst, _∙_}
 use native.Mathlib.Omega.{arith}
 use lib.ListN.{length, take}
-use Rattle.words.specs.Layout.{cellsOf, slotsOf, pairsAt}
+use Rattle.words.specs.Layout.{cellsOf, bodiesOf, slotsOf, pairsAt}
 use Rattle.words.proofs.Scan.{by-le}
 use Rattle.table.specs.Entry.{live, word1, depthOf, cellOf, findIn}
 use Rattle.table.proofs.Rule.{Rule}
@@ -42,5 +42,5 @@ pub store-within : (memory bodies t : List ℕ) → storeCheck (length memory) (
     → Within (cellsOf (length memory)) (stateOf (buffers memory bodies t))
 store-within memory bodies t passed =
     subst (λ (s : State). Within (cellsOf (length memory)) s) (sym (store-state memory bodies t passed))
-    (state-within (cellsOf (length memory)) (slotsOf (length t)) (cellsOf (length bodies)) (take (pairsAt (slotsOf (length t))) t) bodies
+    (state-within (cellsOf (length memory)) (slotsOf (length t)) (bodiesOf (length bodies)) (take (pairsAt (slotsOf (length t))) t) bodies
     (store-rule memory bodies t passed))

@@ -8,7 +8,7 @@ use mathlib.Core.Path.{_≡_}
 use Rattle.words.specs.Layout.{cellAt}
 use Rattle.words.specs.Stores.{Store, _≔_, tab, stores}
 use Rattle.model.specs.Answer.{Status, isDone, isStopped, isRefused}
-use Rattle.model.specs.History.{create, add, delete, advance, restore, Event, made, called, opened, written, Observation, observed, begun, counts}
+use Rattle.model.specs.History.{create, add, delete, advance, changes, restore, Event, made, called, opened, written, Observation, observed, begun, counts}
 use Rattle.model.specs.Session.{Input, call, opening, write}
 use Rattle.store.specs.Outcome.{Buffers}
 use Rattle.demands.specs.Session.{session, openingRule}
@@ -75,54 +75,60 @@ abbrev pub LinesHold : List Line → Type 0
 LinesHold [] = Unit {0}
 LinesHold (l ∷ ls) = LineHolds l × LinesHold ls
 
+abbrev pub creates : Input
+creates = call (changes create) 100
+
 -- every add is by copy and read-write; add and delete name a handle, a first cell and a count
 abbrev pub adds : (h first n : ℕ) → Input
-adds h first n = call (add h first n byCopy readWrite) 200
+adds h first n = call (changes (add h first n byCopy readWrite)) 200
+
+abbrev pub deletes : (h first n : ℕ) → Input
+deletes h first n = call (changes (delete h first n)) 100
 
 -- ---- the lines
 
 -- 1 holds cell 0; the program writes both cells: the bytes of cell 1, which nobody held, are unprotected, and those of cell 0 count
 abbrev pub wroteBoth : Line
 wroteBoth =
-    line (fills 0 7 ∷ call create 100 ∷ adds 1 0 1 ∷ fills 0 9 ∷ fills 1 9 ∷ call (restore 1) 100 ∷ [])
+    line (fills 0 7 ∷ creates ∷ adds 1 0 1 ∷ fills 0 9 ∷ fills 1 9 ∷ call (restore 1) 100 ∷ [])
     (0 ∷ []) (64 ∷ []) (0 ∷ [])
 
 -- 1 holds cell 0 at 7; write 9, restore; an advance at 9, cut in its table part and carried out by the second opening; write 11, restore
 abbrev pub twoRestores : Line
 twoRestores =
-    line (fills 0 7 ∷ call create 100 ∷ adds 1 0 1 ∷ fills 0 9 ∷ call (restore 1) 100 ∷ fills 0 9 ∷ call (advance 1) 70 ∷ opening 1 ∷ opening 9
+    line (fills 0 7 ∷ creates ∷ adds 1 0 1 ∷ fills 0 9 ∷ call (restore 1) 100 ∷ fills 0 9 ∷ call (changes (advance 1)) 70 ∷ opening 1 ∷ opening 9
     ∷ fills 0 11 ∷ call (restore 0) 100 ∷ [])
     (0 ∷ 0 ∷ []) (0 ∷ 64 ∷ []) (0 ∷ 64 ∷ [])
 
 -- 2 inside 1 holds the cell too; the restore of 1 is cut after word 6 and carried out by opening: its count is taken there
 abbrev pub lateRestore : Line
 lateRestore =
-    line (fills 0 7 ∷ call create 100 ∷ adds 1 0 1 ∷ call create 100 ∷ adds 2 0 1 ∷ fills 0 9 ∷ call (restore 1) 74 ∷ opening 100 ∷ [])
+    line (fills 0 7 ∷ creates ∷ adds 1 0 1 ∷ creates ∷ adds 2 0 1 ∷ fills 0 9 ∷ call (restore 1) 74 ∷ opening 100 ∷ [])
     (0 ∷ []) (64 ∷ []) (64 ∷ [])
 
 -- 1 holds both cells, and cell 0 is deleted from it: its bytes are unprotected, and those of cell 1 count
 abbrev pub deletedCell : Line
 deletedCell =
-    line (call create 100 ∷ adds 1 0 2 ∷ call (delete 1 0 1) 100 ∷ fills 1 9 ∷ call (restore 1) 100 ∷ [])
+    line (creates ∷ adds 1 0 2 ∷ deletes 1 0 1 ∷ fills 1 9 ∷ call (restore 1) 100 ∷ [])
     (0 ∷ []) (0 ∷ []) (64 ∷ [])
 
 -- 1 and 2 inside it hold cell 0, and it is deleted from 1: its bytes count for 2
 abbrev pub deletedAround : Line
 deletedAround =
-    line (fills 0 7 ∷ call create 100 ∷ adds 1 0 1 ∷ call create 100 ∷ adds 2 0 1 ∷ call (delete 1 0 1) 100 ∷ fills 0 9 ∷ call (restore 2) 100 ∷ [])
+    line (fills 0 7 ∷ creates ∷ adds 1 0 1 ∷ creates ∷ adds 2 0 1 ∷ deletes 1 0 1 ∷ fills 0 9 ∷ call (restore 2) 100 ∷ [])
     (0 ∷ []) (64 ∷ []) (64 ∷ [])
 
 -- 2 inside 1 holds cell 0, and it is deleted from 2: its bytes are unprotected for 1, which is around it
 abbrev pub deletedInside : Line
 deletedInside =
-    line (call create 100 ∷ call create 100 ∷ adds 2 0 1 ∷ call (delete 2 0 1) 100 ∷ call (restore 1) 100 ∷ [])
+    line (creates ∷ creates ∷ adds 2 0 1 ∷ deletes 2 0 1 ∷ call (restore 1) 100 ∷ [])
     (0 ∷ []) (0 ∷ []) (64 ∷ [])
 
 -- 2 inside 1 holds cell 1, the program writes 9, and 3 is created inside 2; the restore of 2 is cut after six bytes. The restore of 3 has no count
 -- (six bytes differ from its snapshot); those of 2 and of 1 around it have theirs
 abbrev pub cutInside : Line
 cutInside =
-    line (call create 100 ∷ call create 100 ∷ adds 2 1 1 ∷ fills 1 9 ∷ call create 100 ∷ call (restore 2) 6 ∷ opening 0 ∷ call (restore 3) 100
+    line (creates ∷ creates ∷ adds 2 1 1 ∷ fills 1 9 ∷ creates ∷ call (restore 2) 6 ∷ opening 0 ∷ call (restore 3) 100
     ∷ call (restore 2) 100 ∷ call (restore 1) 100 ∷ [])
     (0 ∷ 0 ∷ []) (0 ∷ 64 ∷ []) (0 ∷ 64 ∷ [])
 

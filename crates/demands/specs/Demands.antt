@@ -10,7 +10,7 @@ use mathlib.Core.Option.{Option, none, some}
 use mathlib.Core.Path.{_≡_}
 use lib.Dec.{leb, eqb}
 use lib.ListN.{length, take}
-use Rattle.words.specs.Layout.{cellsOf}
+use Rattle.words.specs.Layout.{cellsOf, bodiesOf}
 use Rattle.words.specs.Journal.{pending}
 use Rattle.table.specs.Checks.{lengthsOk, headerOk}
 use Rattle.table.specs.Rule.{tableOk}
@@ -18,7 +18,7 @@ use Rattle.model.specs.State.{State}
 use Rattle.model.specs.Answer.{Status, isDone, isStopped, isRefused, done, refused, View}
 use Rattle.model.specs.Calls.{change, makeSteps, listed}
 use Rattle.model.specs.Holdings.{named, isLive, isInnermost, rangeOk}
-use Rattle.model.specs.History.{Request, create, list, add, delete, advance, commit, restore, look, History, Tracked, begun, finished, trackedAt, mismatches, counts, historyAfter}
+use Rattle.model.specs.History.{create, add, delete, advance, commit, list, look, Request, changes, restore, reads, History, Tracked, begun, finished, trackedAt, mismatches, counts, historyAfter}
 use Rattle.model.specs.Session.{Input, make, call, opening, write, effectOf, memoryAfter, viewOf, Mixed, AllZero, Agrees}
 use Rattle.store.specs.Outcome.{Buffers, Step, step, steps, Call, Outcome, outcome, leaves}
 use Rattle.store.specs.Checks.{openCheck, storeCheck}
@@ -90,7 +90,7 @@ abbrev pub headerRight : Buffers → Bool
 headerRight b = headerOk (length (b .memory)) (length (b .bodies)) (b .table)
 
 abbrev pub tableRight : Buffers → Bool
-tableRight b = tableOk (cellsOf (length (b .memory))) (slots b) (cellsOf (length (b .bodies))) (b .table)
+tableRight b = tableOk (cellsOf (length (b .memory))) (slots b) (bodiesOf (length (b .bodies))) (b .table)
 
 -- the number of the first no among questions 1 to 4, and among those put to open
 abbrev pub asked : Buffers → ℕ
@@ -114,14 +114,14 @@ isLater (write ws) = false
 
 -- the handle that a call names
 abbrev pub handleOf : Request → Option ℕ
-handleOf create = none
-handleOf list = none
-handleOf (add h first n kind label) = some h
-handleOf (delete h first n) = some h
-handleOf (advance h) = some h
-handleOf (commit h) = some h
+handleOf (changes create) = none
+handleOf (changes (add h first n kind label)) = some h
+handleOf (changes (delete h first n)) = some h
+handleOf (changes (advance h)) = some h
+handleOf (changes (commit h)) = some h
 handleOf (restore h) = some h
-handleOf (look h c) = some h
+handleOf (reads list) = none
+handleOf (reads (look h c)) = some h
 
 -- "the number in document 01": that of one of its questions, 1 to 17
 abbrev pub isQuestion : ℕ → Bool
@@ -148,11 +148,11 @@ pub record Demand1 : Type 0 where
   -- "or a range past the memory"
   pub past-add : (h first n kind label k : ℕ) (b : Buffers) → asked b ≡ 0 → isLive h (stateOf b) ≡ true → isInnermost h (stateOf b) ≡ true
       → (leb kind 1 && leb label 1) ≡ true → rangeOk (cellsOf (length (b .memory))) first n ≡ false
-      → callOn (add h first n kind label) k b ≡ leaves (refused 8) b
+      → callOn (changes (add h first n kind label)) k b ≡ leaves (refused 8) b
   pub past-delete : (h first n k : ℕ) (b : Buffers) → asked b ≡ 0 → isLive h (stateOf b) ≡ true → rangeOk (cellsOf (length (b .memory))) first n ≡ false
-      → callOn (delete h first n) k b ≡ leaves (refused 8) b
+      → callOn (changes (delete h first n)) k b ≡ leaves (refused 8) b
   pub past-look : (h c k : ℕ) (b : Buffers) → asked b ≡ 0 → isLive h (stateOf b) ≡ true → rangeOk (cellsOf (length (b .memory))) c 1 ≡ false
-      → callOn (look h c) k b ≡ leaves (refused 8) b
+      → callOn (reads (look h c)) k b ≡ leaves (refused 8) b
 
 -- ---- demand 2: "Each call answers and leaves the holdings as the containment domain API of 2012 says, with the choices of document 01"
 
@@ -195,10 +195,10 @@ abbrev pub lowestSlot : (first : ℕ) → Buffers → (j : ℕ) → ℕ
 lowestSlot first b = adding.slotFor (slots b) (b .table) first
 
 abbrev pub lowestBody : (first : ℕ) → Buffers → (j : ℕ) → ℕ
-lowestBody first b = adding.bodyFor (slots b) (cellsOf (length (b .bodies))) (b .table) first
+lowestBody first b = adding.bodyFor (slots b) (bodiesOf (length (b .bodies))) (b .table) first
 
 abbrev pub advanceBody : Buffers → (c : ℕ) → ℕ
-advanceBody b = bodyFor (slots b) (cellsOf (length (b .bodies))) (b .table)
+advanceBody b = bodyFor (slots b) (bodiesOf (length (b .bodies))) (b .table)
 
 pub record Means (call : Call) (means : (k : ℕ) → View) (b : Buffers) : Type 0 where
   pub shown : (k : ℕ) → seenOf (outcome call k b) ≡ means k

@@ -4,10 +4,10 @@ use Prim.Native.Nat.{ℕ}
 use mathlib.Core.Bool.{Bool, true, false, not, _&&_, _||_}
 use mathlib.Core.List.{List, [], _∷_}
 use Rattle.words.specs.Stores.{stores}
-use Rattle.model.specs.Answer.{Status, isDone, isStopped, isRefused, done}
-use Rattle.model.specs.History.{Request, create, list, add, delete, advance, commit, restore, look, Observation, observed}
+use Rattle.model.specs.Answer.{Status, isDone, isStopped, isRefused, Report, done}
+use Rattle.model.specs.History.{Changing, create, add, delete, advance, commit, Reading, list, look, Request, changes, restore, reads, Observation, observed}
 use Rattle.model.specs.Session.{Input, make, call, opening, write, shown}
-use Rattle.store.specs.Outcome.{Buffers, buffers, Outcome, outcome, leaves}
+use Rattle.store.specs.Outcome.{Buffers, buffers, Call, Outcome, outcome, leaves}
 use Rattle.store.specs.Calls.{makeCall, openCall, createCall}
 use Rattle.store.specs.Means.{listMeans}
 use Rattle.add.specs.Add.{addCall}
@@ -17,16 +17,23 @@ use Rattle.commit.specs.Commit.{commitCall}
 use Rattle.restore.specs.Restore.{restoreCall}
 use Rattle.look.specs.Look.{lookPlace, placeReport}
 
+-- a changing call as its contract has it
+abbrev pub changeCall : Changing → Buffers → Call
+changeCall create b = createCall b
+changeCall (add h first n kind label) b = addCall h first n kind label b
+changeCall (delete h first n) b = deleteCall h first n b
+changeCall (advance h) b = advanceCall h b
+changeCall (commit h) b = commitCall h b
+
+abbrev pub readReport : Reading → Buffers → Report
+readReport list b = (listMeans b) .report
+readReport (look h c) b = placeReport (lookPlace h c b)
+
 -- a call's report and the buffers that it leaves; list and look take no budget and change nothing
 abbrev pub callOn : Request → (budget : ℕ) → Buffers → Outcome
-callOn create k b = outcome (createCall b) k b
-callOn list k b = leaves ((listMeans b) .report) b
-callOn (add h first n kind label) k b = outcome (addCall h first n kind label b) k b
-callOn (delete h first n) k b = outcome (deleteCall h first n b) k b
-callOn (advance h) k b = outcome (advanceCall h b) k b
-callOn (commit h) k b = outcome (commitCall h b) k b
+callOn (changes c) k b = outcome (changeCall c b) k b
 callOn (restore h) k b = outcome (restoreCall h b) k b
-callOn (look h c) k b = leaves (placeReport (lookPlace h c b)) b
+callOn (reads r) k b = leaves (readReport r b) b
 
 -- one input: "Each call gets the buffers as the last call or write left them"; a program write is never stopped
 abbrev pub inputOn : Input → Buffers → Outcome

@@ -8,7 +8,7 @@ use lib.ListN.{replicate}
 use Rattle.words.specs.Layout.{cellAt, tableWords}
 use Rattle.words.specs.Stores.{_≔_, tab}
 use Rattle.model.specs.Answer.{Status, isDone, isStopped, isRefused, Report, done}
-use Rattle.model.specs.History.{Request, create, add, delete, advance, commit, restore}
+use Rattle.model.specs.History.{Changing, create, add, delete, advance, commit, Request, changes, restore}
 use Rattle.model.specs.Session.{make, call, write}
 use Rattle.store.specs.Outcome.{Buffers, buffers, Outcome, leaves}
 use Rattle.store.specs.Means.{listMeans}
@@ -19,13 +19,20 @@ use Rattle.demands.specs.Session.{inputOn}
 -- A call, and the number that it must answer, 0 for done; a program write that fills a cell with one byte ("cells are filled with one byte");
 -- and what must be seen: the byte that fills each cell of memory, and the number of live domains that list gives.
 pub data Act : Type 0 where
-  gives : Request → (number : ℕ) → Act
+  calls : Request → (number : ℕ) → Act
   fill : (cell byte : ℕ) → Act
   shows : (memory : List ℕ) → Act
   lists : (domains : ℕ) → Act
 
-abbrev pub does : Request → Act
+-- a changing call with the number that it must answer; one that must be done; a restore that must be done
+abbrev pub gives : Changing → (number : ℕ) → Act
+gives c n = calls (changes c) n
+
+abbrev pub does : Changing → Act
 does c = gives c 0
+
+abbrev pub restores : (h : ℕ) → Act
+restores h = calls (restore h) 0
 
 -- acts on a fresh store of m cells, E entry slots and B bodies
 pub record Scenario : Type 0 where
@@ -63,21 +70,21 @@ readWrite = 1
 abbrev pub starred : List Edge
 starred =
     -- "Domain 1 copies cell 0 = 7 read-write; write 9; restore 1: 7."
-    usual (fill 0 7 ∷ does create ∷ does (add 1 0 1 byCopy readWrite) ∷ fill 0 9 ∷ does (restore 1) ∷ shows (7 ∷ 1 ∷ 1 ∷ 1 ∷ []) ∷ [])
+    usual (fill 0 7 ∷ does create ∷ does (add 1 0 1 byCopy readWrite) ∷ fill 0 9 ∷ restores 1 ∷ shows (7 ∷ 1 ∷ 1 ∷ 1 ∷ []) ∷ [])
     -- "Cell 0 held read-write by 2 only; advance: 15."
     ∷ usual (does create ∷ does create ∷ does (add 2 0 1 byCopy readWrite) ∷ gives (advance 2) 15 ∷ [])
     -- "1 holds 7 read-only, 2 copies it read-write, write 9, commit, advance 1, write 11, restore 1: 9."
     ∷ usual (fill 0 7 ∷ does create ∷ does (add 1 0 1 byCopy readOnly) ∷ does create ∷ does (add 2 0 1 byCopy readWrite) ∷ fill 0 9
-    ∷ does (commit 2) ∷ does (advance 1) ∷ fill 0 11 ∷ does (restore 1) ∷ shows (9 ∷ 1 ∷ 1 ∷ 1 ∷ []) ∷ [])
+    ∷ does (commit 2) ∷ does (advance 1) ∷ fill 0 11 ∷ restores 1 ∷ shows (9 ∷ 1 ∷ 1 ∷ 1 ∷ []) ∷ [])
     -- "1 holds 7, write 9, create 2, add via parent: 12."
     ∷ usual (fill 0 7 ∷ does create ∷ does (add 1 0 1 byCopy readWrite) ∷ fill 0 9 ∷ does create ∷ gives (add 2 0 1 viaParent readWrite) 12
     ∷ [])
     -- "1 holds 7 read-write, 2 holds it via parent read-write, write 9, add by copy to 2, restore 2: 7."
     ∷ usual (fill 0 7 ∷ does create ∷ does (add 1 0 1 byCopy readWrite) ∷ does create ∷ does (add 2 0 1 viaParent readWrite) ∷ fill 0 9
-    ∷ does (add 2 0 1 byCopy readWrite) ∷ does (restore 2) ∷ shows (7 ∷ 1 ∷ 1 ∷ 1 ∷ []) ∷ [])
+    ∷ does (add 2 0 1 byCopy readWrite) ∷ restores 2 ∷ shows (7 ∷ 1 ∷ 1 ∷ 1 ∷ []) ∷ [])
     -- "1 holds 7, 2 holds 9, restore 1: 7, one domain live."
     ∷ usual (fill 0 7 ∷ does create ∷ does (add 1 0 1 byCopy readWrite) ∷ fill 0 9 ∷ does create ∷ does (add 2 0 1 byCopy readWrite)
-    ∷ lists 2 ∷ does (restore 1) ∷ shows (7 ∷ 1 ∷ 1 ∷ 1 ∷ []) ∷ lists 1 ∷ [])
+    ∷ lists 2 ∷ restores 1 ∷ shows (7 ∷ 1 ∷ 1 ∷ 1 ∷ []) ∷ lists 1 ∷ [])
     -- "Delete cell 0 from 1 while 2 holds it via parent: 14."
     ∷ usual (does create ∷ does (add 1 0 1 byCopy readWrite) ∷ does create ∷ does (add 2 0 1 viaParent readWrite) ∷ gives (delete 1 0 1) 14
     ∷ [])
@@ -94,7 +101,7 @@ starred =
     ∷ usual (does create ∷ does (add 1 3 1 byCopy readWrite) ∷ gives (add 1 4 1 byCopy readWrite) 8 ∷ gives (add 1 3 0 byCopy readWrite) 8
     ∷ gives (delete 1 4 1) 8 ∷ gives (delete 1 3 0) 8 ∷ does (delete 1 3 1) ∷ [])
     -- "Commit the last domain, restore handle 0: 5."
-    ∷ usual (does create ∷ does (commit 1) ∷ gives (restore 0) 5 ∷ []) ∷ []
+    ∷ usual (does create ∷ does (commit 1) ∷ calls (restore 0) 5 ∷ []) ∷ []
 
 -- ---- what it is for an edge to hold
 
@@ -104,7 +111,7 @@ enough = 1_000
 
 -- what an act leaves, by the step of a session; to see changes nothing
 abbrev pub actOutcome : Act → Buffers → Outcome
-actOutcome (gives c n) b = inputOn (call c enough) b
+actOutcome (calls c n) b = inputOn (call c enough) b
 actOutcome (fill c v) b = inputOn (write (tab 64 (λ j. cellAt c + j ≔ v))) b
 actOutcome (shows bytes) b = leaves (done 0 0) b
 actOutcome (lists n) b = leaves (done 0 0) b
@@ -132,7 +139,7 @@ filled (v ∷ vs) = replicate 64 v ++ filled vs
 
 -- is that what the act must show? All of memory is compared
 abbrev pub asExpected : Act → Outcome → Bool
-asExpected (gives c n) o = answers n (o .report)
+asExpected (calls c n) o = answers n (o .report)
 asExpected (fill c v) o = true
 asExpected (shows bytes) o = sameBytes (o .buffers .memory) (filled bytes)
 asExpected (lists n) o = eqb (listMeans (o .buffers) .count) n

@@ -1,0 +1,117 @@
+-- The numbers by which the questions refuse are those of document 01's questions. Assumes nothing.
+use Prim.Native.Nat.{ℕ, zero, suc, _+_}
+use mathlib.Core.Bool.{Bool, true, false, not, _&&_, _||_}
+use mathlib.Core.List.{List}
+use mathlib.Core.Path.{_≡_, refl, ap, subst}
+use native.Mathlib.Omega.{arith}
+use lib.Dec.{leb, ltb, eqb}
+use lib.ListN.{length}
+use Rattle.words.specs.Scan.{all}
+use Rattle.words.specs.Journal.{pending}
+use Rattle.model.specs.State.{State}
+use Rattle.model.specs.Answer.{ask, orElse}
+use Rattle.model.specs.Calls.{Effect, refuse, change, orRefuse, createChecks}
+use Rattle.model.specs.Holdings.{Room, named, holdingAt, isHeld, heldVia, isVia, hasBody, liveEntries, copiesInUse, isLive, isInnermost, rangeOk, kindNumbered, newlyHeld, parentHolds, parentSame, writableCells, parentCovers, addChecks, deleteChecks, advanceChecks, commitChecks}
+use Rattle.model.specs.Restore.{restoreChecks, lookChecks}
+use Rattle.store.specs.Outcome.{Buffers}
+use Rattle.store.specs.Checks.{shapeCheck, tableCheck, makeCheck, openCheck, storeCheck}
+use Rattle.store.specs.State.{slots}
+use Rattle.demands.specs.Demands.{lengthsRight, headerRight, tableRight, isQuestion}
+
+-- ---- questions: 0 goes on, and every other number is that of a question
+
+pub record Fine (q : ℕ) : Type 0 where
+  pub number : (n : ℕ) → q ≡ suc n → isQuestion (suc n) ≡ true
+
+pub fine-none : Fine 0
+fine-none = record { number = λ n e. absurd (omega arith) }
+
+fine-number : (n : ℕ) → isQuestion n ≡ true → Fine n
+fine-number n e = record { number = λ k p. subst (λ (x : ℕ). isQuestion x ≡ true) p e }
+
+fine-ask : (x : Bool) (n rest : ℕ) → isQuestion n ≡ true → Fine rest → Fine (ask x n rest)
+fine-ask true n rest f g = g
+fine-ask false n rest f g = fine-number n f
+
+fine-else : (m n : ℕ) → Fine m → Fine n → Fine (orElse m n)
+fine-else zero n f g = g
+fine-else (suc m) n f g = f
+
+module _ (b : Buffers) where
+  shape-fine : Fine (shapeCheck (length (b .memory)) (length (b .bodies)) (b .table))
+  unfolding shapeCheck
+  shape-fine = fine-ask (lengthsRight b) 1 _ refl (fine-ask (headerRight b) 2 0 refl fine-none)
+
+  table-fine : Fine (tableCheck (length (b .memory)) (length (b .bodies)) (b .table))
+  unfolding tableCheck
+  table-fine = fine-ask (tableRight b) 4 0 refl fine-none
+
+  pub make-fine : Fine (makeCheck (length (b .memory)) (length (b .bodies)) (b .table))
+  unfolding makeCheck
+  make-fine = fine-ask (lengthsRight b) 1 0 refl fine-none
+
+  pub open-fine : Fine (openCheck (length (b .memory)) (length (b .bodies)) (b .table))
+  unfolding openCheck
+  open-fine = fine-else _ _ shape-fine table-fine
+
+  pub store-fine : Fine (storeCheck (length (b .memory)) (length (b .bodies)) (b .table))
+  unfolding storeCheck
+  store-fine = fine-else _ _ shape-fine (fine-ask (eqb (pending (b .table)) 0) 3 _ refl table-fine)
+
+-- ---- effects
+
+pub record FineEffect (f : Effect) : Type 0 where
+  pub number : (n : ℕ) → f ≡ refuse n → isQuestion n ≡ true
+
+abbrev refusalOf : ℕ → Effect → ℕ
+refusalOf k (refuse n) = n
+refusalOf k (change x w h new) = k
+
+abbrev Changes : Effect → Type 0
+Changes (refuse n) = ⊥
+Changes (change x w h new) = Unit {0}
+
+changes-fine : (x w h : ℕ) (new : State) → FineEffect (change x w h new)
+changes-fine x w h new = record { number = λ n e. absurd (subst Changes e tt) }
+
+pub fine-refuse : (q x w h : ℕ) (new : State) → Fine q → FineEffect (orRefuse q (change x w h new))
+fine-refuse zero x w h new f = changes-fine x w h new
+fine-refuse (suc q) x w h new f = record { number = λ n e. subst (λ (k : ℕ). isQuestion k ≡ true) (ap (refusalOf 0) e) (f .number q refl) }
+
+module _ (room : Room) (memory : List ℕ) (s : State) where
+  pub create-fine : Fine (createChecks s)
+  create-fine = fine-ask (ltb (length (s .domains)) 8) 9 _ refl (fine-ask (ltb (s .next) 4_294_967_295) 10 0 refl fine-none)
+
+  pub add-fine : (h first n k l : ℕ) → Fine (addChecks room memory h first n k l s)
+  add-fine h first n k l =
+      fine-ask (isLive h s) 5 _ refl
+      (fine-ask (isInnermost h s) 6 _ refl
+      (fine-ask (leb k 1 && leb l 1) 7 _ refl
+      (fine-ask (rangeOk (room .cells) first n) 8 _ refl
+      (fine-ask (not (isVia (kindNumbered k)) || parentHolds first n s) 11 _ refl
+      (fine-ask (not (isVia (kindNumbered k)) || parentSame memory first n s) 12 _ refl
+      (fine-ask (leb (liveEntries (room .cells) s + newlyHeld first n s) (room .slots)) 16 _ refl
+      (fine-ask (not (hasBody (kindNumbered k)) || leb (copiesInUse (room .cells) s + newlyHeld first n s) (room .bodies)) 17 0 refl fine-none)))))))
+
+  pub delete-fine : (m h first n : ℕ) → Fine (deleteChecks m h first n s)
+  delete-fine m h first n =
+      fine-ask (isLive h s) 5 _ refl
+      (fine-ask (rangeOk m first n) 8 _ refl
+      (fine-ask (all n (λ j. isHeld (holdingAt (s .domains) (named h s) (first + j)))) 13 _ refl
+      (fine-ask (all n (λ j. not (heldVia (holdingAt (s .domains) (suc (named h s)) (first + j))))) 14 0 refl fine-none)))
+
+  pub advance-fine : (h : ℕ) → Fine (advanceChecks room h s)
+  advance-fine h =
+      fine-ask (isLive h s) 5 _ refl
+      (fine-ask (isInnermost h s) 6 _ refl
+      (fine-ask (parentCovers (room .cells) s) 15 _ refl
+      (fine-ask (leb (copiesInUse (room .cells) s + writableCells (room .cells) s) (room .bodies)) 17 0 refl fine-none)))
+
+  pub commit-fine : (h : ℕ) → Fine (commitChecks h s)
+  commit-fine h = fine-ask (isLive h s) 5 _ refl (fine-ask (isInnermost h s) 6 0 refl fine-none)
+
+  pub restore-fine : (h : ℕ) → Fine (restoreChecks h s)
+  restore-fine h = fine-ask (isLive h s) 5 0 refl fine-none
+
+  pub look-fine : (m h c : ℕ) → Fine (lookChecks m h c s)
+  look-fine m h c = fine-ask (isLive h s) 5 _ refl (fine-ask (rangeOk m c 1) 8 0 refl fine-none)
