@@ -11,7 +11,7 @@ use Rattle.words.specs.Layout.{cellsOf, bodiesOf, slotsOf}
 use Rattle.words.specs.Scan.{all, count}
 use Rattle.words.specs.Cells.{cellBytes, sameCell}
 use Rattle.words.proofs.Scan.{by-bool, by-le, and-split, true≢, all-at, all-ext, count-ext, count-le, count-more}
-use Rattle.table.specs.Entry.{live, parent, findIn, holdsIn}
+use Rattle.table.specs.Entry.{live, parent, findIn, holdsIn, parentHas}
 use Rattle.table.specs.Marks.{has, Marked}
 use Rattle.table.proofs.Digits.{has-zero}
 use Rattle.table.proofs.Marks.{marked-holds}
@@ -27,7 +27,7 @@ use Rattle.model.specs.Holdings.{rangeOk}
 use Rattle.store.specs.Checks.{storeCheck}
 use Rattle.store.proofs.Checks.{ask-yes, ask-go, ask-stop, ask-rest, orElse-go, orElse-stop, orElse-both, store-shape, shape-facts}
 use Rattle.store.proofs.Raw.{raw-rule}
-use Rattle.add.specs.Add.{isNew, parentHas, addCheck}
+use Rattle.add.specs.Add.{isNew, addCheck}
 use Rattle.add.specs.Walking.{unheld, rangeCheck, parentCheck, roomCheck, heldCheck, backed, alike, Source, Ready}
 
 -- ---- Bools
@@ -70,7 +70,7 @@ module _ (e : ℕ) (t held : List ℕ) (m : Marked e t e held) (inner : 1 ≤ li
   count-held base n = count-ext n (unheld held (live t) base) (isNew e t base) (λ j l. held-new base j)
 
   -- and which the parent holds: no mark has depth 0, so that without a parent there are none
-  parent-told : (c : ℕ) → has (parent (live t)) (getD held c 0) ≡ parentHas e t c
+  parent-told : (c : ℕ) → has (parent (live t)) (getD held c 0) ≡ parentHas e t (live t) c
   parent-told c =
       by-le 2 (live t)
       (λ h. rw (le-leb 2 (live t) h) (marked-holds e t held m (parent (live t)) c (omega arith)))
@@ -195,7 +195,7 @@ module _ (e : ℕ) (t : List ℕ) (b new k : ℕ) where
 
 module _ (memory bodies : List ℕ) (e : ℕ) (t : List ℕ) (base n k : ℕ) where
   abbrev pub covered : ℕ → Bool
-  covered j = not (isNew e t base j) || parentHas e t (base + j)
+  covered j = not (isNew e t base j) || parentHas e t (live t) (base + j)
 
   abbrev pub agreed : ℕ → Bool
   agreed j = not (isNew e t base j) || sameCell (valueIn e t bodies (parent (live t)) (base + j)) (cellBytes memory (base + j))
@@ -216,12 +216,12 @@ module _ (memory bodies : List ℕ) (e : ℕ) (t : List ℕ) (base n k : ℕ) wh
   unfolding parentCheck
   parent-yes ne p h = sym (ask-go _ 11 _ (or-second _ _ _ (ne-eqb k 0 ne) p) ∙ ask-go _ 12 _ (or-second _ _ _ (ne-eqb k 0 ne) h))
 
-  pub parent-covers : parentCheck memory bodies e t base n k ≡ 0 → k ≡ 1 → (j : ℕ) → j < n → isNew e t base j ≡ true → parentHas e t (base + j) ≡ true
+  pub parent-covers : parentCheck memory bodies e t base n k ≡ 0 → k ≡ 1 → (j : ℕ) → j < n → isNew e t base j ≡ true → parentHas e t (live t) (base + j) ≡ true
   unfolding parentCheck
   parent-covers z q j l h =
       let y = ask-yes (eqb k 0 || all n covered) 11 (ask (eqb k 0 || all n agreed) 12 0) (omega arith) z in
       let x = all-at n covered (or-right (eqb k 0) (all n covered) y (ne-eqb k 0 (λ w. omega arith))) j l in
-      or-right (not (isNew e t base j)) (parentHas e t (base + j)) x (ap not h)
+      or-right (not (isNew e t base j)) (parentHas e t (live t) (base + j)) x (ap not h)
 
 -- the same tests over marks
 module _ (e : ℕ) (t held : List ℕ) (m : Marked e t e held) (inner : 1 ≤ live t) (memory bodies : List ℕ) (base n : ℕ) where
@@ -255,7 +255,7 @@ module _ (memory bodies t : List ℕ) (yes : storeCheck (length memory) (length 
   sources base n held m inner a j l new =
       let e : ℕ = slotsOf (length t) in
       let fresh : isNew e t base j ≡ true = sym (held-new e t held m inner base j) ∙ new in
-      let has = or-right (not (isNew e t base j)) (parentHas e t (base + j)) (all-at n (covered memory bodies e t base n 0) a j l) (ap not fresh) in
+      let has = or-right (not (isNew e t base j)) (parentHas e t (live t) (base + j)) (all-at n (covered memory bodies e t base n 0) a j l) (ap not fresh) in
       let s = and-split (leb 2 (live t)) (holdsIn e t (parent (live t)) (base + j)) has in
       let two = leb-true 2 (live t) (s .0) in
       source-of (parent (live t)) (base + j) (omega arith) (holds-found e t (parent (live t)) (base + j) (s .1))

@@ -15,7 +15,7 @@ use Rattle.words.specs.Layout.{pairsAt, maxCells}
 use Rattle.words.specs.Stores.{stores}
 use Rattle.words.specs.Cells.{cellBytes}
 use Rattle.words.proofs.Scan.{by-bool, and-split, and-join}
-use Rattle.table.specs.Entry.{live, word1, word2, depthOf, writableOf, cellOf, parent, names, findIn, holdsIn, entryWord}
+use Rattle.table.specs.Entry.{live, word1, word2, depthOf, writableOf, cellOf, parent, names, findIn, holdsIn, entryWord, parentHas}
 use Rattle.table.specs.Changes.{put, newFirst, entryChanges}
 use Rattle.table.proofs.Entry.{names-make, holds-true}
 use Rattle.table.proofs.Made.{Made, entry-made}
@@ -27,7 +27,6 @@ use Rattle.model.specs.Holdings.{holdingAt, inRange, labelNumbered, kindNumbere
 use Rattle.store.specs.State.{labelOf, heldIn, stateIn}
 use Rattle.store.proofs.Domains.{held-none, held-some, innermost-state}
 use Rattle.store.proofs.Becoming.{atSlot, told, Stays, Value, came, took, rests, Full, Fate, keeps, raises, fills, Becomes, becomes-rule, becomes-held}
-use Rattle.add.specs.Add.{parentHas}
 use Rattle.add.specs.Walking.{rises, raiseChange}
 use Rattle.add.proofs.Choices.{Taking, chosen, range-high, rises-facts}
 use Rattle.add.proofs.Numbers.{outer-value}
@@ -76,7 +75,7 @@ module _ (m e b : ℕ) (t : List ℕ) (ok : Rule m e b t) (long : pairsAt e ≤ 
         let one = eqb-true k 1 z in
         let out = covered one i h p in
         let deep = out .0 in
-        let has : parentHas e t c ≡ true = and-join (leb 2 (live t)) (holdsIn e t (parent (live t)) c) (le-leb 2 (live t) deep) (holds-true e t (parent (live t)) c (out .1)) in
+        let has : parentHas e t (live t) c ≡ true = and-join (leb 2 (live t)) (holdsIn e t (parent (live t)) c) (le-leb 2 (live t) deep) (holds-true e t (parent (live t)) c (out .1)) in
         let same : held (parent (depthOf (word i))) (cellOf (word i)) ≡ heldIn e t old (parent (live t)) c =
         rw (x .depth, x .cell, ne-eqb (parent (live t)) (live t) (λ q. omega arith)) in
         rests (x .kind ∙ one) (choice .bodiless one i h p) (rw (x .depth) deep) _ (same ∙ held-some e t old (parent (live t)) c (out .1))

@@ -11,7 +11,7 @@ use lib.ListN.{length}
 use Rattle.words.specs.Layout.{cellsOf, bodiesOf, slotsOf}
 use Rattle.words.specs.Scan.{count}
 use Rattle.words.proofs.Scan.{by-bool, by-le, and-split, true≢, count-ext, count-le}
-use Rattle.table.specs.Entry.{live, word1, writableOf, cellOf, parent, findIn, holdsIn}
+use Rattle.table.specs.Entry.{live, word1, writableOf, cellOf, parent, findIn, holdsIn, parentHas}
 use Rattle.table.specs.Changes.{isChanged}
 use Rattle.table.proofs.Entry.{find-hit, holds-found}
 use Rattle.table.proofs.Rule.{Rule}
@@ -23,7 +23,7 @@ use Rattle.store.specs.State.{heldIn, stateIn}
 use Rattle.store.proofs.Domains.{state-holding, state-zero, domains-count, held-holds, held-writable}
 use Rattle.store.proofs.InUse.{count-none}
 use Rattle.store.proofs.Raw.{raw-rule}
-use Rattle.add.specs.Add.{isNew, parentHas}
+use Rattle.add.specs.Add.{isNew}
 use Rattle.add.specs.Walking.{rises, raiseChange, Ready}
 use Rattle.add.specs.Choice.{Choice, wordsWith, bytesWith}
 use Rattle.add.proofs.Choices.{Taking, chosen, rises-free}
@@ -56,7 +56,7 @@ module _ (e : ℕ) (t bodies : List ℕ) (inner : 1 ≤ live t) where
   outer-at : (c : ℕ) → 2 ≤ live t → holdingAt (stateIn e t bodies .domains) (length (stateIn e t bodies .domains) - 1) c ≡ heldIn e t bodies (parent (live t)) c
   outer-at c deep = ap (λ (d : ℕ). holdingAt (stateIn e t bodies .domains) (d - 1) c) (domains-count e t bodies) ∙ state-holding e t bodies (parent (live t)) c (omega arith) (omega arith)
 
-  pub outer-held : (c : ℕ) → isHeld (holdingAt (stateIn e t bodies .domains) (length (stateIn e t bodies .domains) - 1) c) ≡ parentHas e t c
+  pub outer-held : (c : ℕ) → isHeld (holdingAt (stateIn e t bodies .domains) (length (stateIn e t bodies .domains) - 1) c) ≡ parentHas e t (live t) c
   outer-held c =
       by-le 2 (live t)
       (λ deep. ap isHeld (outer-at c deep) ∙ held-holds e t bodies (parent (live t)) c ∙ rw (le-leb 2 (live t) deep))
@@ -64,7 +64,7 @@ module _ (e : ℕ) (t bodies : List ℕ) (inner : 1 ≤ live t) where
       let z : length (stateIn e t bodies .domains) - 1 ≡ 0 = omega (arith, domains-count e t bodies) in
       ap (λ (d : ℕ). isHeld (holdingAt (stateIn e t bodies .domains) d c)) z ∙ ap isHeld (state-zero e t bodies c) ∙ rw (lt-leb 2 (live t) flat))
 
-  pub outer-value : (c : ℕ) (v : List ℕ) → parentHas e t c ≡ true
+  pub outer-value : (c : ℕ) (v : List ℕ) → parentHas e t (live t) c ≡ true
       → valueOr v (holdingAt (stateIn e t bodies .domains) (length (stateIn e t bodies .domains) - 1) c) ≡ valueIn e t bodies (parent (live t)) c
   unfolding heldIn
   outer-value c v h =

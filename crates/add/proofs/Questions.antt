@@ -10,7 +10,7 @@ use lib.ListN.{length}
 use Rattle.words.specs.Scan.{all, count}
 use Rattle.words.specs.Cells.{cellBytes, sameCell}
 use Rattle.words.proofs.Scan.{by-bool, and-split, all-at, all-ext}
-use Rattle.table.specs.Entry.{live, parent, holdsIn}
+use Rattle.table.specs.Entry.{live, parent, holdsIn, parentHas}
 use Rattle.table.proofs.Rule.{Rule}
 use Rattle.search.specs.Search.{valueIn}
 use Rattle.search.specs.Domain.{depthNamed}
@@ -21,7 +21,7 @@ use Rattle.model.specs.Holdings.{Room, holdingAt, isHeld, isVia, hasBody, value
 use Rattle.store.specs.State.{stateIn}
 use Rattle.store.proofs.Domains.{state-named, domains-count}
 use Rattle.store.proofs.InUse.{entries-in-use, copies-in-use}
-use Rattle.add.specs.Add.{isNew, parentHas}
+use Rattle.add.specs.Add.{isNew}
 use Rattle.add.proofs.Asking.{or-right, twice}
 use Rattle.add.proofs.Numbers.{inner-held, outer-held, outer-value, newly-is}
 
@@ -44,7 +44,7 @@ module _ (memory : List ℕ) (e : ℕ) (t bodies : List ℕ) (h base n k l m b :
       (ask (eqb (depthNamed t h) (live t)) 6
       (ask (leb k 1 && leb l 1) 7
       (ask (rangeOk m base n) 8
-      (ask (eqb k 0 || all n (λ j. not (isNew e t base j) || parentHas e t (base + j))) 11
+      (ask (eqb k 0 || all n (λ j. not (isNew e t base j) || parentHas e t (live t) (base + j))) 11
       (ask (eqb k 0 || all n (λ j. not (isNew e t base j) || sameCell (valueIn e t bodies (parent (live t)) (base + j)) (cellBytes memory (base + j)))) 12
       (ask (leb (usedSlots e t + count n (isNew e t base)) e) 16
       (ask (eqb k 1 || leb (copies e t + count n (isNew e t base)) b) 17 0)))))))
@@ -60,7 +60,7 @@ module _ (memory : List ℕ) (e : ℕ) (t bodies : List ℕ) (h base n k l m b :
 
   module _ (inner : 1 ≤ live t) (small : k ≤ 1) where
     abbrev covered : ℕ → Bool
-    covered j = not (isNew e t base j) || parentHas e t (base + j)
+    covered j = not (isNew e t base j) || parentHas e t (live t) (base + j)
 
     covered-at : (j : ℕ) → covered j ≡ (isHeld (holdingAt (s .domains) (length (s .domains)) (base + j)) || isHeld (holdingAt (s .domains) (length (s .domains) - 1) (base + j)))
     covered-at j = rw (inner-held e t bodies inner (base + j), outer-held e t bodies inner (base + j), twice (holdsIn e t (live t) (base + j)))
@@ -78,7 +78,7 @@ module _ (memory : List ℕ) (e : ℕ) (t bodies : List ℕ) (h base n k l m b :
         (by-bool (holdsIn e t (live t) (base + j))
         (λ p. rw p)
         (λ p.
-        let has : parentHas e t (base + j) ≡ true = or-right (not (isNew e t base j)) (parentHas e t (base + j)) c (twice (holdsIn e t (live t) (base + j)) ∙ p) in
+        let has : parentHas e t (live t) (base + j) ≡ true = or-right (not (isNew e t base j)) (parentHas e t (live t) (base + j)) c (twice (holdsIn e t (live t) (base + j)) ∙ p) in
         rw (p, outer-value e t bodies inner (base + j) (cellBytes memory (base + j)) has)))
 
     same-12 : (eqb k 0 || all n covered) ≡ true

@@ -8,38 +8,32 @@ use Rattle.words.specs.Layout.{cellsOf, bodiesOf, slotsOf, pairsAt}
 use Rattle.words.specs.Scan.{all, count, nth}
 use Rattle.words.specs.Cells.{cellBytes, sameCell, cellPlan}
 use Rattle.words.specs.Stores.{Store, gather}
-use Rattle.table.specs.Entry.{live, word1, word2, depthOf, cellOf, writableOf, parent, holdsIn, entryWord, writable}
+use Rattle.table.specs.Entry.{word1, word2, depthOf, cellOf, writableOf, entryWord, writable, innermost, parent, holdsIn, parentHas}
 use Rattle.table.specs.Changes.{Change, keep, put, entryChanges}
 use Rattle.search.specs.Search.{valueIn}
-use Rattle.search.specs.Domain.{depthNamed}
 use Rattle.search.specs.Free.{slotFree, bodyFree, usedSlots, copies}
 use Rattle.model.specs.Answer.{ask, orElse, View}
-use Rattle.model.specs.Holdings.{rangeOk, inRange, addEffect}
+use Rattle.model.specs.Holdings.{askRange, inRange, addEffect}
 use Rattle.store.specs.Outcome.{Buffers, Call, perform, unless, changePlan}
-use Rattle.store.specs.Checks.{storeCheck}
+use Rattle.store.specs.Checks.{storeCheck, askInnermostIn}
 use Rattle.store.specs.Means.{callMeans, roomOf}
 
 -- is the j-th cell of the range newly held?
 abbrev pub isNew : ℕ → List ℕ → (first j : ℕ) → Bool
-isNew e t first j = not (holdsIn e t (live t) (first + j))
-
--- does the parent, if there is one, hold cell c?
-abbrev pub parentHas : ℕ → List ℕ → ℕ → Bool
-parentHas e t c = leb 2 (live t) && holdsIn e t (parent (live t)) c
+isNew e t first j = not (holdsIn e t (innermost t) (first + j))
 
 -- questions 1 to 8, 11, 12, 16 and 17
 unfoldable pub addCheck : List ℕ → List ℕ → List ℕ → (h first n k l : ℕ) → ℕ
 addCheck memory bodies t h first n k l =
     orElse (storeCheck (length memory) (length bodies) t)
-    (ask (ltb 0 (depthNamed t h)) 5
-    (ask (eqb (depthNamed t h) (live t)) 6
+    (askInnermostIn t h
     (ask (leb k 1 && leb l 1) 7
-    (ask (rangeOk (cellsOf (length memory)) first n) 8
-    (ask (eqb k 0 || all n (λ j. not (isNew (slotsOf (length t)) t first j) || parentHas (slotsOf (length t)) t (first + j))) 11
+    (askRange (cellsOf (length memory)) first n
+    (ask (eqb k 0 || all n (λ j. not (isNew (slotsOf (length t)) t first j) || parentHas (slotsOf (length t)) t (innermost t) (first + j))) 11
     (ask (eqb k 0 || all n (λ j. not (isNew (slotsOf (length t)) t first j)
-    || sameCell (valueIn (slotsOf (length t)) t bodies (parent (live t)) (first + j)) (cellBytes memory (first + j)))) 12
+    || sameCell (valueIn (slotsOf (length t)) t bodies (parent (innermost t)) (first + j)) (cellBytes memory (first + j)))) 12
     (ask (leb (usedSlots (slotsOf (length t)) t + count n (isNew (slotsOf (length t)) t first)) (slotsOf (length t))) 16
-    (ask (eqb k 1 || leb (copies (slotsOf (length t)) t + count n (isNew (slotsOf (length t)) t first)) (bodiesOf (length bodies))) 17 0))))))))
+    (ask (eqb k 1 || leb (copies (slotsOf (length t)) t + count n (isNew (slotsOf (length t)) t first)) (bodiesOf (length bodies))) 17 0)))))))
 
 -- the r-th new cell; the body that it takes, the lowest free bodies first, none for via parent
 abbrev pub newCell : ℕ → List ℕ → (first n r : ℕ) → ℕ
@@ -53,8 +47,8 @@ unfoldable pub addChange : (e b : ℕ) → List ℕ → (first n k l i : ℕ) �
 addChange e b t first n k l i =
     cond (slotFree e t i)
     (cond (ltb (count i (slotFree e t)) (count n (isNew e t first)))
-    (put (entryWord (live t) k l (newCell e t first n (count i (slotFree e t)))) (newBody e b t k (count i (slotFree e t)))) keep)
-    (cond (eqb (depthOf (word1 e t i)) (live t) && (inRange first n (cellOf (word1 e t i)) && (eqb l 1 && eqb (writableOf (word1 e t i)) 0)))
+    (put (entryWord (innermost t) k l (newCell e t first n (count i (slotFree e t)))) (newBody e b t k (count i (slotFree e t)))) keep)
+    (cond (eqb (depthOf (word1 e t i)) (innermost t) && (inRange first n (cellOf (word1 e t i)) && (eqb l 1 && eqb (writableOf (word1 e t i)) 0)))
     (put (writable (word1 e t i)) (word2 e t i)) keep)
 
 unfoldable pub addWords : (b : ℕ) → List ℕ → (first n k l : ℕ) → List Store

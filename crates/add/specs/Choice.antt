@@ -13,7 +13,7 @@ use Rattle.words.specs.Scan as scan
 use Rattle.words.specs.Scan.{count, nth}
 use Rattle.words.specs.Cells.{cellPlan}
 use Rattle.words.specs.Stores.{Store, gather}
-use Rattle.table.specs.Entry.{live, word1, word2, entryWord}
+use Rattle.table.specs.Entry.{word1, word2, entryWord, innermost}
 use Rattle.table.specs.Changes.{Change, put, entryChanges}
 use Rattle.search.specs.Free.{slotFree, bodyFree, TakesFree}
 use Rattle.store.specs.Outcome.{Buffers, Call, perform, unless, changePlan}
@@ -40,8 +40,8 @@ takerOf e t first n slot i = scan.first n (λ j. isNew e t first j && eqb (slot 
 unfoldable pub changeWith : ℕ → List ℕ → (first n k l : ℕ) (slot body : ℕ → ℕ) → ℕ → Change
 changeWith e t first n k l slot body i =
     cond (ltb (takerOf e t first n slot i) n)
-    (put (entryWord (live t) k l (first + takerOf e t first n slot i)) (cond (eqb k 0) (body (takerOf e t first n slot i)) 0))
-    (raiseChange (live t) first n l (word1 e t i) (word2 e t i))
+    (put (entryWord (innermost t) k l (first + takerOf e t first n slot i)) (cond (eqb k 0) (body (takerOf e t first n slot i)) 0))
+    (raiseChange (innermost t) first n l (word1 e t i) (word2 e t i))
 
 abbrev pub wordsWith : List ℕ → (first n k l : ℕ) (slot body : ℕ → ℕ) → List Store
 wordsWith t first n k l slot body = entryChanges (slotsOf (length t)) (changeWith (slotsOf (length t)) t first n k l slot body)

@@ -12,18 +12,17 @@ use Rattle.words.specs.Scan.{all, count, nth}
 use Rattle.words.specs.Cells.{cellBytes, sameCell, cellPlan}
 use Rattle.words.specs.Stores.{Store, stores, gather}
 use Rattle.words.specs.Journal.{journal}
-use Rattle.table.specs.Entry.{live, word1, word2, depthOf, cellOf, writableOf, parent, entryWord, writable}
+use Rattle.table.specs.Entry.{live, word1, word2, depthOf, cellOf, writableOf, entryWord, writable, innermost, parent, parentHas}
 use Rattle.table.specs.Marks.{has, Marked}
 use Rattle.table.specs.Changes.{Change, keep, put, entryChanges}
 use Rattle.search.specs.Search.{sourceIn, valueIn}
-use Rattle.search.specs.Domain.{depthNamed}
 use Rattle.search.specs.Free.{slotFree, usedSlots, copies, unmarkedFrom}
 use Rattle.changes.specs.Staged.{Stages}
 use Rattle.model.specs.Answer.{ask, orElse}
-use Rattle.model.specs.Holdings.{rangeOk, inRange}
-use Rattle.store.specs.Checks.{storeCheck}
+use Rattle.model.specs.Holdings.{askRange, inRange}
+use Rattle.store.specs.Checks.{storeCheck, askInnermostIn}
 use Rattle.store.specs.Outcome.{Buffers, Call}
-use Rattle.add.specs.Add.{isNew, parentHas, addBytes, addWords, addCall}
+use Rattle.add.specs.Add.{isNew, addBytes, addWords, addCall}
 use Rattle.add.specs.declared.Cursors.{Cursors}
 use Rattle.add.specs.declared.Range.{Range}
 
@@ -57,14 +56,13 @@ nextUnheld held d base n at = at + scan.first (n - at) (λ k. unheld held d base
 -- 5 to 8
 unfoldable pub rangeCheck : List ℕ → (m h base n k l : ℕ) → ℕ
 rangeCheck t m h base n k l =
-    ask (ltb 0 (depthNamed t h)) 5
-    (ask (eqb (depthNamed t h) (live t)) 6 (ask (leb k 1 && leb l 1) 7 (ask (rangeOk m base n) 8 0)))
+    askInnermostIn t h (ask (leb k 1 && leb l 1) 7 (askRange m base n 0))
 
 -- 11 and 12
 unfoldable pub parentCheck : List ℕ → List ℕ → ℕ → List ℕ → (base n k : ℕ) → ℕ
 parentCheck memory bodies e t base n k =
-    ask (eqb k 0 || all n (λ j. not (isNew e t base j) || parentHas e t (base + j))) 11
-    (ask (eqb k 0 || all n (λ j. not (isNew e t base j) || sameCell (valueIn e t bodies (parent (live t)) (base + j)) (cellBytes memory (base + j)))) 12 0)
+    ask (eqb k 0 || all n (λ j. not (isNew e t base j) || parentHas e t (innermost t) (base + j))) 11
+    (ask (eqb k 0 || all n (λ j. not (isNew e t base j) || sameCell (valueIn e t bodies (parent (innermost t)) (base + j)) (cellBytes memory (base + j)))) 12 0)
 
 -- 16 and 17, for so many new cells
 unfoldable pub roomCheck : ℕ → List ℕ → (b new k : ℕ) → ℕ
@@ -112,10 +110,10 @@ raiseChange d base n l w v = cond (rises d base n l w) (put (writable w) v) keep
 unfoldable pub listChange : List ℕ → List ℕ → (e b : ℕ) → List ℕ → Range → ℕ → Change
 listChange held used e b t r i =
     cond (slotFree e t i)
-    (cond (ltb (count i (slotFree e t)) (newIn held (live t) r))
-    (put (entryWord (live t) (r .kind) (r .label) (r .first + nth (r .count) (unheld held (live t) (r .first)) (count i (slotFree e t))))
+    (cond (ltb (count i (slotFree e t)) (newIn held (innermost t) r))
+    (put (entryWord (innermost t) (r .kind) (r .label) (r .first + nth (r .count) (unheld held (innermost t) (r .first)) (count i (slotFree e t))))
     (cond (eqb (r .kind) 0) (nth b (spare used) (count i (slotFree e t))) 0)) keep)
-    (raiseChange (live t) (r .first) (r .count) (r .label) (word1 e t i) (word2 e t i))
+    (raiseChange (innermost t) (r .first) (r .count) (r .label) (word1 e t i) (word2 e t i))
 
 -- ---- the walk over the entries
 
@@ -130,14 +128,14 @@ pub record Walkable (held used : List ℕ) (e b : ℕ) (t : List ℕ) (r : Range
   pub few : r .first + r .count ≤ maxCells
   pub bodies : b ≤ length used
   pub places : b ≤ maxBodies
-  pub enough : r .kind ≡ 0 → newIn held (live t) r ≤ count b (spare used)
+  pub enough : r .kind ≡ 0 → newIn held (innermost t) r ≤ count b (spare used)
 
 -- i entries are passed: as many cells and bodies are used as free slots are passed, while there are new cells
 pub record Stands (held used : List ℕ) (e b : ℕ) (t : List ℕ) (r : Range) (i : ℕ) (c : Cursors) : Type 0 where
   pub cell : c .at ≤ r .count
-  pub cells : count (c .at) (unheld held (live t) (r .first)) ≡ min (count i (slotFree e t)) (newIn held (live t) r)
+  pub cells : count (c .at) (unheld held (innermost t) (r .first)) ≡ min (count i (slotFree e t)) (newIn held (innermost t) r)
   pub body : r .kind ≡ 0 → c .from ≤ b
-  pub bodies : r .kind ≡ 0 → count (c .from) (spare used) ≡ min (count i (slotFree e t)) (newIn held (live t) r)
+  pub bodies : r .kind ≡ 0 → count (c .from) (spare used) ≡ min (count i (slotFree e t)) (newIn held (innermost t) r)
 
 -- and their changes are staged
 pub record Walked (held used : List ℕ) (e b : ℕ) (t : List ℕ) (r : Range) (i : ℕ) (c : Cursors) (words bits : List ℕ) : Type 0 where
@@ -193,6 +191,6 @@ pub record Ready (memory bodies t : List ℕ) (base n k l : ℕ) : Type 0 where
   pub label : l ≤ 1
   pub some : 1 ≤ n
   pub range : base + n ≤ cellsOf (length memory)
-  pub rests : k ≡ 1 → (j : ℕ) → j < n → isNew (slotsOf (length t)) t base j ≡ true → parentHas (slotsOf (length t)) t (base + j) ≡ true
+  pub rests : k ≡ 1 → (j : ℕ) → j < n → isNew (slotsOf (length t)) t base j ≡ true → parentHas (slotsOf (length t)) t (innermost t) (base + j) ≡ true
   pub slots : usedSlots (slotsOf (length t)) t + count n (isNew (slotsOf (length t)) t base) ≤ slotsOf (length t)
   pub places : k ≡ 0 → copies (slotsOf (length t)) t + count n (isNew (slotsOf (length t)) t base) ≤ bodiesOf (length bodies)

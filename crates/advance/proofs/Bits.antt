@@ -21,7 +21,8 @@ use Rattle.table.proofs.Marks.{split}
 use Rattle.search.proofs.From.{count-stop}
 use Rattle.changes.specs.Staged.{bitAt, isSet}
 use Rattle.changes.proofs.Bits.{bit-none, bit-kept, set-at, more-here, more-other}
-use Rattle.advance.specs.Notes.{turns, groupOf, firstCell, NoBits, markTurning, Turned, Ends}
+use Rattle.advance.specs.Advance.{turns}
+use Rattle.advance.specs.Notes.{groupOf, firstCell, NoBits, markTurning, Turned, Ends}
 
 -- ---- the bits of one number, counted
 

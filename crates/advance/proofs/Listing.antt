@@ -23,7 +23,8 @@ use Rattle.table.specs.Changes.{keep, put}
 use Rattle.table.proofs.Marks.{split}
 use Rattle.search.specs.Free.{unmarkedFrom}
 use Rattle.changes.specs.Staged.{isSet, but}
-use Rattle.advance.specs.Notes.{turns, OwnBits, listSlot, Listed, rankOf, InOrder, unmarked, changeTo}
+use Rattle.advance.specs.Advance.{turns}
+use Rattle.advance.specs.Notes.{OwnBits, listSlot, Listed, rankOf, InOrder, unmarked, changeTo}
 
 -- ---- the list is made
 

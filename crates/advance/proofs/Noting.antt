@@ -26,8 +26,8 @@ use Rattle.search.proofs.Counts.{count-entries}
 use Rattle.search.proofs.Free.{body-used, body-user}
 use Rattle.changes.specs.Staged.{isSet}
 use Rattle.model.specs.Answer.{ask}
-use Rattle.advance.specs.Advance.{advances, bodyFor, advanceChange, advanceBytes}
-use Rattle.advance.specs.Notes.{FreeFrom, turns, entriesCheck, Turned, OwnBits, Listed, rankOf, InOrder, unmarked, changeTo}
+use Rattle.advance.specs.Advance.{advances, bodyFor, advanceChange, advanceBytes, turns}
+use Rattle.advance.specs.Notes.{FreeFrom, entriesCheck, Turned, OwnBits, Listed, rankOf, InOrder, unmarked, changeTo}
 use Rattle.advance.specs.Choice.{turnsAt}
 use Rattle.advance.proofs.Turning.{advances-of, advances-cell}
 use Rattle.advance.proofs.Choosing.{enough}

@@ -2,43 +2,46 @@
 use Prim.Native.Nat.{ℕ, _+_}
 use mathlib.Core.Bool.{Bool, cond, not, _&&_, _||_}
 use mathlib.Core.List.{List, []}
-use lib.Dec.{ltb, leb, eqb}
+use lib.Dec.{leb, eqb}
 use lib.ListN.{length}
 use Rattle.words.specs.Layout.{cellsOf, bodiesOf, slotsOf, pairsAt}
 use Rattle.words.specs.Scan.{all, count, nth}
 use Rattle.words.specs.Cells.{cellPlan}
 use Rattle.words.specs.Stores.{Store, gather}
-use Rattle.table.specs.Entry.{live, word1, depthOf, cellOf, writableOf, parent, findIn, holdsIn, asCopy}
+use Rattle.table.specs.Entry.{word1, depthOf, cellOf, writableOf, asCopy, innermost, parent, isOutermost, holdsIn, writesIn}
 use Rattle.table.specs.Changes.{Change, keep, put, entryChanges}
-use Rattle.search.specs.Domain.{depthNamed}
 use Rattle.search.specs.Free.{bodyFree, copies}
 use Rattle.model.specs.Answer.{ask, orElse, View}
 use Rattle.model.specs.Holdings.{advanceEffect}
 use Rattle.store.specs.Outcome.{Buffers, Call, perform, unless, changePlan}
-use Rattle.store.specs.Checks.{storeCheck}
+use Rattle.store.specs.Checks.{storeCheck, askInnermostIn}
 use Rattle.store.specs.Means.{callMeans, roomOf}
 
 -- does the innermost domain hold cell c read-write?
 abbrev pub advances : ℕ → List ℕ → ℕ → Bool
-advances e t c = holdsIn e t (live t) c && eqb (writableOf (word1 e t (findIn e t (live t) c))) 1
+advances e t c = writesIn e t (innermost t) c
 
 -- questions 1 to 6, 15 and 17
 unfoldable pub advanceCheck : (memory bodies : ℕ) → List ℕ → (h : ℕ) → ℕ
 advanceCheck memory bodies t h =
     orElse (storeCheck memory bodies t)
-    (ask (ltb 0 (depthNamed t h)) 5
-    (ask (eqb (depthNamed t h) (live t)) 6
-    (ask (leb (live t) 1 || all (cellsOf memory) (λ c. not (advances (slotsOf (length t)) t c) || holdsIn (slotsOf (length t)) t (parent (live t)) c)) 15
-    (ask (leb (copies (slotsOf (length t)) t + count (cellsOf memory) (advances (slotsOf (length t)) t)) (bodiesOf bodies)) 17 0))))
+    (askInnermostIn t h
+    (ask (isOutermost (innermost t)
+    || all (cellsOf memory) (λ c. not (advances (slotsOf (length t)) t c) || holdsIn (slotsOf (length t)) t (parent (innermost t)) c)) 15
+    (ask (leb (copies (slotsOf (length t)) t + count (cellsOf memory) (advances (slotsOf (length t)) t)) (bodiesOf bodies)) 17 0)))
 
 -- the body that the new copy of cell c takes: the lowest free bodies, in the order of the cells
 unfoldable pub bodyFor : (e b : ℕ) → List ℕ → ℕ → ℕ
 bodyFor e b t c = nth b (bodyFree e t) (count c (advances e t))
 
--- an innermost read-write entry becomes a copy with a new body
+-- an entry with first word w advances where d is the innermost depth: it is of that depth and read-write
+abbrev pub turns : (d w : ℕ) → Bool
+turns d w = eqb (depthOf w) d && eqb (writableOf w) 1
+
+-- such an entry becomes a copy with a new body
 unfoldable pub advanceChange : (e b : ℕ) → List ℕ → ℕ → Change
 advanceChange e b t i =
-    cond (eqb (depthOf (word1 e t i)) (live t) && eqb (writableOf (word1 e t i)) 1)
+    cond (turns (innermost t) (word1 e t i))
     (put (asCopy (word1 e t i)) (bodyFor e b t (cellOf (word1 e t i)))) keep
 
 unfoldable pub advanceWords : (b : ℕ) → List ℕ → List Store

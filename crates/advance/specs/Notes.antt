@@ -8,7 +8,7 @@ use lib.Dec.{leb, ltb, eqb}
 use lib.ListN.{length, getD, set}
 use Rattle.words.specs.Layout.{cellsOf, bodiesOf, slotsOf, pairsAt}
 use Rattle.words.specs.Scan.{all, count, nth}
-use Rattle.table.specs.Entry.{live, word1, word2, parent, holdsIn, depthOf, cellOf, writableOf, asCopy}
+use Rattle.table.specs.Entry.{live, word1, word2, cellOf, asCopy, innermost, parent, isOutermost, holdsIn}
 use Rattle.table.specs.Marks.{Marks, IsCopy, cellIn}
 use Rattle.table.specs.Changes.{Change, keep, put}
 use Rattle.search.specs.Free.{copies}
@@ -16,21 +16,17 @@ use Rattle.changes.specs.Staged.{withBit, isSet}
 use Rattle.model.specs.Answer.{ask}
 use Rattle.store.specs.Outcome.{Buffers, Call, perform, changePlan}
 use Rattle.store.specs.Checks.{storeCheck}
-use Rattle.advance.specs.Advance.{advances, advanceBytes, advanceWords}
+use Rattle.advance.specs.Advance.{advances, turns, advanceBytes, advanceWords}
 
 -- the entries from the n-th on are free
 abbrev pub FreeFrom : ℕ → List ℕ → ℕ → Type 0
 FreeFrom e t n = (i : ℕ) → n ≤ i → i < e → word1 e t i ≡ 0
 
--- an entry with first word w advances where n domains are live: it is innermost and read-write
-abbrev pub turns : (n w : ℕ) → Bool
-turns n w = eqb (depthOf w) n && eqb (writableOf w) 1
-
 -- questions 15 and 17, asked of e entries, for b bodies
 abbrev pub entriesCheck : (e b : ℕ) → List ℕ → ℕ
 entriesCheck e b t =
-    ask (leb (live t) 1 || all e (λ i. not (turns (live t) (word1 e t i)) || holdsIn e t (parent (live t)) (cellOf (word1 e t i)))) 15
-    (ask (leb (copies e t + count e (λ i. turns (live t) (word1 e t i))) b) 17 0)
+    ask (isOutermost (innermost t) || all e (λ i. not (turns (innermost t) (word1 e t i)) || holdsIn e t (parent (innermost t)) (cellOf (word1 e t i)))) 15
+    (ask (leb (copies e t + count e (λ i. turns (innermost t) (word1 e t i))) b) 17 0)
 
 -- ---- which cells advance: a group is 64 cells, and has a number whose bits are theirs
 
@@ -99,9 +95,9 @@ rankOf e t i = count (cellIn e t i) (advances e t)
 -- the list has the n entries that advance, each at the rank of its cell
 pub record InOrder (e : ℕ) (t : List ℕ) (n : ℕ) (places : List ℕ) : Type 0 where
   pub slot : (r : ℕ) → r < n → getD places r 0 < e
-  pub goes : (r : ℕ) → r < n → turns (live t) (word1 e t (getD places r 0)) ≡ true
+  pub goes : (r : ℕ) → r < n → turns (innermost t) (word1 e t (getD places r 0)) ≡ true
   pub rank : (r : ℕ) → r < n → rankOf e t (getD places r 0) ≡ r
-  pub place : (i : ℕ) → i < e → turns (live t) (word1 e t i) ≡ true → getD places (rankOf e t i) 0 ≡ i
+  pub place : (i : ℕ) → i < e → turns (innermost t) (word1 e t i) ≡ true → getD places (rankOf e t i) 0 ≡ i
 
 -- ---- what is staged
 
@@ -112,4 +108,4 @@ unmarked used k = not (eqb (getD used k 0) 1)
 -- the change of entry i once the first r entries of the list are staged: of b bodies, each takes the lowest unmarked one that is left
 unfoldable pub changeTo : (e b : ℕ) → (t used : List ℕ) → (r i : ℕ) → Change
 changeTo e b t used r i =
-    cond (turns (live t) (word1 e t i) && ltb (rankOf e t i) r) (put (asCopy (word1 e t i)) (nth b (unmarked used) (rankOf e t i))) keep
+    cond (turns (innermost t) (word1 e t i) && ltb (rankOf e t i) r) (put (asCopy (word1 e t i)) (nth b (unmarked used) (rankOf e t i))) keep

@@ -51,8 +51,8 @@ ghost use Rattle.search.specs.Free.{copies};
 ghost use Rattle.changes.specs.Staged.{isSet, Restaged, Stages};
 ghost use Rattle.store.specs.Outcome.{buffers, report, leaves, outcome};
 ghost use Rattle.store.specs.Means.{seen};
-ghost use Rattle.advance.specs.Advance.{advances, advanceCheck, advanceCall, advanceMeans};
-ghost use Rattle.advance.specs.Notes.{FreeFrom, turns, entriesCheck, groupOf, NoBits, markTurning, Turned, CellBits, Ready, performed, Ends, OwnBits, listSlot, Listed, InOrder, unmarked, changeTo};
+ghost use Rattle.advance.specs.Advance.{advances, advanceCheck, advanceCall, advanceMeans, turns};
+ghost use Rattle.advance.specs.Notes.{FreeFrom, entriesCheck, groupOf, NoBits, markTurning, Turned, CellBits, Ready, performed, Ends, OwnBits, listSlot, Listed, InOrder, unmarked, changeTo};
 
 // ---- the entries in use
 

@@ -10,7 +10,7 @@ use lib.Dec.{leb, eqb}
 use lib.ListN.{length}
 use Rattle.words.specs.Scan.{count}
 use Rattle.words.proofs.Scan.{by-bool, by-le, and-split, count-ext}
-use Rattle.table.specs.Entry.{live, word1, depthOf, cellOf, writableOf, parent, findIn, holdsIn}
+use Rattle.table.specs.Entry.{live, word1, depthOf, cellOf, writableOf, parent, findIn, holdsIn, writesIn, parentHas}
 use Rattle.table.specs.Changes.{isChanged}
 use Rattle.table.proofs.Entry.{find-hit, holds-found}
 use Rattle.table.proofs.Rule.{Rule}
@@ -20,7 +20,7 @@ use Rattle.model.specs.Holdings.{holdingAt, isHeld, heldWritable, heldReadOnly,
 use Rattle.store.specs.State.{heldIn, stateIn}
 use Rattle.store.proofs.InUse.{count-none}
 use Rattle.store.proofs.Domains.{state-holding, state-zero, domains-count, held-holds, held-writable}
-use Rattle.commit.specs.Commit.{holdsWritable, parentHas, raises, commitChange}
+use Rattle.commit.specs.Commit.{raises, commitChange}
 
 -- of two tests that no number passes both
 pub count-either : (n : ℕ) (f g : ℕ → Bool) → ((k : ℕ) → k < n → f k ≡ true → g k ≡ true → ⊥) → count n (λ k. f k || g k) ≡ count n f + count n g
@@ -48,10 +48,10 @@ module _ (e : ℕ) (t : List ℕ) (d : ℕ) where
 
   -- read-only, of a cell that the innermost domain holds read-write
   abbrev stale : ℕ → Bool
-  stale w = eqb (writableOf w) 0 && holdsWritable e t d (cellOf w)
+  stale w = eqb (writableOf w) 0 && writesIn e t d (cellOf w)
 
   abbrev rising : ℕ → Bool
-  rising i = raises d (word1 e t i) (holdsWritable e t d (cellOf (word1 e t i)))
+  rising i = raises d (word1 e t i) (writesIn e t d (cellOf (word1 e t i)))
 
   changed-is : (i : ℕ) → isChanged (commitChange e t d i) ≡ (ofInner i || rising i)
   unfolding commitChange

@@ -7,16 +7,16 @@ use native.Mathlib.Omega.{arith}
 use borrow.Author.Tests.{ne-eqb, eqb-true, leb-true}
 use lib.Dec.{leb, eqb}
 use Rattle.words.proofs.Scan.{by-bool, and-split, and-join, is-false, true≢}
-use Rattle.table.specs.Entry.{word1, word2, depthOf, cellOf, writableOf, parent, outward, writable}
+use Rattle.table.specs.Entry.{word1, word2, depthOf, cellOf, writableOf, parent, outward, writable, writesIn, parentHas}
 use Rattle.table.specs.Changes.{keep, put}
 use Rattle.table.specs.Marks.{has, markAt, Marked}
 use Rattle.table.proofs.Marks.{marked-holds}
 use Rattle.search.specs.Writable.{TellWritable}
-use Rattle.commit.specs.Commit.{holdsWritable, parentHas, raises, decided, commitChange}
-use Rattle.commit.specs.Decide.{concerned, moves, Tells}
+use Rattle.commit.specs.Commit.{raises, decided, commitChange}
+use Rattle.commit.specs.Decide.{concerned, moves, TellsBoth}
 
 -- the marks of all entries, once the innermost domain's read-only entries have taken their depth out
-pub tells-after : (e : ℕ) (t : List ℕ) (d : ℕ) (before after : List ℕ) → Marked e t e before → TellWritable e t d before after → Tells e t d after
+pub tells-after : (e : ℕ) (t : List ℕ) (d : ℕ) (before after : List ℕ) → Marked e t e before → TellWritable e t d before after → TellsBoth e t d after
 tells-after e t d before after m w =
     record {
       inner = λ deep c. w .writes c;
@@ -24,7 +24,7 @@ tells-after e t d before after m w =
     }
 
 -- the outermost domain asks nothing of them
-pub tells-outermost : (e : ℕ) (t : List ℕ) (d : ℕ) (seen : List ℕ) → d < 2 → Tells e t d seen
+pub tells-outermost : (e : ℕ) (t : List ℕ) (d : ℕ) (seen : List ℕ) → d < 2 → TellsBoth e t d seen
 tells-outermost e t d seen few = record { inner = λ deep. absurd (omega arith); outer = λ deep. absurd (omega arith) }
 
 -- ---- the change as the code makes it: one test whether there is one, and its words by selection
@@ -78,9 +78,9 @@ module _ (e : ℕ) (t : List ℕ) (d i : ℕ) (low : 1 ≤ d) where
 
   pub change-apart : concerned d (word1 e t i) ≡ false → commitChange e t d i ≡ keep
   unfolding commitChange
-  change-apart h = decided-apart d w (word2 e t i) (holdsWritable e t d (cellOf w)) (parentHas e t d (cellOf w)) low h
+  change-apart h = decided-apart d w (word2 e t i) (writesIn e t d (cellOf w)) (parentHas e t d (cellOf w)) low h
 
-  module _ (seen : List ℕ) (told : Tells e t d seen) where
+  module _ (seen : List ℕ) (told : TellsBoth e t d seen) where
     abbrev inner : Bool
     inner = has d (markAt seen w)
 

@@ -12,7 +12,7 @@ use lib.ListN.{length}
 use Rattle.words.specs.Layout.{pairsAt}
 use Rattle.words.specs.Stores.{Store, stores}
 use Rattle.words.proofs.Scan.{by-bool, and-split, true≢, not-lt}
-use Rattle.table.specs.Entry.{live, word1, word2, depthOf, cellOf, writableOf, viaOf, parent, names, findIn, holdsIn, outward}
+use Rattle.table.specs.Entry.{live, word1, word2, depthOf, cellOf, writableOf, viaOf, parent, names, findIn, holdsIn, outward, writesIn, parentHas}
 use Rattle.table.specs.Changes.{Change, put, newFirst, entryChanges}
 use Rattle.table.proofs.Entry.{names-make, find-hit, holds-true, holds-found}
 use Rattle.table.proofs.Made.{outward-made}
@@ -24,7 +24,7 @@ use Rattle.model.specs.Holdings.{heldWritable, merged, commit}
 use Rattle.store.specs.State.{labelOf, heldIn, stateIn}
 use Rattle.store.proofs.Domains.{held-none, held-writable, commit-state}
 use Rattle.store.proofs.Becoming.{told, Never, Stays, came, had, Fate, keeps, raises, frees, turns, Becomes, becomes-rule, becomes-held}
-use Rattle.commit.specs.Commit.{holdsWritable, parentHas, commitChange}
+use Rattle.commit.specs.Commit.{commitChange}
 use Rattle.commit.specs.Parts.{headWords, endingWords}
 
 -- what both hold has the outer value, and is read-write where either is
@@ -59,7 +59,7 @@ module _ (m e b : ℕ) (t : List ℕ) (ok : Rule m e b t) (long : pairsAt e ≤ 
     risen : (i : ℕ) → depthOf (word1 e t i) ≡ live t - 1 → (l : Label)
         → heldIn e t bodies (depthOf (word1 e t i)) (cellOf (word1 e t i)) ≡ told e t bodies i l
         → held (depthOf (word1 e t i)) (cellOf (word1 e t i))
-        ≡ told e t bodies i (cond (holdsWritable e t (live t) (cellOf (word1 e t i))) readWrite l)
+        ≡ told e t bodies i (cond (writesIn e t (live t) (cellOf (word1 e t i))) readWrite l)
     risen i d l q =
         rw (eq-eqb (depthOf (word1 e t i)) (live t - 1) d, q)
         (merged-label _ (heldIn e t bodies (live t) (cellOf (word1 e t i))) ∙ rw (held-writable e t bodies (live t) (cellOf (word1 e t i))))
@@ -117,7 +117,7 @@ module _ (m e b : ℕ) (t : List ℕ) (ok : Rule m e b t) (long : pairsAt e ≤ 
         (λ y. rw (z, y) (frees (λ one high. absurd (not-lt (live t - 1) (live t) (omega arith) (subst (λ (x : ℕ). x ≤ live t - 1) d high))))))
         (λ z.
         let ne = eqb-false (depthOf w) (live t) z in
-        by-bool (leb 2 (live t) && (eqb (depthOf w) (live t - 1) && (eqb (writableOf w) 0 && holdsWritable e t (live t) c)))
+        by-bool (leb 2 (live t) && (eqb (depthOf w) (live t - 1) && (eqb (writableOf w) 0 && writesIn e t (live t) c)))
         (λ y.
         let s1 = and-split _ _ y in
         let s2 = and-split _ _ (s1 .1) in
@@ -127,7 +127,7 @@ module _ (m e b : ℕ) (t : List ℕ) (ok : Rule m e b t) (long : pairsAt e ≤ 
         (λ y. rw (z, y) (keeps (λ k q. stays i l ne (labelOf w) k (same i ne k y q)))))
       where
         same : (i : ℕ) → (depthOf (word1 e t i) ≡ live t → ⊥) → Used m e b t i
-            → (leb 2 (live t) && (eqb (depthOf (word1 e t i)) (live t - 1) && (eqb (writableOf (word1 e t i)) 0 && holdsWritable e t (live t) (cellOf (word1 e t i))))) ≡ false
+            → (leb 2 (live t) && (eqb (depthOf (word1 e t i)) (live t - 1) && (eqb (writableOf (word1 e t i)) 0 && writesIn e t (live t) (cellOf (word1 e t i))))) ≡ false
             → heldIn e t bodies (depthOf (word1 e t i)) (cellOf (word1 e t i)) ≡ told e t bodies i (labelOf (word1 e t i))
             → held (depthOf (word1 e t i)) (cellOf (word1 e t i)) ≡ told e t bodies i (labelOf (word1 e t i))
         same i ne k y q =
@@ -137,7 +137,7 @@ module _ (m e b : ℕ) (t : List ℕ) (ok : Rule m e b t) (long : pairsAt e ≤ 
             let d = eqb-true (depthOf w) (live t - 1) z in
             let two : leb 2 (live t) ≡ true = le-leb 2 (live t) (omega (arith, k .low)) in
             risen i d (labelOf w) q
-            ∙ by-bool (holdsWritable e t (live t) (cellOf w))
+            ∙ by-bool (writesIn e t (live t) (cellOf w))
             (λ x.
             by-bool (eqb (writableOf w) 0)
             (λ r. absurd (true≢ (rw (two, z, r, x)) y))

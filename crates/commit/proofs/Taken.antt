@@ -10,11 +10,11 @@ use Rattle.words.specs.Layout.{liveAt, handleAt, firstAt, secondAt, pairsAt, ma
 use Rattle.words.specs.Scan.{first}
 use Rattle.words.proofs.Scan.{by-bool, first-ext}
 use Rattle.words.proofs.Gather.{gather-ext}
-use Rattle.table.specs.Entry.{live, handle, word1, word2, cellOf, parent, names, findIn, holdsIn}
+use Rattle.table.specs.Entry.{live, handle, word1, word2, cellOf, parent, names, findIn, holdsIn, writesIn}
 use Rattle.table.specs.Changes.{entryStores, entryChanges}
 use Rattle.table.proofs.Entry.{find-ext, holds-found}
 use Rattle.search.specs.Domain.{placeOf, depthNamed}
-use Rattle.commit.specs.Commit.{holdsWritable, commitChange}
+use Rattle.commit.specs.Commit.{commitChange}
 
 module _ (e : ℕ) (t : List ℕ) where
   abbrev u : List ℕ
@@ -46,7 +46,7 @@ module _ (e : ℕ) (t : List ℕ) where
   unfolding holdsIn
   holds d c = rw (finds d c)
 
-  writables : (d c : ℕ) → holdsWritable e u d c ≡ holdsWritable e t d c
+  writables : (d c : ℕ) → writesIn e u d c ≡ writesIn e t d c
   writables d c =
       rw (holds d c, finds d c)
       (by-bool (holdsIn e t d c) (λ p. rw (p, firsts (findIn e t d c) (holds-found e t d c p))) (λ p. rw p))

@@ -2,54 +2,45 @@
 use Prim.Native.Nat.{ℕ, _-_}
 use mathlib.Core.Bool.{Bool, cond, not, _&&_}
 use mathlib.Core.List.{List, [], _∷_, _++_}
-use lib.Dec.{ltb, leb, eqb}
+use lib.Dec.{eqb}
 use lib.ListN.{length}
-use Rattle.words.specs.Layout.{cellsOf, slotsOf, pairsAt, liveAt, handleAt}
+use Rattle.words.specs.Layout.{cellsOf, slotsOf, pairsAt, liveAt}
 use Rattle.words.specs.Stores.{Store, _≔_}
-use Rattle.table.specs.Entry.{live, word1, word2, depthOf, cellOf, writableOf, parent, findIn, holdsIn, outward, writable}
+use Rattle.table.specs.Entry.{live, word1, word2, depthOf, cellOf, writableOf, outward, writable, innermost, parent, hasParent, handleOf, writesIn, parentHas}
 use Rattle.table.specs.Changes.{Change, keep, put, entryChanges}
-use Rattle.search.specs.Domain.{depthNamed}
-use Rattle.model.specs.Answer.{ask, orElse, View}
+use Rattle.model.specs.Answer.{orElse, View}
 use Rattle.model.specs.Holdings.{commitEffect}
 use Rattle.store.specs.Outcome.{Buffers, Call, perform, unless, changePlan}
-use Rattle.store.specs.Checks.{storeCheck}
+use Rattle.store.specs.Checks.{storeCheck, askInnermostIn}
 use Rattle.store.specs.Means.{callMeans}
 
 -- questions 1 to 6
 unfoldable pub commitCheck : (memory bodies : ℕ) → List ℕ → (h : ℕ) → ℕ
 commitCheck memory bodies t h =
-    orElse (storeCheck memory bodies t) (ask (ltb 0 (depthNamed t h)) 5 (ask (eqb (depthNamed t h) (live t)) 6 0))
-
--- does the domain at depth d hold cell c read-write?
-abbrev pub holdsWritable : ℕ → List ℕ → ℕ → ℕ → Bool
-holdsWritable e t d c = holdsIn e t d c && eqb (writableOf (word1 e t (findIn e t d c))) 1
-
--- does the parent of the domain at depth d, if it has one, hold cell c?
-abbrev pub parentHas : ℕ → List ℕ → ℕ → ℕ → Bool
-parentHas e t d c = leb 2 d && holdsIn e t (parent d) c
+    orElse (storeCheck memory bodies t) (askInnermostIn t h 0)
 
 -- with d the innermost depth and w an entry's first word: it is the parent's, and its label is raised, `inner` saying whether the innermost
 -- domain holds its cell read-write
 abbrev pub raises : (d w : ℕ) → (inner : Bool) → Bool
-raises d w inner = leb 2 d && (eqb (depthOf w) (parent d) && (eqb (writableOf w) 0 && inner))
+raises d w inner = hasParent d && (eqb (depthOf w) (parent d) && (eqb (writableOf w) 0 && inner))
 
 -- its change, with second word v: an innermost entry moves out where the parent lacks the cell, and is freed where it has it, as `outer` says,
 -- or there is no parent; the parent's read-only entries become read-write where the innermost domain holds the cell read-write
 abbrev pub decided : (d w v : ℕ) → (inner outer : Bool) → Change
 decided d w v inner outer =
     cond (eqb (depthOf w) d)
-    (cond (leb 2 d && not outer) (put (outward w) v) (put 0 0))
+    (cond (hasParent d && not outer) (put (outward w) v) (put 0 0))
     (cond (raises d w inner) (put (writable w) v) keep)
 
 -- that of entry i
 unfoldable pub commitChange : (e : ℕ) → List ℕ → (d i : ℕ) → Change
 commitChange e t d i =
-    decided d (word1 e t i) (word2 e t i) (holdsWritable e t d (cellOf (word1 e t i))) (parentHas e t d (cellOf (word1 e t i)))
+    decided d (word1 e t i) (word2 e t i) (writesIn e t d (cellOf (word1 e t i))) (parentHas e t d (cellOf (word1 e t i)))
 
 -- the number of live domains, the handle that leaves, and the entries
 unfoldable pub commitWords : List ℕ → List Store
 commitWords t =
-    ((liveAt ≔ live t - 1) ∷ (handleAt (live t - 1) ≔ 0) ∷ []) ++ entryChanges (slotsOf (length t)) (commitChange (slotsOf (length t)) t (live t))
+    ((liveAt ≔ live t - 1) ∷ (handleOf (innermost t) ≔ 0) ∷ []) ++ entryChanges (slotsOf (length t)) (commitChange (slotsOf (length t)) t (innermost t))
 
 unfoldable pub commitCall : (h : ℕ) → Buffers → Call
 commitCall h b =

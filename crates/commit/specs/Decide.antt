@@ -3,21 +3,20 @@ use Prim.Native.Nat.{ℕ, _≤_}
 use mathlib.Core.Bool.{Bool, not, _&&_, _||_}
 use mathlib.Core.List.{List}
 use mathlib.Core.Path.{_≡_}
-use lib.Dec.{leb, eqb}
+use lib.Dec.{eqb}
 use lib.ListN.{getD}
-use Rattle.table.specs.Entry.{depthOf, writableOf, parent, holdsIn}
+use Rattle.table.specs.Entry.{depthOf, writableOf, hasParent, parent, holdsIn, writesIn}
 use Rattle.table.specs.Marks.{has}
-use Rattle.commit.specs.Commit.{holdsWritable}
 
 -- with d the innermost depth and w an entry's first word: it is innermost and moves out, `outer` saying whether the parent holds its cell
 abbrev pub moves : (d w : ℕ) → (outer : Bool) → Bool
-moves d w outer = eqb (depthOf w) d && (leb 2 d && not outer)
+moves d w outer = eqb (depthOf w) d && (hasParent d && not outer)
 
 -- can it change, whatever the marks tell?
 abbrev pub concerned : (d w : ℕ) → Bool
-concerned d w = eqb (depthOf w) d || (leb 2 d && (eqb (depthOf w) (parent d) && eqb (writableOf w) 0))
+concerned d w = eqb (depthOf w) d || (hasParent d && (eqb (depthOf w) (parent d) && eqb (writableOf w) 0))
 
 -- the marks tell of the innermost depth d which cells it holds read-write, and of its parent, where it has one, which it holds
-pub record Tells (e : ℕ) (t : List ℕ) (d : ℕ) (seen : List ℕ) : Type 0 where
-  pub inner : 2 ≤ d → (c : ℕ) → has d (getD seen c 0) ≡ holdsWritable e t d c
+pub record TellsBoth (e : ℕ) (t : List ℕ) (d : ℕ) (seen : List ℕ) : Type 0 where
+  pub inner : 2 ≤ d → (c : ℕ) → has d (getD seen c 0) ≡ writesIn e t d c
   pub outer : 2 ≤ d → (c : ℕ) → has (parent d) (getD seen c 0) ≡ holdsIn e t (parent d) c

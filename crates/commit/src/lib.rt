@@ -51,7 +51,7 @@ ghost use Rattle.changes.specs.Staged.{Turned, Stages, HeadOk, headStores};
 ghost use Rattle.store.specs.Outcome.{buffers, report, leaves, outcome};
 ghost use Rattle.store.specs.Means.{seen};
 ghost use Rattle.commit.specs.Commit.{raises, commitCheck, commitChange, commitCall, commitMeans};
-ghost use Rattle.commit.specs.Decide.{concerned, moves, Tells};
+ghost use Rattle.commit.specs.Decide.{concerned, moves, TellsBoth};
 ghost use Rattle.commit.specs.Parts.{headWords, endingWords};
 
 // The questions put to commit: 0, or the number of the first no. The first of them leave the entries marked.
@@ -80,7 +80,7 @@ fn commit_check(memory: usize, bodies: usize, table: &[u32], handle: u32, seen: 
 fn tell_writable(table: &[u32], slots: usize, live: u32, seen: &mut [u8])
     requires { ⌜ (slots ≤ maxSlots) × (pairsAt slots ≤ length (now table)) × (1 ≤ live) × (live ≤ maxLive) ⌝ }
     requires { ⌜ ((i : ℕ) → i < slots → cellIn slots (now table) i < length (now seen)) × Marked slots (now table) slots (now seen) × CellsOnce slots (now table) slots ⌝ }
-    ensures { λ _. ⌜ Tells slots (now (table .entry)) live (now (seen .exit)) ⌝ }
+    ensures { λ _. ⌜ TellsBoth slots (now (table .entry)) live (now (seen .exit)) ⌝ }
 {
     if live < 2 {
         return;
@@ -158,7 +158,7 @@ fn commit_entry(
     i: usize,
 ) -> bool
     requires small { ⌜ (i < slots) × (slots ≤ maxSlots) × (pairsAt slots ≤ length (now table)) × (1 ≤ live) × (live ≤ maxLive) × (2 * slots ≤ length (now words)) ⌝ }
-    requires told { ⌜ (cellIn slots (now table) i < length (now seen)) × Tells slots (now table) live (now seen) ⌝ }
+    requires told { ⌜ (cellIn slots (now table) i < length (now seen)) × TellsBoth slots (now table) live (now seen) ⌝ }
     ensures { λ r. ⌜ Turned (commitChange slots (now (table .entry)) live i) i (now (words .entry)) (now (words .exit)) r ⌝ }
 {
     let word = first_word(table, slots, i);
@@ -189,7 +189,7 @@ fn commit_group(
 )
     requires small { ⌜ (64 * k < slots) × (slots ≤ maxSlots) × (pairsAt slots ≤ length (now table)) × (1 ≤ live) × (live ≤ maxLive) ⌝ }
     requires room { ⌜ (2 * slots ≤ length (now words)) × (slots ≤ 64 * length (now changed)) ⌝ }
-    requires told { ⌜ ((i : ℕ) → i < slots → cellIn slots (now table) i < length (now seen)) × Tells slots (now table) live (now seen) ⌝ }
+    requires told { ⌜ ((i : ℕ) → i < slots → cellIn slots (now table) i < length (now seen)) × TellsBoth slots (now table) live (now seen) ⌝ }
     requires before { ⌜ Stages (64 * k) (commitChange slots (now table) live) (now words) (now changed) ⌝ }
     ensures { λ _. ⌜ Stages (min slots (64 * k + 64)) (commitChange slots (now (table .entry)) live) (now (words .exit)) (now (changed .exit)) ⌝ }
 {
@@ -218,7 +218,7 @@ fn commit_entries(
 )
     requires small { ⌜ (slots ≤ maxSlots) × (pairsAt slots ≤ length (now table)) × (1 ≤ live) × (live ≤ maxLive) ⌝ }
     requires room { ⌜ (2 * slots ≤ length (now words)) × (slots ≤ 64 * length (now changed)) ⌝ }
-    requires told { ⌜ ((i : ℕ) → i < slots → cellIn slots (now table) i < length (now seen)) × Tells slots (now table) live (now seen) ⌝ }
+    requires told { ⌜ ((i : ℕ) → i < slots → cellIn slots (now table) i < length (now seen)) × TellsBoth slots (now table) live (now seen) ⌝ }
     requires before { ⌜ Stages 0 (commitChange slots (now table) live) (now words) (now changed) ⌝ }
     ensures { λ _. ⌜ Stages slots (commitChange slots (now (table .entry)) live) (now (words .exit)) (now (changed .exit)) ⌝ }
 {
@@ -241,7 +241,7 @@ fn end_domain(
 ) -> usize
     requires small { ⌜ (slots ≤ maxSlots) × (length (now table) ≡ tableWords slots) × (1 ≤ live) × (live ≤ maxLive) ⌝ }
     requires room { ⌜ (2 * slots ≤ length (now words)) × (slots ≤ 64 * length (now changed)) ⌝ }
-    requires told { ⌜ ((i : ℕ) → i < slots → cellIn slots (now table) i < length (now seen)) × Tells slots (now table) live (now seen) ⌝ }
+    requires told { ⌜ ((i : ℕ) → i < slots → cellIn slots (now table) i < length (now seen)) × TellsBoth slots (now table) live (now seen) ⌝ }
     requires before { ⌜ Stages 0 (commitChange slots (now table) live) (now words) (now changed) ⌝ }
     ensures made { λ r. ⌜ r ≡ length (journal (pairsAt slots) (endingWords slots (now (table .entry)) live)) ⌝ }
     ensures words { λ _. ⌜ now (table .exit) ≡ stores (take budget (journal (pairsAt slots) (endingWords slots (now (table .entry)) live))) (now (table .entry)) ⌝ }
@@ -253,7 +253,7 @@ fn end_domain(
 // The same with arrays for a table of few slots.
 fn end_few(table: &mut [u32], slots: usize, live: u32, seen: &[u8], budget: usize) -> usize
     requires small { ⌜ (slots ≤ 256) × (length (now table) ≡ tableWords slots) × (1 ≤ live) × (live ≤ maxLive) ⌝ }
-    requires told { ⌜ ((i : ℕ) → i < slots → cellIn slots (now table) i < length (now seen)) × Tells slots (now table) live (now seen) ⌝ }
+    requires told { ⌜ ((i : ℕ) → i < slots → cellIn slots (now table) i < length (now seen)) × TellsBoth slots (now table) live (now seen) ⌝ }
     ensures made { λ r. ⌜ r ≡ length (journal (pairsAt slots) (endingWords slots (now (table .entry)) live)) ⌝ }
     ensures words { λ _. ⌜ now (table .exit) ≡ stores (take budget (journal (pairsAt slots) (endingWords slots (now (table .entry)) live))) (now (table .entry)) ⌝ }
 {
@@ -265,7 +265,7 @@ fn end_few(table: &mut [u32], slots: usize, live: u32, seen: &[u8], budget: usiz
 // The same with arrays for any table.
 fn end_many(table: &mut [u32], slots: usize, live: u32, seen: &[u8], budget: usize) -> usize
     requires small { ⌜ (slots ≤ maxSlots) × (length (now table) ≡ tableWords slots) × (1 ≤ live) × (live ≤ maxLive) ⌝ }
-    requires told { ⌜ ((i : ℕ) → i < slots → cellIn slots (now table) i < length (now seen)) × Tells slots (now table) live (now seen) ⌝ }
+    requires told { ⌜ ((i : ℕ) → i < slots → cellIn slots (now table) i < length (now seen)) × TellsBoth slots (now table) live (now seen) ⌝ }
     ensures made { λ r. ⌜ r ≡ length (journal (pairsAt slots) (endingWords slots (now (table .entry)) live)) ⌝ }
     ensures words { λ _. ⌜ now (table .exit) ≡ stores (take budget (journal (pairsAt slots) (endingWords slots (now (table .entry)) live))) (now (table .entry)) ⌝ }
 {
@@ -278,7 +278,7 @@ fn end_many(table: &mut [u32], slots: usize, live: u32, seen: &[u8], budget: usi
 // clears none, and a large memory does not make the arrays of a small table large.
 fn commit_words(table: &mut [u32], slots: usize, live: u32, seen: &[u8], budget: usize) -> usize
     requires small { ⌜ (slots ≤ maxSlots) × (length (now table) ≡ tableWords slots) × (1 ≤ live) × (live ≤ maxLive) ⌝ }
-    requires told { ⌜ ((i : ℕ) → i < slots → cellIn slots (now table) i < length (now seen)) × Tells slots (now table) live (now seen) ⌝ }
+    requires told { ⌜ ((i : ℕ) → i < slots → cellIn slots (now table) i < length (now seen)) × TellsBoth slots (now table) live (now seen) ⌝ }
     ensures made { λ r. ⌜ r ≡ length (journal (pairsAt slots) (endingWords slots (now (table .entry)) live)) ⌝ }
     ensures words { λ _. ⌜ now (table .exit) ≡ stores (take budget (journal (pairsAt slots) (endingWords slots (now (table .entry)) live))) (now (table .entry)) ⌝ }
 {

@@ -10,9 +10,9 @@ use Rattle.words.specs.Layout.{cellsOf}
 use Rattle.words.proofs.Scan.{by-bool}
 use Rattle.model.specs.State.{State}
 use Rattle.model.specs.Answer.{Report, ended, View, view, orElse, stepsOf}
-use Rattle.model.specs.Calls.{Effect, refuse, change, orRefuse, createChecks, listed}
+use Rattle.model.specs.Calls.{Effect, refuse, change, orRefuse, createChecks, listed, viewedWith}
 use Rattle.model.specs.Holdings.{isLive, addChecks, deleteChecks, advanceChecks, commitChecks}
-use Rattle.model.specs.Restore.{viewedWith, Looked, lookChecks, lookedBy, restoreChecks}
+use Rattle.model.specs.Restore.{Looked, lookChecks, lookedBy, restoreChecks}
 use Rattle.model.specs.History.{create, add, delete, advance, commit, Reading, list, look, Request, changes, restore, reads}
 use Rattle.model.specs.Session.{readChecks, effectOf}
 use Rattle.model.proofs.Views.{viewed-plain}

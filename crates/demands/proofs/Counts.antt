@@ -6,7 +6,7 @@ use Rattle.words.specs.Journal.{pairs, nameOk, namesOk, effective, journaled, a
 use Rattle.words.specs.Cells.{sameCell, cellPlan}
 use Rattle.table.specs.Entry.{findIn, holdsIn}
 use Rattle.table.specs.Checks.{lengthsOk, headerOk}
-use Rattle.table.specs.Rule.{handleOk, headOk, kindOk, entryOk, parentOk, apart, ruleOk, pairsOk, tableOk}
+use Rattle.table.specs.Rule.{handleOk, headOk, entryOk, parentOk, apart, ruleOk, pairsOk, tableOk}
 use Rattle.search.specs.Search.{stepsIn, sourceIn, valueIn}
 use Rattle.search.specs.Domain.{depthNamed}
 use Rattle.search.specs.Free.{bodyUsed, usedSlots, copies}
@@ -22,7 +22,7 @@ use Rattle.demands.specs.Counted.{LinesHold, countedLines}
 
 pub lines-hold : LinesHold countedLines
 unfolding all first count nth pairs nameOk namesOk effective journaled applyPlan openPlan sameCell cellPlan findIn holdsIn lengthsOk
-    headerOk handleOk headOk kindOk entryOk parentOk apart ruleOk pairsOk tableOk stepsIn sourceIn valueIn depthNamed bodyUsed usedSlots
+    headerOk handleOk headOk entryOk parentOk apart ruleOk pairsOk tableOk stepsIn sourceIn valueIn depthNamed bodyUsed usedSlots
     copies ended outcome shapeCheck tableCheck makeCheck openCheck storeCheck createCheck freshWord makePlan makeCall openCall createWords
     createCall addCheck addChange addWords addBytes addCall deleteCheck deleteChange deleteWords deleteCall advanceCheck bodyFor
     advanceChange advanceWords advanceBytes advanceCall restoreCheck restoreBytes restoreChange restoreWords restoreCall

@@ -7,7 +7,7 @@ use Rattle.words.specs.Journal.{pairs, namesOk, effective, journaled}
 use Rattle.words.specs.Cells.{sameCell, cellPlan}
 use Rattle.table.specs.Entry.{findIn, holdsIn}
 use Rattle.table.specs.Checks.{lengthsOk, headerOk}
-use Rattle.table.specs.Rule.{handleOk, headOk, kindOk, entryOk, parentOk, apart, ruleOk, pairsOk, tableOk}
+use Rattle.table.specs.Rule.{handleOk, headOk, entryOk, parentOk, apart, ruleOk, pairsOk, tableOk}
 use Rattle.search.specs.Search.{stepsIn, sourceIn, valueIn}
 use Rattle.search.specs.Domain.{depthNamed}
 use Rattle.search.specs.Free.{bodyUsed, usedSlots, copies}
@@ -25,7 +25,7 @@ use Rattle.restore.specs.Restore.{restoreCheck, restoreBytes, restoreChange, re
 use Rattle.demands.specs.Starred.{actsHold, scenarioHolds, allHold, edgeHolds, starred}
 
 pub edges-hold : allHold edgeHolds starred ≡ true
-unfolding all first count nth pairs namesOk effective journaled sameCell cellPlan findIn holdsIn lengthsOk headerOk handleOk headOk kindOk entryOk
+unfolding all first count nth pairs namesOk effective journaled sameCell cellPlan findIn holdsIn lengthsOk headerOk handleOk headOk entryOk
     parentOk apart ruleOk pairsOk tableOk stepsIn sourceIn valueIn depthNamed bodyUsed usedSlots copies ended outcome shapeCheck tableCheck
     makeCheck storeCheck createCheck stateIn stateOf freshWord makePlan makeCall createWords createCall listMeans addCheck addChange addWords
     addBytes addCall deleteCheck deleteChange deleteWords deleteCall commitCheck commitChange commitWords commitCall advanceCheck bodyFor

@@ -14,8 +14,7 @@ use Rattle.words.proofs.Scan.{by-bool}
 use Rattle.table.proofs.Checks.{lengths-facts}
 use Rattle.model.specs.State.{State}
 use Rattle.model.specs.Answer.{isDone, isStopped, isRefused, ended, View, stepsOf}
-use Rattle.model.specs.Calls.{Effect, refuse, change, makeSteps, listed}
-use Rattle.model.specs.Restore.{viewedWith}
+use Rattle.model.specs.Calls.{Effect, refuse, change, makeSteps, listed, viewedWith}
 use Rattle.model.specs.History.{Request}
 use Rattle.model.specs.Session.{effectOf, memoryAfter, memoryAt, viewOf, Mixed}
 use Rattle.model.proofs.Views.{memory-whole, memory-mixed}

@@ -7,8 +7,7 @@ use lib.Dec.{leb}
 use Rattle.words.proofs.Scan.{by-bool}
 use Rattle.model.specs.State.{State}
 use Rattle.model.specs.Answer.{Status, isDone, isStopped, isRefused, Report, ended, View, stepsOf}
-use Rattle.model.specs.Calls.{Effect, refuse, change}
-use Rattle.model.specs.Restore.{viewedWith}
+use Rattle.model.specs.Calls.{Effect, refuse, change, viewedWith}
 use Rattle.model.specs.History.{Request}
 use Rattle.model.specs.Session.{Input, make, call, opening, write, effectOf, memoryAt, viewOf}
 use Rattle.store.specs.Outcome.{Buffers, Outcome}

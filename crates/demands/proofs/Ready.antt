@@ -13,8 +13,7 @@ use Rattle.words.proofs.Scan.{and-split}
 use Rattle.words.proofs.Plans.{length-stores}
 use Rattle.model.specs.State.{State}
 use Rattle.model.specs.Answer.{Status, isDone, isStopped, isRefused, Report, View, stepsOf}
-use Rattle.model.specs.Calls.{Effect, refuse, change, fresh, makeSteps, openSteps}
-use Rattle.model.specs.Restore.{viewedWith}
+use Rattle.model.specs.Calls.{Effect, refuse, change, fresh, makeSteps, openSteps, viewedWith}
 use Rattle.model.specs.History.{Request}
 use Rattle.model.specs.Session.{Input, make, call, opening, write, effectOf, memoryAt}
 use Rattle.store.specs.Outcome.{Buffers, buffers, outcome}

@@ -5,8 +5,7 @@ use mathlib.Core.Path.{_≡_, ap, subst, _∙_}
 use borrow.Author.Tests.{ne-eqb, eq-eqb}
 use Rattle.words.specs.Journal.{pending}
 use Rattle.model.specs.Answer.{Status, isDone, isStopped, isRefused, Report, refused, View}
-use Rattle.model.specs.Calls.{Effect, refuse}
-use Rattle.model.specs.Restore.{viewedWith}
+use Rattle.model.specs.Calls.{Effect, refuse, viewedWith}
 use Rattle.model.specs.History.{add, delete, look, Request, changes, reads}
 use Rattle.model.specs.Session.{Input, make, call, opening, write, effectOf, memoryAt, viewOf}
 use Rattle.store.specs.Outcome.{Buffers, Outcome, outcome, leaves}

@@ -18,8 +18,7 @@ use Rattle.table.specs.Checks.{lengthsOk}
 use Rattle.table.proofs.Checks.{lengths-facts}
 use Rattle.model.specs.State.{State}
 use Rattle.model.specs.Answer.{Report, refused, ended, View, stepsOf}
-use Rattle.model.specs.Calls.{Effect, refuse, change, makeSteps, makeView, openSteps, openView}
-use Rattle.model.specs.Restore.{viewedWith}
+use Rattle.model.specs.Calls.{Effect, refuse, change, makeSteps, makeView, openSteps, openView, viewedWith}
 use Rattle.model.specs.History.{Request}
 use Rattle.model.specs.Session.{Input, make, call, opening, write, Due, nothingDue, dropDue, finishDue, World, world, effectOf, memoryAt, viewOf, Move, call-refused, open-refused, written-to}
 use Rattle.model.proofs.Views.{dueAfter, view-moves, make-moves, open-idle-moves, open-drop-moves, open-finish-moves}

@@ -14,9 +14,8 @@ use Rattle.words.specs.Journal.{pending}
 use Rattle.words.proofs.Scan.{by-bool, and-split}
 use Rattle.model.specs.State.{State}
 use Rattle.model.specs.Answer.{Status, isDone, isStopped, isRefused, Report, done, stopped, refused, ended, View, stepsOf}
-use Rattle.model.specs.Calls.{Effect, refuse, change, fresh, makeSteps, makeView}
+use Rattle.model.specs.Calls.{Effect, refuse, change, fresh, makeSteps, makeView, viewedWith}
 use Rattle.model.specs.Holdings.{named}
-use Rattle.model.specs.Restore.{viewedWith}
 use Rattle.model.specs.History.{restore, Event, called, opened, Observation, observed, Tracked, History, begun, observe, trackedAt, mismatches, countEvent, counts, historyAfter}
 use Rattle.model.specs.Session.{Input, make, call, opening, shown, effectOf, memoryAt, Due, nothingDue, dropDue, finishDue, world, Move, Session, end, next, afterMake, Agrees, atOpening}
 use Rattle.model.proofs.Demand as abstract

@@ -26,7 +26,7 @@ use Rattle.store.proofs.Checks.{ask-yes, ask-rest, orElse-both, store-shape, sh
 use Rattle.store.proofs.Means.{by-check}
 use Rattle.store.proofs.Raw.{raw-named, check-rule}
 use Rattle.store.proofs.Outermost.{store-bytes}
-use Rattle.look.specs.Look.{lookCheck, placeOf, placeIn, placed, lookPlace, placeReport, placePart, placeWithin, shownAt, orLookRefused, lookMeans}
+use Rattle.look.specs.Look.{lookCheck, placeShown, placeIn, placedBy, lookPlace, placeReport, placePart, placeWithin, shownAt, orLookRefused, lookMeans}
 use Rattle.look.specs.declared.Place.{Place}
 use Rattle.look.specs.declared.Place.the-variants.{Refused, Memory, Bodies}
 
@@ -35,21 +35,21 @@ use Rattle.look.specs.declared.Place.the-variants.{Refused, Memory, Bodi
 module _ (e : ℕ) (t : List ℕ) (d c : ℕ) where
   pub place-memory : heldFrom e t d c ≡ false → placeIn e t d c ≡ Memory (cellAt c)
   unfolding placeIn
-  place-memory h = ap (placeOf c) (value-none e t d c h)
+  place-memory h = ap (placeShown c) (value-none e t d c h)
 
   pub place-bodies : heldFrom e t d c ≡ true → placeIn e t d c ≡ Bodies (cellAt (bodyFrom e t d c))
   unfolding placeIn
-  place-bodies h = ap (placeOf c) (value-some e t d c h)
+  place-bodies h = ap (placeShown c) (value-some e t d c h)
 
   -- the code's two exits, by what the search answered
   module _ (v : Held) (q : v ≡ valueFrom e t d c) (w at : ℕ) (p : at ≡ cellAt w) where
     pub at-memory : v ≡ Nowhere → w ≡ c → Memory at ≡ placeIn e t d c
     unfolding placeIn
-    at-memory n r = ap Memory (p ∙ ap cellAt r) ∙ ap (placeOf c) (sym n ∙ q)
+    at-memory n r = ap Memory (p ∙ ap cellAt r) ∙ ap (placeShown c) (sym n ∙ q)
 
     pub at-bodies : (x k : ℕ) → v ≡ InBody x k → w ≡ k → Bodies at ≡ placeIn e t d c
     unfolding placeIn
-    at-bodies x k n r = ap Bodies (p ∙ ap cellAt r) ∙ ap (placeOf c) (sym n ∙ q)
+    at-bodies x k n r = ap Bodies (p ∙ ap cellAt r) ∙ ap (placeShown c) (sym n ∙ q)
 
 -- ---- the questions
 
@@ -124,7 +124,7 @@ module _ (h c : ℕ) (b : Buffers) where
   unfolding lookPlace
   look-refused q e n = go (lookCheck (length (b .memory)) (length (b .bodies)) (b .table) h c) e
     where
-      go : (r : ℕ) → q ≡ r → Refused q ≡ placed r (placeIn (slotsOf (length (b .table))) (b .table) (depthNamed (b .table) h) c)
+      go : (r : ℕ) → q ≡ r → Refused q ≡ placedBy r (placeIn (slotsOf (length (b .table))) (b .table) (depthNamed (b .table) h) c)
       go zero z = absurd (n z)
       go (suc r) z = ap Refused z
 
@@ -174,15 +174,15 @@ unfolding lookPlace lookMeans lookCheck
 look-means h c b =
     let m : ℕ = cellsOf (length (b .memory)) in
     let place : Place = placeIn (slotsOf (length (b .table))) (b .table) (depthNamed (b .table) h) c in
-    by-check (λ q. shownAt (placed (orElse q (asked (length (b .memory)) (b .table) h c)) (placeIn (slotsOf (length (b .table))) (b .table) (depthNamed (b .table) h) c)) b
+    by-check (λ q. shownAt (placedBy (orElse q (asked (length (b .memory)) (b .table) h c)) (placeIn (slotsOf (length (b .table))) (b .table) (depthNamed (b .table) h) c)) b
     ≡ orLookRefused q (looked (cellsOf (length (b .memory))) h c (stateOf b) (b .memory)))
     (storeCheck (length (b .memory)) (length (b .bodies)) (b .table))
     (λ n e. refl)
     (λ yes.
-    subst (λ (d : ℕ). shownAt (placed (asked (length (b .memory)) (b .table) h c) (placeIn (slotsOf (length (b .table))) (b .table) (depthNamed (b .table) h) c)) b
+    subst (λ (d : ℕ). shownAt (placedBy (asked (length (b .memory)) (b .table) h c) (placeIn (slotsOf (length (b .table))) (b .table) (depthNamed (b .table) h) c)) b
     ≡ lookedBy (ask (ltb 0 d) 5 (ask (rangeOk (cellsOf (length (b .memory))) c 1) 8 0)) (restoredCell d (stateOf b) (b .memory) c))
     (sym (raw-named (b .memory) (b .bodies) (b .table) yes h))
-    (by-check (λ q. shownAt (placed q (placeIn (slotsOf (length (b .table))) (b .table) (depthNamed (b .table) h) c)) b
+    (by-check (λ q. shownAt (placedBy q (placeIn (slotsOf (length (b .table))) (b .table) (depthNamed (b .table) h) c)) b
     ≡ lookedBy q (restoredCell (depthNamed (b .table) h) (stateOf b) (b .memory) c))
     (asked (length (b .memory)) (b .table) h c)
     (λ n e. refl)
@@ -209,7 +209,7 @@ module _ (h c : ℕ) (b : Buffers) where
   look-within = go (lookCheck (length (b .memory)) (length (b .bodies)) (b .table) h c) refl
     where
       go : (q : ℕ) → lookCheck (length (b .memory)) (length (b .bodies)) (b .table) h c ≡ q
-          → placeWithin (placed q (placeIn (slotsOf (length (b .table))) (b .table) (depthNamed (b .table) h) c)) b
+          → placeWithin (placedBy q (placeIn (slotsOf (length (b .table))) (b .table) (depthNamed (b .table) h) c)) b
       go zero e = place-within (check-passed (length (b .memory)) (length (b .bodies)) (b .table) h c e)
       go (suc n) e = tt
 

@@ -2,18 +2,17 @@
 use Prim.Native.Nat.{ℕ, _+_, _≤_}
 use mathlib.Core.Bool.{cond}
 use mathlib.Core.List.{List, []}
-use lib.Dec.{ltb}
 use lib.ListN.{length, take, drop}
 use Rattle.words.specs.Layout.{cellAt, cellsOf, slotsOf}
 use Rattle.search.specs.Search.{bodyFrom, valueFrom}
 use Rattle.search.specs.declared.Held.{Held}
 use Rattle.search.specs.declared.Held.the-variants.{Nowhere, InBody}
 use Rattle.search.specs.Domain.{depthNamed}
-use Rattle.model.specs.Answer.{Report, done, refused, ask, orElse}
-use Rattle.model.specs.Holdings.{named, isHeld, rangeOk}
+use Rattle.model.specs.Answer.{Report, done, refused, byNumber, orElse}
+use Rattle.model.specs.Holdings.{named, isHeld, askRange}
 use Rattle.model.specs.Restore.{Looked, looked, lookRefused, outermost}
 use Rattle.store.specs.Outcome.{Buffers}
-use Rattle.store.specs.Checks.{storeCheck}
+use Rattle.store.specs.Checks.{storeCheck, askLiveIn}
 use Rattle.store.specs.State.{slots, stateOf}
 use Rattle.look.specs.declared.Place.{Place}
 use Rattle.look.specs.declared.Place.the-variants.{Refused, Memory, Bodies}
@@ -21,24 +20,22 @@ use Rattle.look.specs.declared.Place.the-variants.{Refused, Memory, Bodi
 -- questions 1 to 5, and 8 with count 1
 unfoldable pub lookCheck : (memory bodies : ℕ) → List ℕ → (h c : ℕ) → ℕ
 lookCheck memory bodies t h c =
-    orElse (storeCheck memory bodies t) (ask (ltb 0 (depthNamed t h)) 5 (ask (rangeOk (cellsOf memory) c 1) 8 0))
+    orElse (storeCheck memory bodies t) (askLiveIn t h (askRange (cellsOf memory) c 1 0))
 
 -- "a part of the lent bodies, or of the lent memory where nobody from that domain inwards holds the cell"
-abbrev pub placeOf : (c : ℕ) → Held → Place
-placeOf c Nowhere = Memory (cellAt c)
-placeOf c (InBody d k) = Bodies (cellAt k)
+abbrev pub placeShown : (c : ℕ) → Held → Place
+placeShown c Nowhere = Memory (cellAt c)
+placeShown c (InBody d k) = Bodies (cellAt k)
 
 unfoldable pub placeIn : (e : ℕ) → List ℕ → (d c : ℕ) → Place
-placeIn e t d c = placeOf c (valueFrom e t d c)
+placeIn e t d c = placeShown c (valueFrom e t d c)
 
--- by the number of its questions: 0 shows the part
-abbrev pub placed : ℕ → Place → Place
-placed ℕ.zero p = p
-placed (ℕ.suc n) p = Refused (ℕ.suc n)
+abbrev pub placedBy : ℕ → Place → Place
+placedBy = byNumber Refused
 
 unfoldable pub lookPlace : (h c : ℕ) → Buffers → Place
 lookPlace h c b =
-    placed (lookCheck (length (b .memory)) (length (b .bodies)) (b .table) h c)
+    placedBy (lookCheck (length (b .memory)) (length (b .bodies)) (b .table) h c)
     (placeIn (slotsOf (length (b .table))) (b .table) (depthNamed (b .table) h) c)
 
 -- a place in document 01's numbers and bytes: the answer, and the 64 bytes at that offset; "when it is refused, the part has length 0"
@@ -63,8 +60,7 @@ shownAt p b = record { report = placeReport p; part = placePart p b }
 
 -- what look means: put questions 1 to 4 on the buffers and the others on the state
 abbrev pub orLookRefused : ℕ → Looked → Looked
-orLookRefused ℕ.zero l = l
-orLookRefused (ℕ.suc n) l = lookRefused (ℕ.suc n)
+orLookRefused = byNumber lookRefused
 
 unfoldable pub lookMeans : (h c : ℕ) → Buffers → Looked
 lookMeans h c b =

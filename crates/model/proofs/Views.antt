@@ -18,9 +18,9 @@ use Rattle.words.proofs.Nth.{count-below}
 use Rattle.words.proofs.Plans.{length-tab, getD-tab, tab-below}
 use Rattle.model.specs.State.{Holding, Domain, State}
 use Rattle.model.specs.Answer.{Report, done, stopped, ended, View, view, stepsOf}
-use Rattle.model.specs.Calls.{Effect, refuse, change, viewed, makeSteps, makeState, makeView, openSteps, openView}
+use Rattle.model.specs.Calls.{Effect, refuse, change, viewed, makeSteps, makeState, makeView, openSteps, openView, viewedWith}
 use Rattle.model.specs.Holdings.{Room, named, holdingAt, isHeld, valueOr}
-use Rattle.model.specs.Restore.{cellOfByte, placeInCell, orInner, firstHeld, outermost, restoredByte, restoredMemory, cellsPutBack, restoreChecks, memoryAfterSteps, viewedWith}
+use Rattle.model.specs.Restore.{cellOfByte, placeInCell, orInner, firstHeld, outermost, restoredByte, restoredMemory, cellsPutBack, restoreChecks, memoryAfterSteps}
 use Rattle.model.specs.History.{Request, changes, restore, reads}
 use Rattle.model.specs.Session.{make, call, opening, Due, nothingDue, dropDue, finishDue, world, effectOf, memoryAfter, memoryAt, viewOf, Mixed, Move, make-done, make-stopped, call-refused, call-done, call-early, call-late, open-idle, open-drops, open-finishes, open-stopped, Within}
 use Rattle.model.proofs.Bytes.{cell-byte}

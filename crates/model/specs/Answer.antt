@@ -1,9 +1,10 @@
 -- What a call answers, in document 01's numbers.
-use Prim.Native.Nat.{ℕ, _+_, _*_}
+use Prim.Native.Nat.{ℕ, _+_}
 use mathlib.Core.Bool.{Bool, true, false, cond}
 use mathlib.Core.List.{List}
 use mathlib.Core.Option.{Option}
-use lib.Dec.{leb, eqb}
+use lib.Dec.{leb}
+use Rattle.words.specs.Journal.{journalSteps}
 use Rattle.model.specs.State.{State}
 
 pub data Status : Type 0 where
@@ -36,9 +37,14 @@ abbrev pub ask : Bool → ℕ → ℕ → ℕ
 ask true n rest = rest
 ask false n rest = n
 
+-- by the number of a call's questions: 0 goes on, any other gives what a refusal with that number gives
+abbrev pub byNumber : {A : Type 0} → (refuses : ℕ → A) → ℕ → A → A
+byNumber refuses ℕ.zero a = a
+byNumber refuses (ℕ.suc n) a = refuses (ℕ.suc n)
+
+-- these questions, and then those
 abbrev pub orElse : ℕ → ℕ → ℕ
-orElse ℕ.zero n = n
-orElse (ℕ.suc m) n = ℕ.suc m
+orElse = byNumber (λ n. n)
 
 -- what is to be seen after a call: its report, the state that opening finds (none where it refuses the table), and memory
 pub record View : Type 0 where
@@ -49,6 +55,6 @@ pub record View : Type 0 where
 abbrev pub view : Report → Option State → List ℕ → View
 view r s m = record { report = r; state = s; memory = m }
 
--- the steps of a call that stores so many bytes and replaces p words: "3p + 2 steps, none if p is 0"
+-- the steps of a call that stores so many bytes and replaces p words by the journal
 abbrev pub stepsOf : (bytes p : ℕ) → ℕ
-stepsOf bytes p = bytes + cond (eqb p 0) 0 (3 * p + 2)
+stepsOf bytes p = bytes + journalSteps p

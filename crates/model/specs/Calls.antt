@@ -7,7 +7,7 @@ use lib.Dec.{leb, ltb, eqb}
 use lib.ListN.{length, replicate}
 use Rattle.words.specs.Layout.{pairsAt}
 use Rattle.model.specs.State.{State}
-use Rattle.model.specs.Answer.{Report, done, refused, ended, ask, View, view, stepsOf}
+use Rattle.model.specs.Answer.{Report, done, refused, ended, ask, byNumber, View, view, stepsOf}
 
 -- ---- a changing call: refused, or so many bytes stored, so many words replaced by the journal, a handle to name, and the state after it
 
@@ -15,17 +15,19 @@ pub data Effect : Type 0 where
   refuse : ℕ → Effect
   change : (bytes words handle : ℕ) → State → Effect
 
--- by the number of its questions: 0 goes on
 abbrev pub orRefuse : ℕ → Effect → Effect
-orRefuse ℕ.zero f = f
-orRefuse (ℕ.suc n) f = refuse (ℕ.suc n)
+orRefuse = byNumber refuse
 
--- What a call of this effect at budget k leaves to be seen, for a call that changes no memory: the new state once all the pairs and word 6
--- are stored, and until then the old one.
+-- What a call of this effect at budget k leaves to be seen: the new state once all the pairs and word 6 are stored, and until then the old one;
+-- of memory `before` where it is refused, else `after`.
+abbrev pub viewedWith : Effect → ℕ → State → (before after : List ℕ) → View
+viewedWith (refuse n) k s before after = view (refused n) (some s) before
+viewedWith (change bytes words h new) k s before after =
+    view (ended (stepsOf bytes words) h k) (some (cond (ltb (bytes + 2 * words) k) new s)) after
+
+-- the same for a call that changes no memory
 abbrev pub viewed : Effect → ℕ → State → List ℕ → View
-viewed (refuse n) k s m = view (refused n) (some s) m
-viewed (change bytes words h after) k s m =
-    view (ended (stepsOf bytes words) h k) (some (cond (ltb (bytes + 2 * words) k) after s)) m
+viewed f k s m = viewedWith f k s m m
 
 -- ---- make: "a fresh store: no domains, next handle 1, no entries"
 

@@ -22,9 +22,24 @@ abbrev pub depthIn : ℕ → List Domain → ℕ
 depthIn h [] = 0
 depthIn h (d ∷ ds) = cond (eqb (d .handle) h) 1 (deeper (depthIn h ds))
 
+-- the innermost domain; nobody, at depth 0, where none is live
+abbrev pub innermost : State → ℕ
+innermost s = length (s .domains)
+
+-- the parent and the child of the domain at depth d (document 01: the next domain out, the next domain in)
+abbrev pub parent : ℕ → ℕ
+parent d = d - 1
+
+abbrev pub child : ℕ → ℕ
+child d = suc d
+
+-- has it no parent?
+abbrev pub isOutermost : ℕ → Bool
+isOutermost d = leb d 1
+
 -- "Handle 0 in any later call means the innermost domain"
 abbrev pub named : ℕ → State → ℕ
-named h s = cond (eqb h 0) (length (s .domains)) (depthIn h (s .domains))
+named h s = cond (eqb h 0) (innermost s) (depthIn h (s .domains))
 
 -- what the domain at a depth holds of a cell: nothing at depth 0 and past the innermost
 abbrev pub holdingAt : List Domain → ℕ → ℕ → Option Holding
@@ -32,6 +47,13 @@ holdingAt [] d c = none
 holdingAt (x ∷ xs) zero c = none
 holdingAt (x ∷ xs) (suc zero) c = x .holds c
 holdingAt (x ∷ xs) (suc (suc d)) c = holdingAt xs (suc d) c
+
+-- what the innermost domain holds of it, and what its parent holds
+abbrev pub innerHolding : State → ℕ → Option Holding
+innerHolding s c = holdingAt (s .domains) (innermost s) c
+
+abbrev pub outerHolding : State → ℕ → Option Holding
+outerHolding s c = holdingAt (s .domains) (parent (innermost s)) c
 
 abbrev pub isHeld : Option Holding → Bool
 isHeld none = false
@@ -108,11 +130,21 @@ abbrev pub isLive : ℕ → State → Bool
 isLive h s = ltb 0 (named h s)
 
 abbrev pub isInnermost : ℕ → State → Bool
-isInnermost h s = eqb (named h s) (length (s .domains))
+isInnermost h s = eqb (named h s) (innermost s)
 
 -- 8: "Is the count at least 1 and first + count at most m?"
 abbrev pub rangeOk : (m first n : ℕ) → Bool
 rangeOk m first n = leb 1 n && leb (first + n) m
+
+-- each of these questions before the `rest`: 5; 5 and 6; 8
+abbrev pub askLive : (h : ℕ) → State → (rest : ℕ) → ℕ
+askLive h s rest = ask (isLive h s) 5 rest
+
+abbrev pub askInnermost : (h : ℕ) → State → (rest : ℕ) → ℕ
+askInnermost h s rest = askLive h s (ask (isInnermost h s) 6 rest)
+
+abbrev pub askRange : (m first n rest : ℕ) → ℕ
+askRange m first n rest = ask (rangeOk m first n) 8 rest
 
 -- is cell c one of first, .., first + n - 1?
 abbrev pub inRange : (first n c : ℕ) → Bool
@@ -160,26 +192,26 @@ givenValue viaParent memory o c = valueOr (cellBytes memory c) o
 abbrev pub addTo : List ℕ → (first n : ℕ) → Kind → Label → State → State
 addTo memory first n k l s = record {
   next = s .next;
-  domains = onInnermost (λ d. holding (λ c. cond (inRange first n c) (added l k (givenValue k memory (holdingAt (s .domains) (length (s .domains) - 1) c) c) (d .holds c)) (d .holds c)) d) (s .domains);
+  domains = onInnermost (λ d. holding (λ c. cond (inRange first n c) (added l k (givenValue k memory (outerHolding s c) c) (d .holds c)) (d .holds c)) d) (s .domains);
 }
 
 -- cells of the range that are newly held, and those whose label rises
 abbrev pub newlyHeld : (first n : ℕ) → State → ℕ
-newlyHeld first n s = count n (λ j. not (isHeld (holdingAt (s .domains) (length (s .domains)) (first + j))))
+newlyHeld first n s = count n (λ j. not (isHeld (innerHolding s (first + j))))
 
 abbrev pub relabelled : (first n : ℕ) → Label → State → ℕ
-relabelled first n l s = cond (isWritable l) (count n (λ j. heldReadOnly (holdingAt (s .domains) (length (s .domains)) (first + j)))) 0
+relabelled first n l s = cond (isWritable l) (count n (λ j. heldReadOnly (innerHolding s (first + j)))) 0
 
 -- 11: "Does the next domain out hold every newly held cell?"
 abbrev pub parentHolds : (first n : ℕ) → State → Bool
 parentHolds first n s =
-    all n (λ j. isHeld (holdingAt (s .domains) (length (s .domains)) (first + j)) || isHeld (holdingAt (s .domains) (length (s .domains) - 1) (first + j)))
+    all n (λ j. isHeld (innerHolding s (first + j)) || isHeld (outerHolding s (first + j)))
 
 -- 12: "Does memory equal that domain's value in each of them?"
 abbrev pub parentSame : List ℕ → (first n : ℕ) → State → Bool
 parentSame memory first n s =
-    all n (λ j. isHeld (holdingAt (s .domains) (length (s .domains)) (first + j))
-    || sameCell (valueOr (cellBytes memory (first + j)) (holdingAt (s .domains) (length (s .domains) - 1) (first + j))) (cellBytes memory (first + j)))
+    all n (λ j. isHeld (innerHolding s (first + j))
+    || sameCell (valueOr (cellBytes memory (first + j)) (outerHolding s (first + j))) (cellBytes memory (first + j)))
 
 -- new bodies, where n cells are newly held
 abbrev pub newBodies : Kind → ℕ → ℕ
@@ -187,14 +219,13 @@ newBodies k n = cond (hasBody k) n 0
 
 abbrev pub addChecks : Room → List ℕ → (h first n k l : ℕ) → State → ℕ
 addChecks room memory h first n k l s =
-    ask (isLive h s) 5
-    (ask (isInnermost h s) 6
+    askInnermost h s
     (ask (leb k 1 && leb l 1) 7
-    (ask (rangeOk (room .cells) first n) 8
+    (askRange (room .cells) first n
     (ask (not (isVia (kindNumbered k)) || parentHolds first n s) 11
     (ask (not (isVia (kindNumbered k)) || parentSame memory first n s) 12
     (ask (leb (liveEntries (room .cells) s + newlyHeld first n s) (room .slots)) 16
-    (ask (not (hasBody (kindNumbered k)) || leb (copiesInUse (room .cells) s + newlyHeld first n s) (room .bodies)) 17 0)))))))
+    (ask (not (hasBody (kindNumbered k)) || leb (copiesInUse (room .cells) s + newlyHeld first n s) (room .bodies)) 17 0))))))
 
 abbrev pub addEffect : Room → List ℕ → (h first n k l : ℕ) → State → Effect
 addEffect room memory h first n k l s =
@@ -212,10 +243,10 @@ deleteFrom d first n s = record {
 
 abbrev pub deleteChecks : (m h first n : ℕ) → State → ℕ
 deleteChecks m h first n s =
-    ask (isLive h s) 5
-    (ask (rangeOk m first n) 8
+    askLive h s
+    (askRange m first n
     (ask (all n (λ j. isHeld (holdingAt (s .domains) (named h s) (first + j)))) 13
-    (ask (all n (λ j. not (heldVia (holdingAt (s .domains) (suc (named h s)) (first + j))))) 14 0)))
+    (ask (all n (λ j. not (heldVia (holdingAt (s .domains) (child (named h s)) (first + j))))) 14 0)))
 
 abbrev pub deleteEffect : (m h first n : ℕ) → State → Effect
 deleteEffect m h first n s = orRefuse (deleteChecks m h first n s) (change 0 (2 * n) 0 (deleteFrom (named h s) first n s))
@@ -234,20 +265,19 @@ advance memory s = record {
 
 -- the read-write cells of the innermost domain, of m cells
 abbrev pub writableCells : ℕ → State → ℕ
-writableCells m s = count m (λ c. heldWritable (holdingAt (s .domains) (length (s .domains)) c))
+writableCells m s = count m (λ c. heldWritable (innerHolding s c))
 
 -- 15: "Does the next domain out, if any, hold every read-write cell?"
 abbrev pub parentCovers : ℕ → State → Bool
 parentCovers m s =
-    leb (length (s .domains)) 1
-    || all m (λ c. not (heldWritable (holdingAt (s .domains) (length (s .domains)) c)) || isHeld (holdingAt (s .domains) (length (s .domains) - 1) c))
+    isOutermost (innermost s)
+    || all m (λ c. not (heldWritable (innerHolding s c)) || isHeld (outerHolding s c))
 
 abbrev pub advanceChecks : Room → (h : ℕ) → State → ℕ
 advanceChecks room h s =
-    ask (isLive h s) 5
-    (ask (isInnermost h s) 6
+    askInnermost h s
     (ask (parentCovers (room .cells) s) 15
-    (ask (leb (copiesInUse (room .cells) s + writableCells (room .cells) s) (room .bodies)) 17 0)))
+    (ask (leb (copiesInUse (room .cells) s + writableCells (room .cells) s) (room .bodies)) 17 0))
 
 abbrev pub advanceEffect : Room → List ℕ → (h : ℕ) → State → Effect
 advanceEffect room memory h s =
@@ -271,14 +301,14 @@ commit s = record {
 
 -- the entries that change: those of the innermost domain, which move or are freed, and those of its parent whose label rises
 abbrev pub innerCells : ℕ → State → ℕ
-innerCells m s = count m (λ c. isHeld (holdingAt (s .domains) (length (s .domains)) c))
+innerCells m s = count m (λ c. isHeld (innerHolding s c))
 
 abbrev pub raisedCells : ℕ → State → ℕ
 raisedCells m s =
-    count m (λ c. heldReadOnly (holdingAt (s .domains) (length (s .domains) - 1) c) && heldWritable (holdingAt (s .domains) (length (s .domains)) c))
+    count m (λ c. heldReadOnly (outerHolding s c) && heldWritable (innerHolding s c))
 
 abbrev pub commitChecks : (h : ℕ) → State → ℕ
-commitChecks h s = ask (isLive h s) 5 (ask (isInnermost h s) 6 0)
+commitChecks h s = askInnermost h s 0
 
 abbrev pub commitEffect : (m h : ℕ) → State → Effect
 commitEffect m h s = orRefuse (commitChecks h s) (change 0 (2 + 2 * (innerCells m s + raisedCells m s)) 0 (commit s))

@@ -9,9 +9,9 @@ use Rattle.words.specs.Scan.{count}
 use Rattle.words.specs.Stores.{tab}
 use Rattle.words.specs.Cells.{cellBytes}
 use Rattle.model.specs.State.{Holding, Domain, State}
-use Rattle.model.specs.Answer.{Report, done, ask, ended, refused, View, view, stepsOf}
-use Rattle.model.specs.Calls.{Effect, refuse, change, orRefuse}
-use Rattle.model.specs.Holdings.{named, isHeld, valueOr, isLive, rangeOk, countHeld}
+use Rattle.model.specs.Answer.{Report, done, ended, refused, byNumber, View, view, stepsOf}
+use Rattle.model.specs.Calls.{Effect, change, orRefuse, viewedWith}
+use Rattle.model.specs.Holdings.{named, isHeld, valueOr, askLive, askRange, countHeld}
 
 -- ---- the bytes of memory: the cell that byte x is in, and its place in that cell
 
@@ -75,7 +75,7 @@ abbrev pub restoreWords : (m d : ℕ) → State → ℕ
 restoreWords m d s = cond (eqb (endedDomains d s) 0) 0 (2 * freedEntries m d s + (1 + endedDomains d s))
 
 abbrev pub restoreChecks : (h : ℕ) → State → ℕ
-restoreChecks h s = ask (isLive h s) 5 0
+restoreChecks h s = askLive h s 0
 
 abbrev pub restoreEffect : (m h : ℕ) → State → Effect
 restoreEffect m h s =
@@ -87,19 +87,13 @@ unfoldable pub memoryAfterSteps : (k d : ℕ) → State → List ℕ → List �
 memoryAfterSteps k d s memory =
     tab (length memory) (λ x. cond (ltb (64 * cellsPutBack (cellOfByte x) d s + placeInCell x) k) (restoredByte d s memory x) (getD memory x 0))
 
--- what a call of this effect at budget k leaves to be seen, for a call that leaves another memory: `before` where it is refused, else `after`
-abbrev pub viewedWith : Effect → ℕ → State → (before after : List ℕ) → View
-viewedWith (refuse n) k s before after = view (refused n) (some s) before
-viewedWith (change bytes words h new) k s before after =
-    view (ended (stepsOf bytes words) h k) (some (cond (ltb (bytes + 2 * words) k) new s)) after
-
 abbrev pub restoreView : (m h k : ℕ) → State → List ℕ → View
 restoreView m h k s memory = viewedWith (restoreEffect m h s) k s memory (memoryAfterSteps k (named h s) s memory)
 
 -- ---- look: "shows, for a handle and a cell, the 64 bytes that restore would leave there"; it changes nothing
 
 abbrev pub lookChecks : (m h c : ℕ) → State → ℕ
-lookChecks m h c s = ask (isLive h s) 5 (ask (rangeOk m c 1) 8 0)
+lookChecks m h c s = askLive h s (askRange m c 1 0)
 
 -- what it answers, and the part that it shows
 pub record Looked : Type 0 where
@@ -110,10 +104,9 @@ pub record Looked : Type 0 where
 abbrev pub lookRefused : ℕ → Looked
 lookRefused n = record { report = refused n; part = [] }
 
--- by the number of its questions: 0 shows the part
+-- else the part is shown
 abbrev pub lookedBy : ℕ → List ℕ → Looked
-lookedBy ℕ.zero part = record { report = done 0 0; part = part }
-lookedBy (ℕ.suc n) part = lookRefused (ℕ.suc n)
+lookedBy q part = byNumber lookRefused q (record { report = done 0 0; part = part })
 
 abbrev pub looked : (m h c : ℕ) → State → List ℕ → Looked
 looked m h c s memory = lookedBy (lookChecks m h c s) (restoredCell (named h s) s memory c)

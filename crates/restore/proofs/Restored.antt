@@ -22,9 +22,9 @@ use Rattle.search.specs.Domain.{depthNamed}
 use Rattle.search.proofs.Domain.{depth-small}
 use Rattle.model.specs.State.{State}
 use Rattle.model.specs.Answer.{refused, ask, orElse, view}
-use Rattle.model.specs.Calls.{change, orRefuse}
+use Rattle.model.specs.Calls.{change, orRefuse, viewedWith}
 use Rattle.model.specs.Holdings.{named}
-use Rattle.model.specs.Restore.{restored, cellsPutBack, memoryAfterSteps, viewedWith, restoreView}
+use Rattle.model.specs.Restore.{restored, cellsPutBack, memoryAfterSteps, restoreView}
 use Rattle.model.specs.Restore as model
 use Rattle.store.specs.Outcome.{Buffers, buffers, outcome, perform, unless}
 use Rattle.store.specs.Checks.{storeCheck}

@@ -2,26 +2,26 @@
 use Prim.Native.Nat.{ℕ, _+_, _-_}
 use mathlib.Core.Bool.{Bool, cond}
 use mathlib.Core.List.{List, [], _∷_, _++_, map}
-use lib.Dec.{ltb, eqb}
+use lib.Dec.{eqb}
 use lib.ListN.{length}
 use Rattle.words.specs.Layout.{cellsOf, slotsOf, pairsAt, liveAt, handleAt}
 use Rattle.words.specs.Stores.{Store, _≔_, tab, gather}
 use Rattle.words.specs.Journal.{journal}
 use Rattle.words.specs.Cells.{cellPlan}
-use Rattle.table.specs.Entry.{live, word1, depthOf}
+use Rattle.table.specs.Entry.{live, word1, depthOf, innermost, isInside}
 use Rattle.table.specs.Changes.{Change, keep, put, entryChanges}
 use Rattle.search.specs.Search.{heldFrom, bodyFrom}
 use Rattle.search.specs.Domain.{depthNamed}
-use Rattle.model.specs.Answer.{ask, orElse, View}
+use Rattle.model.specs.Answer.{orElse, View}
 use Rattle.model.specs.Restore.{restoreView}
 use Rattle.store.specs.Outcome.{Buffers, Step, inMemory, inTable, Call, perform, unless}
-use Rattle.store.specs.Checks.{storeCheck}
+use Rattle.store.specs.Checks.{storeCheck, askLiveIn}
 use Rattle.store.specs.State.{stateOf}
 use Rattle.store.specs.Means.{orRefused}
 
 -- questions 1 to 5
 unfoldable pub restoreCheck : (memory bodies : ℕ) → List ℕ → (h : ℕ) → ℕ
-restoreCheck memory bodies t h = orElse (storeCheck memory bodies t) (ask (ltb 0 (depthNamed t h)) 5 0)
+restoreCheck memory bodies t h = orElse (storeCheck memory bodies t) (askLiveIn t h 0)
 
 -- "bytes first: 64 for each .. cell put back, rising by cell and byte": each of m cells held at depth d or inside it, from the body behind its
 -- first holder
@@ -31,7 +31,7 @@ restoreBytes m d bodies t =
 
 -- the entries of the domains inside the one at depth d are freed
 unfoldable pub restoreChange : (e : ℕ) → List ℕ → (d i : ℕ) → Change
-restoreChange e t d i = cond (ltb d (depthOf (word1 e t i))) (put 0 0) keep
+restoreChange e t d i = cond (isInside d (depthOf (word1 e t i))) (put 0 0) keep
 
 -- the handles of the domains inside, of n that live, are cleared
 abbrev pub clearedHandles : (d n : ℕ) → List Store
@@ -40,7 +40,7 @@ clearedHandles d n = tab (n - d) (λ k. handleAt (d + k) ≔ 0)
 -- the number of live domains, the handles that leave, and the entries; nothing where no domain ends
 unfoldable pub restoreWords : (d : ℕ) → List ℕ → List Store
 restoreWords d t =
-    cond (eqb (live t) d) []
+    cond (eqb (innermost t) d) []
     (((liveAt ≔ d) ∷ clearedHandles d (live t)) ++ entryChanges (slotsOf (length t)) (restoreChange (slotsOf (length t)) t d))
 
 -- "bytes first", here into memory, so that memory is whole before any word of the table changes; and then the words by the journal

@@ -12,12 +12,12 @@ use lib.Pow.{pow-pos}
 use lib.Seq.{getD-set-same, getD-set-other}
 use Rattle.words.specs.Layout.{maxLive}
 use Rattle.words.proofs.Scan.{by-bool, by-le, and-split, and-join, is-false, is-true, true≢}
-use Rattle.table.specs.Entry.{word1, depthOf, writableOf, findIn, holdsIn}
+use Rattle.table.specs.Entry.{word1, depthOf, writableOf, findIn, holdsIn, writesIn}
 use Rattle.table.specs.Marks.{has, withDepth, cellIn, markAt, Marked, CellsOnce}
 use Rattle.table.proofs.Digits.{has-zero, has-other, bit-small}
 use Rattle.table.proofs.Marks.{split}
 use Rattle.table.proofs.Entry.{find-some, find-hit, holds-true, holds-found}
-use Rattle.search.specs.Writable.{writesIn, withoutDepth, takenBy, keepCell, TellWritable}
+use Rattle.search.specs.Writable.{withoutDepth, takenBy, keepCell, TellWritable}
 
 -- ---- a depth out of a mark
 even : (d : ℕ) → 1 ≤ d → 2 * (2 ^ d / 2) ≡ 2 ^ d

@@ -1,5 +1,5 @@
 -- What a table means: the first holder of a cell from a domain inwards, and the value behind a via parent chain.
-use Prim.Native.Nat.{ℕ, zero, suc, _+_, _-_, _%_, _≤_, _<_}
+use Prim.Native.Nat.{ℕ, zero, suc, _+_, _≤_, _<_}
 use mathlib.Core.Bool.{Bool, true, false, cond}
 use mathlib.Core.List.{List}
 use mathlib.Core.Path.{_≡_}
@@ -7,7 +7,7 @@ use lib.Dec.{ltb, eqb}
 use Rattle.words.specs.Scan.{first}
 use Rattle.words.specs.Layout.{maxCells}
 use Rattle.words.specs.Cells.{cellBytes}
-use Rattle.table.specs.Entry.{live, word1, word2, depthOf, viaOf, cellOf, names, findIn, holdsIn}
+use Rattle.table.specs.Entry.{word1, word2, depthOf, viaOf, cellOf, belowDepth, domainsFrom, names, findIn, holdsIn}
 use Rattle.search.specs.declared.Holder.{Holder}
 use Rattle.search.specs.declared.Holder.the-variants.{At, Nobody}
 use Rattle.search.specs.declared.Held.{Held}
@@ -17,7 +17,7 @@ use Rattle.search.specs.declared.Held.the-variants.{Nowhere, InBody}
 
 -- a word whose depth and cell are all that it has
 abbrev pub Bare : ℕ → Type 0
-Bare key = key % 268_435_456 < maxCells
+Bare key = belowDepth key < maxCells
 
 pub record IsKey (d c key : ℕ) : Type 0 where
   pub bare : Bare key
@@ -36,11 +36,11 @@ Unnamed e t key i n = (k : ℕ) → i ≤ k → k < n → namedBy key (word1 e t
 
 -- "the search runs from the named domain inwards and ends at the first holder": the depths before that holder, or all of them
 unfoldable pub stepsIn : ℕ → List ℕ → ℕ → ℕ → ℕ
-stepsIn e t d c = first (suc (live t) - d) (λ k. holdsIn e t (d + k) c)
+stepsIn e t d c = first (domainsFrom t d) (λ k. holdsIn e t (d + k) c)
 
 -- does the domain at depth d, or one inside it, hold cell c?
 abbrev pub heldFrom : ℕ → List ℕ → ℕ → ℕ → Bool
-heldFrom e t d c = ltb (stepsIn e t d c) (suc (live t) - d)
+heldFrom e t d c = ltb (stepsIn e t d c) (domainsFrom t d)
 
 -- the depth and the entry of the first holder, or nobody
 unfoldable pub holderIn : ℕ → List ℕ → ℕ → ℕ → Holder

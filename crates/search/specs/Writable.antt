@@ -5,12 +5,8 @@ use mathlib.Core.List.{List}
 use mathlib.Core.Path.{_≡_}
 use lib.Dec.{eqb}
 use lib.ListN.{getD, set}
-use Rattle.table.specs.Entry.{word1, depthOf, cellOf, writableOf, findIn, holdsIn}
+use Rattle.table.specs.Entry.{depthOf, cellOf, writableOf, writesIn}
 use Rattle.table.specs.Marks.{has, markAt}
-
--- does the domain at depth d hold cell c read-write?
-abbrev pub writesIn : ℕ → List ℕ → ℕ → ℕ → Bool
-writesIn e t d c = holdsIn e t d c && eqb (writableOf (word1 e t (findIn e t d c))) 1
 
 -- a mark with one depth less
 abbrev pub withoutDepth : ℕ → ℕ → ℕ

@@ -5,9 +5,10 @@ use lib.Dec.{eqb, ltb}
 use lib.ListN.{length}
 use Rattle.words.specs.Layout.{cellsOf, bodiesOf, slotsOf, maxLive}
 use Rattle.words.specs.Journal.{pending}
-use Rattle.table.specs.Entry.{live, nextHandle}
+use Rattle.table.specs.Entry.{live, nextHandle, innermost}
 use Rattle.table.specs.Checks.{lengthsOk, headerOk}
 use Rattle.table.specs.Rule.{tableOk}
+use Rattle.search.specs.Domain.{depthNamed}
 use Rattle.model.specs.Answer.{ask, orElse}
 
 -- questions 1 and 2
@@ -35,7 +36,18 @@ unfoldable pub storeCheck : ℕ → ℕ → List ℕ → ℕ
 storeCheck memory bodies t =
     orElse (shapeCheck memory bodies t) (ask (eqb (pending t) 0) 3 (tableCheck memory bodies t))
 
--- questions 9 and 10 besides
+-- ---- the questions that several calls are put besides, each before the `rest`
+
+-- 5: "Does the handle name a live domain?"
+abbrev pub askLiveIn : List ℕ → (h rest : ℕ) → ℕ
+askLiveIn t h rest = ask (ltb 0 (depthNamed t h)) 5 rest
+
+-- and 6: "Is it the innermost?"
+abbrev pub askInnermostIn : List ℕ → (h rest : ℕ) → ℕ
+askInnermostIn t h rest = askLiveIn t h (ask (eqb (depthNamed t h) (innermost t)) 6 rest)
+
+-- ---- create: questions 9 and 10 besides
+
 unfoldable pub createCheck : ℕ → ℕ → List ℕ → ℕ
 createCheck memory bodies t =
     orElse (storeCheck memory bodies t)

@@ -8,7 +8,7 @@ use lib.ListN.{length}
 use Rattle.words.specs.Layout.{cellsOf, bodiesOf}
 use Rattle.words.specs.Journal.{pending}
 use Rattle.model.specs.State.{State}
-use Rattle.model.specs.Answer.{isDone, Report, done, refused, View, view, stepsOf}
+use Rattle.model.specs.Answer.{isDone, Report, done, refused, byNumber, View, view, stepsOf}
 use Rattle.model.specs.Holdings.{Room}
 use Rattle.model.specs.Calls.{Effect, refuse, change, viewed, makeView, openView, createEffect, Listed, listed, listRefused}
 use Rattle.store.specs.Outcome.{Buffers, report, Call, Outcome, leaves, outcome}
@@ -26,8 +26,7 @@ seenOf o = seen (o .report) (o .buffers)
 
 -- a call refused by a question on the buffers leaves what there was
 abbrev pub orRefused : ℕ → Buffers → View → View
-orRefused ℕ.zero b v = v
-orRefused (ℕ.suc n) b v = seen (refused (ℕ.suc n)) b
+orRefused q b v = byNumber (λ n. seen (refused n) b) q v
 
 unfoldable pub makeMeans : ℕ → Buffers → View
 makeMeans k b =
@@ -78,8 +77,7 @@ abbrev pub listing : Listing → Listed
 listing l = record { report = report (l .answer); count = l .count; handles = l .handles }
 
 abbrev pub orListRefused : ℕ → Listed → Listed
-orListRefused ℕ.zero l = l
-orListRefused (ℕ.suc n) l = listRefused (ℕ.suc n)
+orListRefused = byNumber listRefused
 
 unfoldable pub listMeans : Buffers → Listed
 listMeans b = orListRefused (storeCheck (length (b .memory)) (length (b .bodies)) (b .table)) (listed (stateOf b))

@@ -4,7 +4,7 @@ use mathlib.Core.List.{List, map, _++_}
 use lib.ListN.{length, take}
 use Rattle.words.specs.Stores.{Store, store, run}
 use Rattle.words.specs.Journal.{journal}
-use Rattle.model.specs.Answer.{Report, done, stopped, refused, ended}
+use Rattle.model.specs.Answer.{Report, done, stopped, refused, ended, byNumber}
 use Rattle.store.specs.declared.Answer.{Answer}
 use Rattle.store.specs.declared.Answer.the-variants.{Refused, Done, Stopped}
 
@@ -44,10 +44,9 @@ pub data Call : Type 0 where
 abbrev pub changePlan : (first : ℕ) (bytes words : List Store) → List Step
 changePlan first bytes words = map inBodies bytes ++ map inTable (journal first words)
 
--- a call by the number of its questions: 0 goes on
+-- a call by the number of its questions
 abbrev pub unless : ℕ → Call → Call
-unless ℕ.zero c = c
-unless (ℕ.suc n) c = refuse (ℕ.suc n)
+unless = byNumber refuse
 
 -- a call's report and the buffers that it leaves
 pub record Outcome : Type 0 where

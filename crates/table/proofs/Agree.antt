@@ -10,7 +10,7 @@ use lib.Dec.{eqb}
 use Rattle.words.specs.Layout.{liveAt, nextAt, pendingAt, handleAt, maxLive, pairsAt, firstAt, secondAt}
 use Rattle.words.proofs.Scan.{all-ext, first-ext, by-bool}
 use Rattle.table.specs.Entry.{word1, names, depthOf, cellOf, parent, findIn, holdsIn}
-use Rattle.table.specs.Rule.{headOk, handleOk, kindOk, entryOk, parentOk, apart, apartBefore, ruleOk}
+use Rattle.table.specs.Rule.{headOk, handleOk, entryOk, parentOk, apart, apartBefore, ruleOk}
 
 -- ---- lists that agree below a bound
 abbrev pub Agree : ℕ → List ℕ → List ℕ → Type 0
@@ -38,7 +38,7 @@ module _ (m e b : ℕ) (s t : List ℕ) (h : Same (pairsAt e) s t) where
   handle-agree k l = rw (h liveAt (omega arith) (λ z. omega arith), h nextAt (omega arith) (λ z. omega arith), h (handleAt k) (omega arith) (λ z. omega arith), h (handleAt (k - 1)) (omega arith) (λ z. omega arith))
 
   entry-agree : (i : ℕ) → i < e → entryOk m e b s i ≡ entryOk m e b t i
-  unfolding entryOk kindOk
+  unfolding entryOk
   entry-agree i l = rw (h liveAt (omega arith) (λ z. omega arith), h (firstAt e i) (omega arith) (λ z. omega arith), h (secondAt e i) (omega arith) (λ z. omega arith))
 
   parent-agree : (i : ℕ) → i < e → parentOk e s i ≡ parentOk e t i

@@ -13,7 +13,7 @@ use Rattle.words.specs.Scan.{all}
 use Rattle.words.proofs.Scan.{and-split, by-le, all-make, all-not, all-ext, true≢}
 use Rattle.table.specs.Entry.{live, word1, word2, depthOf, viaOf, unusedOf, cellOf}
 use Rattle.table.specs.Rule.{headOk, kindOk, entryOk, parentOk, ruleOk}
-use Rattle.table.specs.Marks.{Blank, has, cellIn, markAt, markCell, IsCopy, markBody, bodyFits, placed, kindTold, FreeRun, NoVias, Passed, AllMarked}
+use Rattle.table.specs.Marks.{Blank, has, cellIn, markAt, markCell, IsCopy, markBody, bodyFits, placed, FreeRun, NoVias, Passed, AllMarked}
 use Rattle.table.proofs.Digits.{has-none}
 use Rattle.table.proofs.Marks.{split, marks-none, once-none, once-not, once-more, marked-more, distinct-none, bodies-more, single-more}
 use Rattle.table.proofs.Rule.{entry-least, outer-make}
@@ -90,11 +90,11 @@ module _ (m e b : ℕ) (t : List ℕ) where
   free-wrong i here h = rw (eq-eqb _ _ here) h
 
   -- an entry in use, by its two words
-  pub entry-parts : (i : ℕ) → (word1 e t i ≡ 0 → ⊥) → entryOk m e b t i ≡ (placed m (live t) (word1 e t i) && kindTold b (word1 e t i) (word2 e t i))
-  unfolding entryOk kindOk
+  pub entry-parts : (i : ℕ) → (word1 e t i ≡ 0 → ⊥) → entryOk m e b t i ≡ (placed m (live t) (word1 e t i) && kindOk b (word1 e t i) (word2 e t i))
+  unfolding entryOk
   entry-parts i z =
       let w = word1 e t i in
-      rw (ne-eqb w 0 z) (and-right (leb 1 (depthOf w)) (leb (depthOf w) (live t)) (eqb (unusedOf w) 0) (ltb (cellOf w) m) (kindTold b w (word2 e t i)))
+      rw (ne-eqb w 0 z) (and-right (leb 1 (depthOf w)) (leb (depthOf w) (live t)) (eqb (unusedOf w) 0) (ltb (cellOf w) m) (kindOk b w (word2 e t i)))
 
   pub entry-wrong : (n : ℕ) → n < e → entryOk m e b t n ≡ false → ruleOk m e b t ≡ false
   entry-wrong n l h = no-entries m e b t (all-not e (entryOk m e b t) n l h)

@@ -67,7 +67,7 @@ module _ (m e b : ℕ) (t : List ℕ) where
       rw same
 
   pub entry-used : (i : ℕ) → entryOk m e b t i ≡ true → (word1 e t i ≡ 0 → ⊥) → Used m e b t i
-  unfolding entryOk kindOk
+  unfolding entryOk
   entry-used i h z =
       let h1 = rw (ne-eqb _ _ z) at h in
       let s1 = and-split _ _ h1 in
@@ -85,13 +85,13 @@ module _ (m e b : ℕ) (t : List ℕ) where
       }
 
   pub entry-make : (i : ℕ) → (word1 e t i ≡ 0 → word2 e t i ≡ 0) → ((word1 e t i ≡ 0 → ⊥) → Used m e b t i) → entryOk m e b t i ≡ true
-  unfolding entryOk kindOk
+  unfolding entryOk
   entry-make i f g =
       by-bool (eqb (word1 e t i) 0)
       (λ z. rw z (eq-eqb _ _ (f (eqb-true _ _ z))))
       (λ z.
       let u = g (eqb-false _ _ z) in
-      let kind : kindOk e b t i ≡ true =
+      let kind : kindOk b (word1 e t i) (word2 e t i) ≡ true =
       by-bool (eqb (viaOf (word1 e t i)) 0)
       (λ y. rw y (lt-ltb _ _ (u .copy (eqb-true _ _ y))))
       (λ y. rw y (and-join _ _ (eq-eqb _ _ (u .second (eqb-false _ _ y))) (le-leb _ _ (u .inner (eqb-false _ _ y))))) in

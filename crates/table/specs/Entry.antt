@@ -1,10 +1,10 @@
 -- Document 01, "Three lent buffers": the words of an entry, and which entry is found for a depth and a cell.
 -- e is the table's number of entry slots, t its words.
-use Prim.Native.Nat.{ℕ, _+_, _-_, _*_, _/_, _%_}
+use Prim.Native.Nat.{ℕ, suc, _+_, _-_, _*_, _/_, _%_}
 use mathlib.Core.Bool.{Bool, not, _&&_}
 use mathlib.Core.List.{List}
 use lib.ListN.{getD, set}
-use lib.Dec.{ltb, eqb}
+use lib.Dec.{ltb, leb, eqb}
 use Rattle.words.specs.Layout.{liveAt, nextAt, handleAt, firstAt, secondAt}
 use Rattle.words.specs.Scan.{first}
 
@@ -45,7 +45,10 @@ unusedOf w = w / 65_536 % 1_024
 abbrev pub cellOf : ℕ → ℕ
 cellOf w = w % 65_536
 
--- all bits below the kind
+-- all bits below the depth, and all below the kind
+abbrev pub belowDepth : ℕ → ℕ
+belowDepth w = w % 268_435_456
+
 abbrev pub belowKind : ℕ → ℕ
 belowKind w = w % 67_108_864
 
@@ -73,9 +76,39 @@ outward w = w - 268_435_456
 abbrev pub asCopy : ℕ → ℕ
 asCopy w = w - 67_108_864 * viaOf w
 
--- the depth of the parent (document 01: the next domain out)
+-- ---- the domains: a chain, each inside the one before it, and named by its depth
+
+-- the innermost domain; nobody, at depth 0, where none is live
+abbrev pub innermost : List ℕ → ℕ
+innermost t = live t
+
+-- the parent and the child of the domain at depth d (document 01: the next domain out, the next domain in)
 abbrev pub parent : ℕ → ℕ
 parent d = d - 1
+
+abbrev pub child : ℕ → ℕ
+child d = suc d
+
+-- has it a parent? Is it the outermost, or nobody?
+abbrev pub hasParent : ℕ → Bool
+hasParent d = leb 2 d
+
+abbrev pub isOutermost : ℕ → Bool
+isOutermost d = leb d 1
+
+-- is the domain at depth k inside it (a descendant)?
+abbrev pub isInside : (d k : ℕ) → Bool
+isInside d k = ltb d k
+
+-- it and the domains inside it: how many they are
+abbrev pub domainsFrom : List ℕ → ℕ → ℕ
+domainsFrom t d = suc (live t) - d
+
+-- the number of the word with its handle
+abbrev pub handleOf : ℕ → ℕ
+handleOf d = handleAt (parent d)
+
+-- ---- which entry is found for a depth and a cell
 
 -- does an entry's first word name this depth and this cell?
 abbrev pub names : ℕ → ℕ → ℕ → Bool
@@ -88,6 +121,14 @@ findIn e t d c = first e (λ i. names d c (word1 e t i))
 -- does the domain at depth d hold cell c?
 unfoldable pub holdsIn : ℕ → List ℕ → ℕ → ℕ → Bool
 holdsIn e t d c = ltb (findIn e t d c) e
+
+-- does it hold the cell read-write?
+abbrev pub writesIn : ℕ → List ℕ → ℕ → ℕ → Bool
+writesIn e t d c = holdsIn e t d c && eqb (writableOf (word1 e t (findIn e t d c))) 1
+
+-- does its parent, if it has one, hold the cell?
+abbrev pub parentHas : ℕ → List ℕ → ℕ → ℕ → Bool
+parentHas e t d c = hasParent d && holdsIn e t (parent d) c
 
 -- the table with the two words of entry i replaced
 unfoldable pub setEntry : ℕ → List ℕ → ℕ → ℕ → ℕ → List ℕ

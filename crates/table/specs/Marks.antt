@@ -93,10 +93,6 @@ bodyFits w v used = cond (ownsBody w) (not (eqb (getD used v 0) 1)) true
 abbrev pub placed : ℕ → ℕ → ℕ → Bool
 placed m live w = leb 1 (depthOf w) && (leb (depthOf w) live && (eqb (unusedOf w) 0 && ltb (cellOf w) m))
 
--- the second word is the body of a copy; of via parent, which is not outermost, 0
-abbrev pub kindTold : ℕ → ℕ → ℕ → Bool
-kindTold b w v = cond (eqb (viaOf w) 0) (ltb v b) (eqb v 0 && leb 2 (depthOf w))
-
 -- the entries from the n-th to the one before the k-th are free
 abbrev pub FreeRun : ℕ → List ℕ → ℕ → ℕ → Type 0
 FreeRun e t n k = (i : ℕ) → n ≤ i → i < k → (word1 e t i ≡ 0) × (word2 e t i ≡ 0)

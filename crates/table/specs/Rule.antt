@@ -7,7 +7,7 @@ use lib.ListN.{getD}
 use Rattle.words.specs.Layout.{handleAt, maxLive, pairsAt, maxPairs}
 use Rattle.words.specs.Scan.{all}
 use Rattle.words.specs.Journal.{pending, pairs, namesOk, effective}
-use Rattle.table.specs.Entry.{live, nextHandle, handle, word1, word2, depthOf, viaOf, unusedOf, cellOf, parent, holdsIn}
+use Rattle.table.specs.Entry.{live, nextHandle, handle, word1, word2, depthOf, viaOf, unusedOf, cellOf, hasParent, parent, holdsIn}
 
 -- ---- words 4, 5 and 8 to 15
 
@@ -26,9 +26,8 @@ headOk t = leb (live t) maxLive && (leb 1 (nextHandle t) && all maxLive (handleO
 -- ---- an entry by itself
 
 -- the second word is the body of a copy; of via parent, which is not outermost, 0
-unfoldable pub kindOk : ℕ → ℕ → List ℕ → ℕ → Bool
-kindOk e b t i =
-    cond (eqb (viaOf (word1 e t i)) 0) (ltb (word2 e t i) b) (eqb (word2 e t i) 0 && leb 2 (depthOf (word1 e t i)))
+abbrev pub kindOk : (b w v : ℕ) → Bool
+kindOk b w v = cond (eqb (viaOf w) 0) (ltb v b) (eqb v 0 && hasParent (depthOf w))
 
 -- free with both words 0; or of a live depth and a cell of memory, with the other bits zero
 unfoldable pub entryOk : ℕ → ℕ → ℕ → List ℕ → ℕ → Bool
@@ -36,7 +35,7 @@ entryOk m e b t i =
     cond (eqb (word1 e t i) 0) (eqb (word2 e t i) 0)
     (leb 1 (depthOf (word1 e t i))
     && (leb (depthOf (word1 e t i)) (live t)
-    && (eqb (unusedOf (word1 e t i)) 0 && (ltb (cellOf (word1 e t i)) m && kindOk e b t i))))
+    && (eqb (unusedOf (word1 e t i)) 0 && (ltb (cellOf (word1 e t i)) m && kindOk b (word1 e t i) (word2 e t i)))))
 
 -- ---- entries beside each other
 

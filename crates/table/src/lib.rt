@@ -48,8 +48,8 @@ ghost use Rattle.words.specs.Journal.{nameOk, namesOk, pairs, pairPlans, effect
 ghost use Rattle.table.specs.Changes.{put, entryStores};
 ghost use Rattle.table.specs.Entry.{live, word1, word2, viaOf, depthOf, cellOf, parent};
 ghost use Rattle.table.specs.Checks.{lengthsOk, headerOk};
-ghost use Rattle.table.specs.Rule.{handleOk, headOk, parentOk, pairsOk, ruleOk, tableOk};
-ghost use Rattle.table.specs.Marks.{has, withDepth, markAt, markCell, Marked, ViasMarkable, ViaInner, parentTold, placed, kindTold, markBody, bodyFits, zeros, Blank, FreeRun, NoVias, Passed, AllMarked};
+ghost use Rattle.table.specs.Rule.{handleOk, headOk, kindOk, parentOk, pairsOk, ruleOk, tableOk};
+ghost use Rattle.table.specs.Marks.{has, withDepth, markAt, markCell, Marked, ViasMarkable, ViaInner, parentTold, placed, markBody, bodyFits, zeros, Blank, FreeRun, NoVias, Passed, AllMarked};
 
 // So many cells and entry slots count as few: what a call needs for them is cleared in no time.
 pub const FEW_CELLS: usize = 1024;
@@ -248,8 +248,8 @@ pub fn few_marks() -> [u8; 1024]
 // has? Marks the body.
 fn mark_body(used: &mut [u8], word: u32, second: u32, bodies: u32) -> bool
     requires { ⌜ (word ≡ 0 → ⊥) × (bodies ≤ length (now used)) ⌝ }
-    ensures right { λ r. ⌜ (r ≡ true → (kindTold bodies word second ≡ true) × (bodyFits word second (now (used .entry)) ≡ true) × (now (used .exit) ≡ markBody word second (now (used .entry)))) ⌝ }
-    ensures wrong { λ r. ⌜ (r ≡ false → kindTold bodies word second ≡ true → bodyFits word second (now (used .entry)) ≡ false) ⌝ }
+    ensures right { λ r. ⌜ (r ≡ true → (kindOk bodies word second ≡ true) × (bodyFits word second (now (used .entry)) ≡ true) × (now (used .exit) ≡ markBody word second (now (used .entry)))) ⌝ }
+    ensures wrong { λ r. ⌜ (r ≡ false → kindOk bodies word second ≡ true → bodyFits word second (now (used .entry)) ≡ false) ⌝ }
 {
     if is_via(word) {
         return (second == 0) & (2 <= depth_of(word));

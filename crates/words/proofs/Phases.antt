@@ -57,11 +57,9 @@ publish-run t first p k t′ h n e =
     (ap (λ (i : ℕ). stores (take i (publishPlan t first p)) t) (sym z))
 
 pub steps-none : (p : ℕ) → p ≡ 0 → 0 ≡ journalSteps p
-unfolding journalSteps
 steps-none p e = rw (eq-eqb p 0 e)
 
 pub steps-some : (p : ℕ) → (p ≡ 0 → ⊥) → 3 * p + 2 ≡ journalSteps p
-unfolding journalSteps
 steps-some p e = rw (ne-eqb p 0 e)
 
 pub steps-small : (p : ℕ) → journalSteps p ≤ 3 * p + 2

@@ -61,8 +61,8 @@ abbrev pub journal : ℕ → List Store → List Store
 journal first [] = []
 journal first (w ∷ ws) = journaled first (w ∷ ws)
 
--- the number of its steps
-unfoldable pub journalSteps : ℕ → ℕ
+-- "3p + 2 steps, none if p is 0"
+abbrev pub journalSteps : ℕ → ℕ
 journalSteps p = cond (eqb p 0) 0 (3 * p + 2)
 
 -- what follows once p pairs are written: their number makes them pending, then they are applied

@@ -8,7 +8,7 @@ use Rattle.words.proofs.Scan.{count-le}
 use Rattle.table.specs.Entry.{word1, ownsBody}
 use Rattle.search.specs.Free.{isCopy}
 use Rattle.search.proofs.From.{count-byte, byte-small}
-use Rattle.advance.specs.Notes.{turns}
+use Rattle.advance.specs.Advance.{turns}
 use Rattle.advance.proofs.Noting.{turning-front, copies-front}
 use Rattle.advance.proofs.bodies_wanted.Statement.{statement}
 use Rattle.advance.proofs.bodies_wanted.Tie as tie

@@ -2,7 +2,8 @@
 use mathlib.Core.Path.{sym, ap, _∙_}
 use borrow.Author.Tests.{not-true, not-false}
 use borrow.Author.Needs.{needs}
-use Rattle.advance.specs.Notes.{turns, listSlot}
+use Rattle.advance.specs.Advance.{turns}
+use Rattle.advance.specs.Notes.{listSlot}
 use Rattle.advance.proofs.list_slot.Statement.{statement}
 use Rattle.advance.proofs.list_slot.Tie as tie
 

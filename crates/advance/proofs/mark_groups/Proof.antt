@@ -9,7 +9,8 @@ use Rattle.words.specs.Scan.{all}
 use Rattle.words.proofs.Scan.{all-next}
 use Rattle.table.specs.Entry.{word1, cellOf, parent}
 use Rattle.table.specs.Marks.{has, markAt}
-use Rattle.advance.specs.Notes.{turns, markTurning, Turned}
+use Rattle.advance.specs.Advance.{turns}
+use Rattle.advance.specs.Notes.{markTurning, Turned}
 use Rattle.advance.proofs.Bits.{turned-none, turned-more}
 use Rattle.advance.proofs.Noting.{covered-front, turned-front}
 use Rattle.advance.proofs.mark_groups.Statement.{statement}
