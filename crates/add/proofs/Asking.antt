@@ -24,7 +24,8 @@ use Rattle.search.proofs.Free.{slots-all}
 use Rattle.search.proofs.Value.{ends-in-copy, body-fits}
 use Rattle.model.specs.Answer.{ask, orElse}
 use Rattle.model.specs.Holdings.{rangeOk}
-use Rattle.store.specs.Checks.{storeCheck}
+use Rattle.store.specs.Checks.{storeCheck, askInnermostIn}
+use Rattle.store.proofs.Named.{innermost-no, innermost-then}
 use Rattle.store.proofs.Checks.{ask-yes, ask-go, ask-stop, ask-rest, orElse-go, orElse-stop, orElse-both, store-shape, shape-facts}
 use Rattle.store.proofs.Raw.{raw-rule}
 use Rattle.add.specs.Add.{isNew, addCheck}
@@ -84,42 +85,25 @@ count-add j new f q = sym (count-more j f ∙ by-bool (f j) (λ h. rw (h, q)) (�
 
 -- ---- questions 5 to 8
 
-module _ (m base n : ℕ) where
-  pub range-over : m < n → false ≡ rangeOk m base n
-  range-over h = by-bool (leb 1 n) (λ p. rw (p, lt-leb (base + n) m (omega arith))) (λ p. rw p)
-
-  pub range-within : n ≤ m → (leb 1 n && leb base (m - n)) ≡ rangeOk m base n
-  range-within h =
-      by-le (base + n) m
-      (λ l. rw (le-leb (base + n) m l, le-leb base (m - n) (omega arith)))
-      (λ l. rw (lt-leb (base + n) m l, lt-leb base (m - n) (omega arith)))
-
 module _ (t : List ℕ) (m h base n k l : ℕ) where
-  pub range-5 : depthNamed t h ≡ 0 → 5 ≡ rangeCheck t m h base n k l
-  unfolding rangeCheck
-  range-5 z = sym (ask-stop (ltb 0 (depthNamed t h)) 5 _ (le-ltb 0 (depthNamed t h) (omega arith)))
-
-  module _ (q5 : depthNamed t h ≡ 0 → ⊥) where
-    yes5 : ltb 0 (depthNamed t h) ≡ true
-    yes5 = lt-ltb 0 (depthNamed t h) (omega (arith, q5))
-
-    pub range-6 : (depthNamed t h ≡ live t → ⊥) → 6 ≡ rangeCheck t m h base n k l
+  module _ (r : ℕ) (asked : r ≡ askInnermostIn t h 0) where
+    pub range-56 : (r ≡ 0 → ⊥) → r ≡ rangeCheck t m h base n k l
     unfolding rangeCheck
-    range-6 ne = sym (ask-go _ 5 _ yes5 ∙ ask-stop _ 6 _ (ne-eqb _ _ ne))
+    range-56 ne = innermost-no t h r _ asked ne
 
-    module _ (q6 : depthNamed t h ≡ live t) where
+    module _ (yes : r ≡ 0) where
       pub range-7 : (leb k 1 && leb l 1) ≡ false → 7 ≡ rangeCheck t m h base n k l
       unfolding rangeCheck
-      range-7 q = sym (ask-go _ 5 _ yes5 ∙ ask-go _ 6 _ (eq-eqb _ _ q6) ∙ ask-stop _ 7 _ q)
+      range-7 q = sym (ask-stop _ 7 _ q) ∙ innermost-then t h r _ asked yes
 
       module _ (q7 : (leb k 1 && leb l 1) ≡ true) where
         pub range-8 : rangeOk m base n ≡ false → 8 ≡ rangeCheck t m h base n k l
         unfolding rangeCheck
-        range-8 q = sym (ask-go _ 5 _ yes5 ∙ ask-go _ 6 _ (eq-eqb _ _ q6) ∙ ask-go _ 7 _ q7 ∙ ask-stop _ 8 _ q)
+        range-8 q = sym (ask-go _ 7 _ q7 ∙ ask-stop _ 8 _ q) ∙ innermost-then t h r _ asked yes
 
         pub range-0 : rangeOk m base n ≡ true → 0 ≡ rangeCheck t m h base n k l
         unfolding rangeCheck
-        range-0 q8 = sym (ask-go _ 5 _ yes5 ∙ ask-go _ 6 _ (eq-eqb _ _ q6) ∙ ask-go _ 7 _ q7 ∙ ask-go _ 8 _ q8)
+        range-0 q8 = sym (ask-go _ 7 _ q7 ∙ ask-go _ 8 _ q8) ∙ innermost-then t h r _ asked yes
 
   -- what they tell
   pub record Ranged : Type 0 where

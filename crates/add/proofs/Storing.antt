@@ -7,6 +7,7 @@ use native.Mathlib.Omega.{arith}
 use borrow.Author.Tests.{eqb-true, eqb-false}
 use lib.Dec.{eqb}
 use lib.ListN.{length, getD, take}
+use Rattle.changes.specs.Staged.{Journaled}
 use Rattle.words.specs.Layout.{bodiesOf, slotsOf, pairsAt, maxCells, maxBodies}
 use Rattle.words.specs.Scan.{count}
 use Rattle.words.specs.Stores.{stores}
@@ -21,7 +22,7 @@ use Rattle.store.proofs.Changes.{steps-needed}
 use Rattle.store.proofs.Raw.{raw-rule}
 use Rattle.add.specs.Add.{isNew}
 use Rattle.add.specs.declared.Range.{Range}
-use Rattle.add.specs.Walking.{unheld, newIn, spare, NoneBelow, copyBytes, Walkable, Stageable, rangeWords, Journaled, Ready, bytesOf, wordsOf}
+use Rattle.add.specs.Walking.{unheld, newIn, spare, NoneBelow, copyBytes, Walkable, Stageable, rangeWords, Ready, bytesOf, wordsOf}
 use Rattle.add.proofs.Asking.{lengths, held-new, count-held}
 use Rattle.add.proofs.Walks.{bytes-are, words-are}
 use Rattle.add.proofs.Chosen.{places-enough}

@@ -6,14 +6,14 @@ use mathlib.Core.Bool.{Bool, true, false, cond, not, _&&_, _||_}
 use mathlib.Core.List.{List, []}
 use lib.Dec.{ltb, leb, eqb}
 use lib.ListN.{length, getD, take}
-use Rattle.words.specs.Layout.{cellAt, cellsOf, bodiesOf, slotsOf, pairsAt, tableWords, maxLive, maxSlots, maxCells, maxBodies, maxPairs}
+use Rattle.words.specs.Layout.{cellAt, cellsOf, bodiesOf, slotsOf, pairsAt, tableWords, maxLive, maxSlots, maxCells, maxBodies, maxPairs, cellSize}
 use Rattle.words.specs.Scan as scan
 use Rattle.words.specs.Scan.{all, count, nth}
 use Rattle.words.specs.Cells.{cellBytes, sameCell, cellPlan}
 use Rattle.words.specs.Stores.{Store, stores, gather}
 use Rattle.words.specs.Journal.{journal}
 use Rattle.table.specs.Entry.{live, word1, word2, depthOf, cellOf, writableOf, entryWord, writable, innermost, parent, parentHas}
-use Rattle.table.specs.Marks.{has, Marked}
+use Rattle.table.specs.Marks.{markOf, has, Marked}
 use Rattle.table.specs.Changes.{Change, keep, put, entryChanges}
 use Rattle.search.specs.Search.{sourceIn, valueIn}
 use Rattle.search.specs.Free.{slotFree, usedSlots, copies, unmarkedFrom}
@@ -30,7 +30,7 @@ use Rattle.add.specs.declared.Range.{Range}
 
 -- does the mark of cell c lack depth d? The same of the j-th cell of the range, and how many such cells the range has
 abbrev pub lacks : List ℕ → (d c : ℕ) → Bool
-lacks held d c = not (has d (getD held c 0))
+lacks held d c = not (has d (markOf held c))
 
 abbrev pub unheld : List ℕ → (d base j : ℕ) → Bool
 unheld held d base j = lacks held d (base + j)
@@ -84,7 +84,7 @@ alike memory bodies e t held d c = not (lacks held d c) || sameCell (valueIn e t
 -- the copy behind cell c of the domain at depth d, and its body
 pub record Source (e : ℕ) (t bodies : List ℕ) (d c : ℕ) : Type 0 where
   pub slot : sourceIn e t d c < e
-  pub fits : cellAt (word2 e t (sourceIn e t d c)) + 64 ≤ length bodies
+  pub fits : cellAt (word2 e t (sourceIn e t d c)) + cellSize ≤ length bodies
 
 -- ---- the bytes: the j-th cell, where it is new, goes into the r-th body without a mark, where r new cells come before it
 
@@ -153,12 +153,6 @@ pub record Stageable (held used : List ℕ) (e b : ℕ) (t : List ℕ) (r : Rang
 -- the words of a range
 abbrev pub rangeWords : List ℕ → List ℕ → (e b : ℕ) → List ℕ → Range → List Store
 rangeWords held used e b t r = entryChanges e (listChange held used e b t r)
-
--- the words ws are stored by the journal of a table t of e entries, at most k steps of it, which leaves u; n are its steps uncut
-pub record Journaled (e : ℕ) (ws : List Store) (k : ℕ) (t : List ℕ) (n : ℕ) (u : List ℕ) : Type 0 where
-  pub made : n ≡ length (journal (pairsAt e) ws)
-  pub few : n ≤ 3 * maxPairs e + 2
-  pub words : u ≡ stores (take k (journal (pairsAt e) ws)) t
 
 -- the change c of entry i is staged behind those of the entries before it, of whatever change it is one
 pub record StagesOn (i : ℕ) (c : Change) (words bits words′ bits′ : List ℕ) : Type 0 where

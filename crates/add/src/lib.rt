@@ -13,14 +13,16 @@ use changes::stage_entry;
 use changes::write_staged;
 use search::Held;
 use search::count_used;
-use search::find_domain;
 use search::find_value;
 use search::next_free_body;
 use store::Answer;
 use store::answer_of;
+use store::innermost_check;
+use store::range_ok;
 use store::store_check;
 use table::FEW_CELLS;
 use table::FEW_SLOTS;
+use table::domains::parent_of;
 use table::few_marks;
 use table::fields::cell_of;
 use table::fields::depth_of;
@@ -30,9 +32,11 @@ use table::fields::writable_of;
 use table::first_word;
 use table::has_depth;
 use table::many_marks;
+use table::mark_of;
 use table::no_bodies;
 use table::second_word;
 use words::copy_cell;
+use words::layout::CELL_SIZE;
 use words::layout::LIVE_AT;
 use words::layout::cells_of;
 use words::layout::slots_of;
@@ -45,7 +49,7 @@ ghost use mathlib.Core.List.{[]};
 ghost use Prim.Native.Nat.{ℕ, _+_, _-_, _*_, _<_, _≤_, min};
 ghost use lib.ListN.{length, take};
 ghost use lib.Dec.{eqb};
-ghost use Rattle.words.specs.Layout.{cellAt, cellsOf, bodiesOf, slotsOf, pairsAt, handleAt, maxLive, maxSlots, maxCells, maxBodies};
+ghost use Rattle.words.specs.Layout.{cellAt, cellsOf, bodiesOf, slotsOf, pairsAt, handleAt, maxLive, maxSlots, maxCells, maxBodies, cellSize, groupAt};
 ghost use Rattle.words.specs.Scan.{all, count};
 ghost use Rattle.words.specs.Cells.{cellBytes, sameCell, cellPlan};
 ghost use Rattle.words.specs.Stores.{stores};
@@ -54,16 +58,15 @@ ghost use Rattle.table.specs.Entry.{live, word1, word2, parent};
 ghost use Rattle.table.specs.Marks.{Blank, Marked, AllMarked};
 ghost use Rattle.search.specs.Search.{valueIn};
 ghost use Rattle.search.specs.Free.{unmarkedFrom};
-ghost use Rattle.changes.specs.Staged.{Stages};
+ghost use Rattle.changes.specs.Staged.{Stages, Journaled};
 ghost use Rattle.model.specs.Answer.{stepsOf};
-ghost use Rattle.model.specs.Holdings.{rangeOk};
 ghost use Rattle.store.specs.Checks.{storeCheck};
 ghost use Rattle.store.specs.Outcome.{buffers, report, leaves, outcome};
 ghost use Rattle.store.specs.Means.{seen};
 ghost use Rattle.add.specs.Add.{addCheck, addCall, addMeans};
 ghost use Rattle.add.specs.Walking.{lacks, newIn, spare, nextUnheld, rangeCheck, parentCheck, roomCheck, heldCheck, backed, alike, Source, copyBytes};
 ghost use Rattle.add.specs.Walking.{bodyFrom, rises, raiseChange, listChange, NoneBelow, StagesOn, Walkable, Walked, Stageable, Skips, Ready, bytesOf, wordsOf, callOf};
-ghost use Rattle.add.specs.Walking.{rangeWords, Journaled};
+ghost use Rattle.add.specs.Walking.{rangeWords};
 
 // What an add names: `count` cells from `first` on, to be held as copies (kind 0) or via parent (kind 1), read-only (label 0) or read-write
 // (label 1).
@@ -76,32 +79,19 @@ pub struct Range {
 
 // ---- the questions: 0, or the number of the first no
 
-// Question 8: at least one cell, and all of them in memory. No sum is made, since it could wrap.
-fn range_ok(cells: usize, range: Range) -> bool
-    ensures { λ r. ⌜ r ≡ rangeOk cells (range .first) (range .count) ⌝ }
-{
-    if cells < range.count {
-        return false;
-    }
-    (1 <= range.count) & (range.first <= cells - range.count)
-}
-
 // Questions 5 to 8.
 fn range_check(table: &[u32], cells: usize, handle: u32, range: Range) -> u32
     requires { ⌜ (handleAt maxLive ≤ length (now table)) × (live (now table) ≤ maxLive) ⌝ }
     ensures { λ r. ⌜ r ≡ rangeCheck (now (table .entry)) cells handle (range .first) (range .count) (range .kind) (range .label) ⌝ }
 {
-    let depth = find_domain(table, handle);
-    if depth == 0 {
-        return 5;
-    }
-    if depth != table[LIVE_AT] {
-        return 6;
+    let no = innermost_check(table, handle);
+    if no != 0 {
+        return no;
     }
     if !((range.kind <= 1) & (range.label <= 1)) {
         return 7;
     }
-    if !range_ok(cells, range) {
+    if !range_ok(cells, range.first, range.count) {
         return 8;
     }
     0
@@ -112,7 +102,7 @@ fn is_new(held: &[u8], depth: u32, cell: usize) -> bool
     requires { ⌜ (cell < length (now held)) × (depth ≤ maxLive) ⌝ }
     ensures { λ r. ⌜ r ≡ lacks (now (held .entry)) depth cell ⌝ }
 {
-    !has_depth(held[cell], depth)
+    !has_depth(mark_of(held, cell), depth)
 }
 
 // 1 where it does not, else 0.
@@ -145,7 +135,7 @@ fn parent_holds(held: &[u8], depth: u32, range: Range) -> bool
     let mut j: usize = 0;
     while j < range.count {
         let cell = range.first + j;
-        if is_new(held, depth, cell) & is_new(held, depth - 1, cell) {
+        if is_new(held, depth, cell) & is_new(held, parent_of(depth), cell) {
             return false;
         }
         j += 1;
@@ -163,7 +153,7 @@ fn same_value(
     cell: usize,
 ) -> bool
     requires { ⌜ (slots ≤ maxSlots) × (pairsAt slots ≤ length (now table)) × (depth ≤ live (now table)) × (live (now table) ≤ maxLive) ⌝ }
-    requires { ⌜ (cell < maxCells) × (cellAt cell + 64 ≤ length (now memory)) × Source slots (now table) (now bodies) depth cell ⌝ }
+    requires { ⌜ (cell < maxCells) × (cellAt cell + cellSize ≤ length (now memory)) × Source slots (now table) (now bodies) depth cell ⌝ }
     ensures { λ r. ⌜ r ≡ sameCell (valueIn slots (now (table .entry)) (now (bodies .entry)) depth cell) (cellBytes (now (memory .entry)) cell) ⌝ }
 {
     match find_value(table, slots, depth, cell as u32) {
@@ -183,14 +173,14 @@ fn cell_agrees(
     cell: usize,
 ) -> bool
     requires { ⌜ (slots ≤ maxSlots) × (pairsAt slots ≤ length (now table)) × (1 ≤ depth) × (depth ≤ live (now table)) × (live (now table) ≤ maxLive) ⌝ }
-    requires { ⌜ (cell < maxCells) × (cellAt cell + 64 ≤ length (now memory)) × (cell < length (now held)) ⌝ }
+    requires { ⌜ (cell < maxCells) × (cellAt cell + cellSize ≤ length (now memory)) × (cell < length (now held)) ⌝ }
     requires { ⌜ (lacks (now held) depth cell ≡ true → Source slots (now table) (now bodies) (parent depth) cell) ⌝ }
     ensures { λ r. ⌜ r ≡ alike (now (memory .entry)) (now (bodies .entry)) slots (now (table .entry)) (now (held .entry)) depth cell ⌝ }
 {
     if !is_new(held, depth, cell) {
         return true;
     }
-    same_value(memory, bodies, table, slots, depth - 1, cell)
+    same_value(memory, bodies, table, slots, parent_of(depth), cell)
 }
 
 // Has memory the parent's value in every new cell of the range?
@@ -325,7 +315,7 @@ fn copy_one(
     from: usize,
     budget: usize,
 ) -> usize
-    requires { ⌜ (cell < length (now held)) × (depth ≤ maxLive) × (cellAt cell + 64 ≤ length (now memory))
+    requires { ⌜ (cell < length (now held)) × (depth ≤ maxLive) × (cellAt cell + cellSize ≤ length (now memory))
         × (from ≤ bodiesOf (length (now bodies))) × (bodiesOf (length (now bodies)) ≤ length (now used)) ⌝ }
     requires { ⌜ (lacks (now held) depth cell ≡ true → unmarkedFrom (bodiesOf (length (now bodies))) (now used) from < bodiesOf (length (now bodies))) ⌝ }
     ensures bytes { λ _. ⌜ now (bodies .exit) ≡ stores (take budget (cond (lacks (now (held .entry)) depth cell)
@@ -359,7 +349,7 @@ fn copy_new(
     ensures bytes { λ _. ⌜ now (bodies .exit) ≡ stores (take budget (copyBytes (bodiesOf (length (now (bodies .entry)))) (now (memory .entry))
         (now (held .entry)) (now (used .entry)) depth (range .first) (range .count) (range .kind))) (now (bodies .entry)) ⌝ }
     ensures steps { λ r. ⌜ (r ≡ length (copyBytes (bodiesOf (length (now (bodies .entry)))) (now (memory .entry))
-        (now (held .entry)) (now (used .entry)) depth (range .first) (range .count) (range .kind))) × (r ≤ 64 * range .count) ⌝ }
+        (now (held .entry)) (now (used .entry)) depth (range .first) (range .count) (range .kind))) × (r ≤ cellSize * range .count) ⌝ }
 {
     if range.kind != 0 {
         return 0;
@@ -379,7 +369,7 @@ fn copy_new(
             from,
             remaining(budget, made),
         );
-        made += 64 * new_here(held, depth, cell);
+        made += CELL_SIZE * new_here(held, depth, cell);
         j += 1;
     }
     made
@@ -441,7 +431,7 @@ fn raise_entry(
     changed: &mut [u64],
 )
     requires { ⌜ (i < slots) × (slots ≤ maxSlots) × (pairsAt slots ≤ length (now table)) × (range .first + range .count ≤ maxCells) ⌝ }
-    requires { ⌜ (2 * slots ≤ length (now words)) × (slots ≤ 64 * length (now changed)) ⌝ }
+    requires { ⌜ (2 * slots ≤ length (now words)) × (slots ≤ groupAt (length (now changed))) ⌝ }
     ensures { λ _. ⌜ StagesOn i (raiseChange depth (range .first) (range .count) (range .label) (word1 slots (now (table .entry)) i) (word2 slots (now (table .entry)) i))
         (now (words .entry)) (now (changed .entry)) (now (words .exit)) (now (changed .exit)) ⌝ }
 {
@@ -467,7 +457,7 @@ fn pass_entry(
     words: &mut [u32],
     changed: &mut [u64],
 ) -> Cursors
-    requires { ⌜ (i < slots) × (2 * slots ≤ length (now words)) × (slots ≤ 64 * length (now changed)) ⌝ }
+    requires { ⌜ (i < slots) × (2 * slots ≤ length (now words)) × (slots ≤ groupAt (length (now changed))) ⌝ }
     requires { ⌜ Walkable (now held) (now used) slots bodies (now table) range ⌝ }
     requires { ⌜ Walked (now held) (now used) slots bodies (now table) range i walk (now words) (now changed) ⌝ }
     ensures { λ r. ⌜ Walked (now (held .entry)) (now (used .entry)) slots bodies (now (table .entry)) range (i + 1) r
@@ -537,7 +527,7 @@ fn stage_range(
     words: &mut [u32],
     changed: &mut [u64],
 )
-    requires small { ⌜ (2 * slots ≤ length (now words)) × (slots ≤ 64 * length (now changed)) ⌝ }
+    requires small { ⌜ (2 * slots ≤ length (now words)) × (slots ≤ groupAt (length (now changed))) ⌝ }
     requires able { ⌜ Stageable (now held) (now used) slots bodies (now table) range start ⌝ }
     requires blank { ⌜ Stages 0 (listChange (now held) (now used) slots bodies (now table) range) (now words) (now changed) ⌝ }
     ensures { λ _. ⌜ Stages slots (listChange (now (held .entry)) (now (used .entry)) slots bodies (now (table .entry)) range)
@@ -577,7 +567,7 @@ fn write_range(
     changed: &mut [u64],
     budget: usize,
 ) -> usize
-    requires small { ⌜ (2 * slots ≤ length (now words)) × (slots ≤ 64 * length (now changed)) ⌝ }
+    requires small { ⌜ (2 * slots ≤ length (now words)) × (slots ≤ groupAt (length (now changed))) ⌝ }
     requires able { ⌜ Stageable (now held) (now used) slots bodies (now table) range start ⌝ }
     requires blank { ⌜ Stages 0 (listChange (now held) (now used) slots bodies (now table) range) (now words) (now changed) ⌝ }
     ensures { λ r. ⌜ Journaled slots (rangeWords (now (held .entry)) (now (used .entry)) slots bodies (now (table .entry)) range) budget

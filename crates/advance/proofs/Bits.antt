@@ -12,6 +12,7 @@ use lib.Dec.{eqb}
 use lib.ListN.{length, getD, set, List·getD-eq-default}
 use lib.Pow.{shr-shr, shr-lt}
 use lib.Seq.{getD-set-same, getD-set-other, set-getD}
+use Rattle.words.specs.Layout.{groupAt, groupOf}
 use Rattle.words.specs.Scan.{count}
 use Rattle.words.proofs.Scan.{by-bool, by-le, and-split, and-join, true≢, count-ext}
 use Rattle.words.proofs.Nth.{count-below}
@@ -22,7 +23,7 @@ use Rattle.search.proofs.From.{count-stop}
 use Rattle.changes.specs.Staged.{bitAt, isSet}
 use Rattle.changes.proofs.Bits.{bit-none, bit-kept, set-at, more-here, more-other}
 use Rattle.advance.specs.Advance.{turns}
-use Rattle.advance.specs.Notes.{groupOf, firstCell, NoBits, markTurning, Turned, Ends}
+use Rattle.advance.specs.Notes.{NoBits, markTurning, Turned, Ends}
 
 -- ---- the bits of one number, counted
 
@@ -63,23 +64,23 @@ count-parts a (suc n) f =
     (λ p. rw (p, count-parts a n f))
 
 module _ (groups : List ℕ) where
-  group-count : (g j : ℕ) → j ≤ 64 → count (firstCell g + j) (isSet groups) ≡ count (firstCell g) (isSet groups) + count j (bitAt (getD groups g 0))
+  group-count : (g j : ℕ) → j ≤ 64 → count (groupAt g + j) (isSet groups) ≡ count (groupAt g) (isSet groups) + count j (bitAt (getD groups g 0))
   group-count g j l =
-      count-parts (firstCell g) j (isSet groups)
-      ∙ ap (λ (x : ℕ). count (firstCell g) (isSet groups) + x) (count-ext j (λ k. isSet groups (firstCell g + k)) (bitAt (getD groups g 0)) (λ k h. set-at groups g k (omega arith)))
+      count-parts (groupAt g) j (isSet groups)
+      ∙ ap (λ (x : ℕ). count (groupAt g) (isSet groups) + x) (count-ext j (λ k. isSet groups (groupAt g + k)) (bitAt (getD groups g 0)) (λ k h. set-at groups g k (omega arith)))
 
   -- up to the end of a group
-  pub count-next : (g : ℕ) → getD groups g 0 < 2 ^ 64 → count (firstCell g) (isSet groups) + ones (getD groups g 0) ≡ count (firstCell (g + 1)) (isSet groups)
+  pub count-next : (g : ℕ) → getD groups g 0 < 2 ^ 64 → count (groupAt g) (isSet groups) + ones (getD groups g 0) ≡ count (groupAt (g + 1)) (isSet groups)
   count-next g small =
-      let z : firstCell (g + 1) ≡ firstCell g + 64 = omega arith in
+      let z : groupAt (g + 1) ≡ groupAt g + 64 = omega arith in
       let whole = ap (λ (x : ℕ). count x (isSet groups)) z ∙ group-count g 64 (omega arith) in
       omega (arith, whole, ones-all (getD groups g 0) small)
 
   -- those before a cell, and those from it on to the end of its group
   rank-rest : (c : ℕ) → getD groups (groupOf c) 0 < 2 ^ 64
-      → count (firstCell (groupOf c + 1)) (isSet groups) ≡ count c (isSet groups) + ones (getD groups (groupOf c) 0 / 2 ^ (c % 64))
+      → count (groupAt (groupOf c + 1)) (isSet groups) ≡ count c (isSet groups) + ones (getD groups (groupOf c) 0 / 2 ^ (c % 64))
   rank-rest c small =
-      let z : firstCell (groupOf c) + c % 64 ≡ c = omega arith in
+      let z : groupAt (groupOf c) + c % 64 ≡ c = omega arith in
       let here = sym (ap (λ (x : ℕ). count x (isSet groups)) z) ∙ group-count (groupOf c) (c % 64) (omega arith) in
       omega (arith, here, count-next (groupOf c) small, ones-rest (getD groups (groupOf c) 0) (c % 64))
 
@@ -100,19 +101,19 @@ module _ (groups : List ℕ) where
   rank-fits c h = count-below (isSet groups) c (64 * length groups) (omega (arith, group-known c h)) h
 
   -- groups without a bit are passed over
-  pub count-empty : (g h : ℕ) → g ≤ h → NoBits groups g h → count (firstCell g) (isSet groups) ≡ count (firstCell h) (isSet groups)
+  pub count-empty : (g h : ℕ) → g ≤ h → NoBits groups g h → count (groupAt g) (isSet groups) ≡ count (groupAt h) (isSet groups)
   count-empty g h on empty =
-      sym (count-stop (firstCell h) (firstCell g) (isSet groups) (omega arith)
+      sym (count-stop (groupAt h) (groupAt g) (isSet groups) (omega arith)
       (λ c l b. bit-none (getD groups (groupOf c) 0) (c % 64) (empty (groupOf c) (omega arith) (omega arith))))
 
   pub ends-none : (ends : List ℕ) → Ends groups 0 ends
   ends-none ends = record { noted = λ k l. absurd (not-suc-le-zero l) }
 
-  pub ends-more : (g v : ℕ) (ends : List ℕ) → g < length ends → v ≡ count (firstCell (g + 1)) (isSet groups) → Ends groups g ends → Ends groups (g + 1) (set ends g v)
+  pub ends-more : (g v : ℕ) (ends : List ℕ) → g < length ends → v ≡ count (groupAt (g + 1)) (isSet groups) → Ends groups g ends → Ends groups (g + 1) (set ends g v)
   ends-more g v ends fits q old = record {
     noted = λ k l some.
         split g k l
-        (λ p. ap (λ (x : ℕ). getD (set ends g v) x 0) p ∙ getD-set-same ends g v 0 fits ∙ q ∙ ap (λ (x : ℕ). count (firstCell (x + 1)) (isSet groups)) (sym p))
+        (λ p. ap (λ (x : ℕ). getD (set ends g v) x 0) p ∙ getD-set-same ends g v 0 fits ∙ q ∙ ap (λ (x : ℕ). count (groupAt (x + 1)) (isSet groups)) (sym p))
         (λ p. getD-set-other ends g k v 0 (λ z. omega arith) ∙ old .noted k p some);
   }
 

@@ -6,7 +6,7 @@ use mathlib.Core.Path.{_≡_}
 use mathlib.Core.List.{List}
 use lib.Dec.{leb, ltb, eqb}
 use lib.ListN.{length, getD, set}
-use Rattle.words.specs.Layout.{cellsOf, bodiesOf, slotsOf, pairsAt}
+use Rattle.words.specs.Layout.{cellsOf, bodiesOf, slotsOf, pairsAt, groupAt, groupOf, inGroup}
 use Rattle.words.specs.Scan.{all, count, nth}
 use Rattle.table.specs.Entry.{live, word1, word2, cellOf, asCopy, innermost, parent, isOutermost, holdsIn}
 use Rattle.table.specs.Marks.{Marks, IsCopy, cellIn}
@@ -28,14 +28,7 @@ entriesCheck e b t =
     ask (isOutermost (innermost t) || all e (λ i. not (turns (innermost t) (word1 e t i)) || holdsIn e t (parent (innermost t)) (cellOf (word1 e t i)))) 15
     (ask (leb (copies e t + count e (λ i. turns (innermost t) (word1 e t i))) b) 17 0)
 
--- ---- which cells advance: a group is 64 cells, and has a number whose bits are theirs
-
--- the group of a cell, and the first cell of a group
-abbrev pub groupOf : ℕ → ℕ
-groupOf c = c / 64
-
-abbrev pub firstCell : ℕ → ℕ
-firstCell g = 64 * g
+-- ---- which cells advance: a group of cells has a number whose bits are theirs
 
 -- the groups from the g-th to the one before the h-th have no bit
 abbrev pub NoBits : List ℕ → ℕ → ℕ → Type 0
@@ -43,7 +36,7 @@ NoBits groups g h = (k : ℕ) → g ≤ k → k < h → getD groups k 0 ≡ 0
 
 -- the groups after an entry with first word w, where n domains are live: one that advances sets its cell's bit
 abbrev pub markTurning : (n w : ℕ) → List ℕ → List ℕ
-markTurning n w groups = set groups (groupOf (cellOf w)) (withBit (turns n w) (cellOf w % 64) (getD groups (groupOf (cellOf w)) 0))
+markTurning n w groups = set groups (groupOf (cellOf w)) (withBit (turns n w) (inGroup (cellOf w)) (getD groups (groupOf (cellOf w)) 0))
 
 -- the bits set are those of the first k entries that advance, where n domains are live
 pub record Turned (e : ℕ) (t : List ℕ) (n k : ℕ) (groups : List ℕ) : Type 0 where
@@ -73,7 +66,7 @@ performed b =
 
 -- each group with a bit, of the first g, has the number of bits up to its end noted
 pub record Ends (groups : List ℕ) (g : ℕ) (ends : List ℕ) : Type 0 where
-  pub noted : (k : ℕ) → k < g → (getD groups k 0 ≡ 0 → ⊥) → getD ends k 0 ≡ count (firstCell (k + 1)) (isSet groups)
+  pub noted : (k : ℕ) → k < g → (getD groups k 0 ≡ 0 → ⊥) → getD ends k 0 ≡ count (groupAt (k + 1)) (isSet groups)
 
 -- each entry that advances where n domains are live has a bit of its own
 pub record OwnBits (e : ℕ) (t : List ℕ) (n : ℕ) (groups : List ℕ) : Type 0 where

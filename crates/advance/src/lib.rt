@@ -13,13 +13,14 @@ use changes::no_head;
 use changes::stage_entry;
 use changes::with_bit;
 use changes::write_staged;
-use search::find_domain;
 use search::next_free_body;
 use store::Answer;
 use store::answer_of;
+use store::innermost_check;
 use store::store_check;
 use table::FEW_CELLS;
 use table::FEW_SLOTS;
+use table::domains::parent_of;
 use table::few_marks;
 use table::fields::cell_of;
 use table::fields::depth_of;
@@ -29,8 +30,11 @@ use table::fields::to_copy;
 use table::first_word;
 use table::has_depth;
 use table::many_marks;
+use table::mark_of;
 use table::no_bodies;
 use words::copy_cell;
+use words::layout::CELL_SIZE;
+use words::layout::GROUP_SIZE;
 use words::layout::LIVE_AT;
 use words::layout::cells_of;
 use words::layout::slots_of;
@@ -40,7 +44,7 @@ ghost use mathlib.Core.Path.{_≡_};
 ghost use mathlib.Core.Bool.{true, not, _||_};
 ghost use Prim.Native.Nat.{ℕ, _+_, _*_, _≤_, _<_, min};
 ghost use lib.ListN.{length, take, getD};
-ghost use Rattle.words.specs.Layout.{cellAt, cellsOf, bodiesOf, slotsOf, pairsAt, maxSlots, maxCells, maxBodies, maxLive};
+ghost use Rattle.words.specs.Layout.{cellAt, cellsOf, bodiesOf, slotsOf, pairsAt, maxSlots, maxCells, maxBodies, maxLive, cellSize, groupAt, groupOf};
 ghost use Rattle.words.specs.Scan.{all, count, nth};
 ghost use Rattle.words.specs.Stores.{stores, gather};
 ghost use Rattle.words.specs.Cells.{cellPlan};
@@ -52,7 +56,7 @@ ghost use Rattle.changes.specs.Staged.{isSet, Restaged, Stages};
 ghost use Rattle.store.specs.Outcome.{buffers, report, leaves, outcome};
 ghost use Rattle.store.specs.Means.{seen};
 ghost use Rattle.advance.specs.Advance.{advances, advanceCheck, advanceCall, advanceMeans, turns};
-ghost use Rattle.advance.specs.Notes.{FreeFrom, entriesCheck, groupOf, NoBits, markTurning, Turned, CellBits, Ready, performed, Ends, OwnBits, listSlot, Listed, InOrder, unmarked, changeTo};
+ghost use Rattle.advance.specs.Notes.{FreeFrom, entriesCheck, NoBits, markTurning, Turned, CellBits, Ready, performed, Ends, OwnBits, listSlot, Listed, InOrder, unmarked, changeTo};
 
 // ---- the entries in use
 
@@ -108,11 +112,11 @@ fn bodies_wanted(table: &[u32], slots: usize, top: usize, live: u32) -> usize
     wide(copies + turning)
 }
 
-// The group of 64 cells to which a cell belongs.
+// The group of cells to which a cell belongs.
 fn group_of(cell: usize) -> usize
     ensures { λ r. ⌜ r ≡ groupOf cell ⌝ }
 {
-    cell / 64
+    cell / GROUP_SIZE
 }
 
 // Sets the bit of an entry's cell where the entry advances. Any other entry sets no bit.
@@ -122,7 +126,7 @@ fn mark_turning(groups: &mut [u64], word: u32, live: u32)
 {
     let cell = cell_of(word);
     let g = group_of(cell);
-    groups[g] = with_bit(groups[g], cell % 64, turns_word(word, live));
+    groups[g] = with_bit(groups[g], cell % GROUP_SIZE, turns_word(word, live));
 }
 
 // Sets the bits of the cells of all entries that advance. Returns whether the parent holds all these cells, as the marks of the entries'
@@ -136,7 +140,7 @@ fn mark_groups(
     groups: &mut [u64],
 ) -> bool
     requires { ⌜ (slots ≤ maxSlots) × (pairsAt slots ≤ length (now table)) × (1 ≤ live) × (live ≤ maxLive) × (top ≤ slots) × FreeFrom slots (now table) top ⌝ }
-    requires { ⌜ ((i : ℕ) → i < slots → cellIn slots (now table) i < length (now seen)) × (length (now seen) ≤ 64 * length (now groups)) × Blank (now groups) ⌝ }
+    requires { ⌜ ((i : ℕ) → i < slots → cellIn slots (now table) i < length (now seen)) × (length (now seen) ≤ groupAt (length (now groups))) × Blank (now groups) ⌝ }
     ensures covered { λ r. ⌜ r
         ≡ all slots (λ i. not (turns live (word1 slots (now (table .entry)) i)) || has (parent live) (markAt (now (seen .entry)) (word1 slots (now (table .entry)) i))) ⌝ }
     ensures bits { λ _. ⌜ Turned slots (now (table .entry)) live slots (now (groups .exit)) ⌝ }
@@ -145,7 +149,7 @@ fn mark_groups(
     let mut i: usize = 0;
     while i < top {
         let word = first_word(table, slots, i);
-        let held = has_depth(seen[cell_of(word)], live - 1);
+        let held = has_depth(mark_of(seen, cell_of(word)), parent_of(live));
         good = good & (!turns_word(word, live) | held);
         mark_turning(groups, word, live);
         i += 1;
@@ -157,7 +161,7 @@ fn mark_groups(
 // these entries are set on the way.
 fn entries_check(table: &[u32], slots: usize, bodies: usize, seen: &[u8], groups: &mut [u64]) -> u32
     requires { ⌜ (slots ≤ maxSlots) × (pairsAt slots ≤ length (now table)) × (1 ≤ live (now table)) × (live (now table) ≤ maxLive) × Marked slots (now table) slots (now seen) ⌝ }
-    requires { ⌜ ((i : ℕ) → i < slots → cellIn slots (now table) i < length (now seen)) × (length (now seen) ≤ 64 * length (now groups)) × Blank (now groups) ⌝ }
+    requires { ⌜ ((i : ℕ) → i < slots → cellIn slots (now table) i < length (now seen)) × (length (now seen) ≤ groupAt (length (now groups))) × Blank (now groups) ⌝ }
     ensures no { λ r. ⌜ r ≡ entriesCheck slots bodies (now (table .entry)) ⌝ }
     ensures bits { λ _. ⌜ Turned slots (now (table .entry)) (live (now (table .entry))) slots (now (groups .exit)) ⌝ }
 {
@@ -185,7 +189,7 @@ fn advance_check(
     groups: &mut [u64],
 ) -> u32
     requires room { ⌜ (min (cellsOf memory) maxCells ≤ length (now seen)) × (length (now used) ≡ maxBodies) ⌝ }
-    requires blank { ⌜ Blank (now seen) × Blank (now used) × Blank (now groups) × (length (now seen) ≤ 64 * length (now groups)) ⌝ }
+    requires blank { ⌜ Blank (now seen) × Blank (now used) × Blank (now groups) × (length (now seen) ≤ groupAt (length (now groups))) ⌝ }
     ensures no { λ r. ⌜ r ≡ advanceCheck memory bodies (now (table .entry)) handle ⌝ }
     ensures ready { λ r. ⌜ (r ≡ 0 → Ready memory bodies (now (table .entry)) (now (used .exit)) × CellBits (now (table .entry)) (now (groups .exit))) ⌝ }
 {
@@ -193,12 +197,9 @@ fn advance_check(
     if no != 0 {
         return no;
     }
-    let depth = find_domain(table, handle);
-    if depth == 0 {
-        return 5;
-    }
-    if depth != table[LIVE_AT] {
-        return 6;
+    let outer = innermost_check(table, handle);
+    if outer != 0 {
+        return outer;
     }
     entries_check(table, slots_of(table.len()), cells_of(bodies), seen, groups)
 }
@@ -231,8 +232,8 @@ fn past_empty(groups: &[u64], from: usize) -> usize
 // Notes for each group with a bit how many bits there are up to its end. Returns how many there are.
 fn count_groups(groups: &[u64], ends: &mut [u16]) -> usize
     requires room { ⌜ length (now ends) ≡ length (now groups) ⌝ }
-    requires few { ⌜ count (64 * length (now groups)) (isSet (now groups)) ≤ maxSlots ⌝ }
-    ensures counted { λ r. ⌜ r ≡ count (64 * length (now (groups .entry))) (isSet (now (groups .entry))) ⌝ }
+    requires few { ⌜ count (groupAt (length (now groups))) (isSet (now groups)) ≤ maxSlots ⌝ }
+    ensures counted { λ r. ⌜ r ≡ count (groupAt (length (now (groups .entry)))) (isSet (now (groups .entry))) ⌝ }
     ensures noted { λ _. ⌜ Ends (now (groups .entry)) (length (now (groups .entry))) (now (ends .exit)) ⌝ }
 {
     let mut n: usize = 0;
@@ -250,10 +251,10 @@ fn rank_of(groups: &[u64], ends: &[u16], cell: usize) -> usize
     requires sized { ⌜ length (now ends) ≡ length (now groups) ⌝ }
     requires noted { ⌜ Ends (now groups) (length (now groups)) (now ends) ⌝ }
     requires here { ⌜ isSet (now groups) cell ≡ true ⌝ }
-    ensures { λ r. ⌜ (r ≡ count cell (isSet (now (groups .entry)))) × (r < count (64 * length (now (groups .entry))) (isSet (now (groups .entry)))) ⌝ }
+    ensures { λ r. ⌜ (r ≡ count cell (isSet (now (groups .entry)))) × (r < count (groupAt (length (now (groups .entry)))) (isSet (now (groups .entry)))) ⌝ }
 {
     let g = group_of(cell);
-    ends[g] as usize - wide(u64::count_ones(groups[g] >> (cell % 64)))
+    ends[g] as usize - wide(u64::count_ones(groups[g] >> (cell % GROUP_SIZE)))
 }
 
 // Puts slot i into the list if its entry advances, at the rank of its cell.
@@ -268,7 +269,7 @@ fn list_slot(
 )
     requires small { ⌜ (i < slots) × (slots ≤ maxSlots) × (pairsAt slots ≤ length (now table)) ⌝ }
     requires noted { ⌜ (length (now ends) ≡ length (now groups)) × Ends (now groups) (length (now groups)) (now ends) ⌝ }
-    requires room { ⌜ count (64 * length (now groups)) (isSet (now groups)) ≤ length (now places) ⌝ }
+    requires room { ⌜ count (groupAt (length (now groups))) (isSet (now groups)) ≤ length (now places) ⌝ }
     requires own { ⌜ OwnBits slots (now table) live (now groups) ⌝ }
     ensures { λ _. ⌜ now (places .exit) ≡ listSlot live (isSet (now (groups .entry))) (word1 slots (now (table .entry)) i) i (now (places .entry)) ⌝ }
 {
@@ -288,9 +289,9 @@ fn list_slots(
     places: &mut [u16],
 ) -> usize
     requires small { ⌜ (slots ≤ maxSlots) × (pairsAt slots ≤ length (now table)) ⌝ }
-    requires room { ⌜ (length (now ends) ≡ length (now groups)) × (count (64 * length (now groups)) (isSet (now groups)) ≤ min maxSlots (length (now places))) ⌝ }
+    requires room { ⌜ (length (now ends) ≡ length (now groups)) × (count (groupAt (length (now groups))) (isSet (now groups)) ≤ min maxSlots (length (now places))) ⌝ }
     requires own { ⌜ OwnBits slots (now table) (live (now table)) (now groups) ⌝ }
-    ensures counted { λ r. ⌜ r ≡ count (64 * length (now (groups .entry))) (isSet (now (groups .entry))) ⌝ }
+    ensures counted { λ r. ⌜ r ≡ count (groupAt (length (now (groups .entry)))) (isSet (now (groups .entry))) ⌝ }
     ensures listed { λ _. ⌜ Listed slots (now (table .entry)) (live (now (table .entry))) (isSet (now (groups .entry))) slots (now (places .exit)) ⌝ }
 {
     let live = table[LIVE_AT];
@@ -319,8 +320,8 @@ fn copy_entry(
     budget: usize,
 )
     requires small { ⌜ (i < slots) × (slots ≤ maxSlots) × (pairsAt slots ≤ length (now table)) ⌝ }
-    requires inside { ⌜ (cellAt (cellIn slots (now table) i) + 64 ≤ length (now memory)) × (cellAt body + 64 ≤ length (now bodies)) × (body < maxBodies) ⌝ }
-    requires room { ⌜ (2 * slots ≤ length (now words)) × (slots ≤ 64 * length (now changed)) ⌝ }
+    requires inside { ⌜ (cellAt (cellIn slots (now table) i) + cellSize ≤ length (now memory)) × (cellAt body + cellSize ≤ length (now bodies)) × (body < maxBodies) ⌝ }
+    requires room { ⌜ (2 * slots ≤ length (now words)) × (slots ≤ groupAt (length (now changed))) ⌝ }
     ensures copied { λ _. ⌜ now (bodies .exit)
         ≡ stores (take budget (cellPlan (now (memory .entry)) (cellIn slots (now (table .entry)) i) body)) (now (bodies .entry)) ⌝ }
     ensures staged { λ _. ⌜ Restaged (now (words .entry)) (now (changed .entry)) i (put (asCopy (word1 slots (now (table .entry)) i)) body)
@@ -347,8 +348,8 @@ fn copy_listed(
 )
     requires small { ⌜ (slots ≤ maxSlots) × (pairsAt slots ≤ length (now table)) × (n ≤ slots) × (n ≤ length (now places)) ⌝ }
     requires free { ⌜ (bodiesOf (length (now bodies)) ≤ maxBodies) × (length (now used) ≡ maxBodies) × (n ≤ count (bodiesOf (length (now bodies))) (unmarked (now used))) ⌝ }
-    requires listed { ⌜ InOrder slots (now table) n (now places) × ((r : ℕ) → r < n → cellAt (cellIn slots (now table) (getD (now places) r 0)) + 64 ≤ length (now memory)) ⌝ }
-    requires room { ⌜ (2 * slots ≤ length (now words)) × (slots ≤ 64 * length (now changed)) ⌝ }
+    requires listed { ⌜ InOrder slots (now table) n (now places) × ((r : ℕ) → r < n → cellAt (cellIn slots (now table) (getD (now places) r 0)) + cellSize ≤ length (now memory)) ⌝ }
+    requires room { ⌜ (2 * slots ≤ length (now words)) × (slots ≤ groupAt (length (now changed))) ⌝ }
     requires blank { ⌜ Stages 0 (λ _. keep) (now words) (now changed) ⌝ }
     ensures bytes { λ _. ⌜ now (bodies .exit)
         ≡ stores (take budget (gather n (λ r. cellPlan (now (memory .entry)) (cellIn slots (now (table .entry)) (getD (now (places .entry)) r 0))
@@ -362,7 +363,7 @@ fn copy_listed(
     while r < n {
         let i = places[r] as usize;
         let body = next_free_body(used, total, at);
-        let left = remaining(budget, 64 * r);
+        let left = remaining(budget, CELL_SIZE * r);
         copy_entry(memory, bodies, table, slots, i, body, words, changed, left);
         at = body + 1;
         r += 1;
@@ -384,7 +385,7 @@ fn store_listed(
     requires ready { ⌜ Ready (length (now memory)) (length (now bodies)) (now table) (now used) × (length (now used) ≡ maxBodies) ⌝ }
     requires listed { ⌜ InOrder (slotsOf (length (now table))) (now table) n (now places) × (n ≤ length (now places)) ⌝ }
     requires counted { ⌜ n ≡ count (cellsOf (length (now memory))) (advances (slotsOf (length (now table))) (now table)) ⌝ }
-    requires room { ⌜ (2 * slotsOf (length (now table)) ≤ length (now words)) × (slotsOf (length (now table)) ≤ 64 * length (now changed)) ⌝ }
+    requires room { ⌜ (2 * slotsOf (length (now table)) ≤ length (now words)) × (slotsOf (length (now table)) ≤ groupAt (length (now changed))) ⌝ }
     requires blank { ⌜ Stages 0 (λ _. keep) (now words) (now changed) ⌝ }
     ensures { λ r. ⌜ leaves (report r) (buffers (now (memory .entry)) (now (bodies .exit)) (now (table .exit)))
         ≡ outcome (performed (buffers (now (memory .entry)) (now (bodies .entry)) (now (table .entry)))) budget
@@ -403,9 +404,9 @@ fn store_listed(
         changed,
         budget,
     );
-    let left = remaining(budget, 64 * n);
+    let left = remaining(budget, CELL_SIZE * n);
     let steps = write_staged(table, slots, no_head(), words, changed, left);
-    answer_of(64 * n + steps, 0, budget)
+    answer_of(CELL_SIZE * n + steps, 0, budget)
 }
 
 // ---- the call
@@ -425,9 +426,9 @@ fn advance_marked(
     budget: usize,
 ) -> Answer
     requires ready { ⌜ Ready (length (now memory)) (length (now bodies)) (now table) (now used) × (length (now used) ≡ maxBodies) ⌝ }
-    requires bits { ⌜ CellBits (now table) (now groups) × (cellsOf (length (now memory)) ≤ 64 * length (now groups)) ⌝ }
+    requires bits { ⌜ CellBits (now table) (now groups) × (cellsOf (length (now memory)) ≤ groupAt (length (now groups))) ⌝ }
     requires list { ⌜ (length (now ends) ≡ length (now groups)) × (slotsOf (length (now table)) ≤ length (now places)) ⌝ }
-    requires room { ⌜ (2 * slotsOf (length (now table)) ≤ length (now words)) × (slotsOf (length (now table)) ≤ 64 * length (now changed)) ⌝ }
+    requires room { ⌜ (2 * slotsOf (length (now table)) ≤ length (now words)) × (slotsOf (length (now table)) ≤ groupAt (length (now changed))) ⌝ }
     requires blank { ⌜ Stages 0 (λ _. keep) (now words) (now changed) ⌝ }
     ensures { λ r. ⌜ leaves (report r) (buffers (now (memory .entry)) (now (bodies .exit)) (now (table .exit)))
         ≡ outcome (performed (buffers (now (memory .entry)) (now (bodies .entry)) (now (table .entry)))) budget
@@ -489,7 +490,7 @@ fn store_few(
     budget: usize,
 ) -> Answer
     requires ready { ⌜ Ready (length (now memory)) (length (now bodies)) (now table) (now used) × (length (now used) ≡ maxBodies) ⌝ }
-    requires bits { ⌜ CellBits (now table) (now groups) × (cellsOf (length (now memory)) ≤ 64 * length (now groups)) ⌝ }
+    requires bits { ⌜ CellBits (now table) (now groups) × (cellsOf (length (now memory)) ≤ groupAt (length (now groups))) ⌝ }
     requires sized { ⌜ (length (now ends) ≡ length (now groups)) × (slotsOf (length (now table)) ≤ 256) ⌝ }
     ensures { λ r. ⌜ leaves (report r) (buffers (now (memory .entry)) (now (bodies .exit)) (now (table .exit)))
         ≡ outcome (performed (buffers (now (memory .entry)) (now (bodies .entry)) (now (table .entry)))) budget
@@ -523,7 +524,7 @@ fn store_many(
     budget: usize,
 ) -> Answer
     requires ready { ⌜ Ready (length (now memory)) (length (now bodies)) (now table) (now used) × (length (now used) ≡ maxBodies) ⌝ }
-    requires bits { ⌜ CellBits (now table) (now groups) × (cellsOf (length (now memory)) ≤ 64 * length (now groups)) ⌝ }
+    requires bits { ⌜ CellBits (now table) (now groups) × (cellsOf (length (now memory)) ≤ groupAt (length (now groups))) ⌝ }
     requires sized { ⌜ length (now ends) ≡ length (now groups) ⌝ }
     ensures { λ r. ⌜ leaves (report r) (buffers (now (memory .entry)) (now (bodies .exit)) (now (table .exit)))
         ≡ outcome (performed (buffers (now (memory .entry)) (now (bodies .entry)) (now (table .entry)))) budget
@@ -557,7 +558,7 @@ fn advance_stored(
     budget: usize,
 ) -> Answer
     requires ready { ⌜ Ready (length (now memory)) (length (now bodies)) (now table) (now used) × (length (now used) ≡ maxBodies) ⌝ }
-    requires bits { ⌜ CellBits (now table) (now groups) × (cellsOf (length (now memory)) ≤ 64 * length (now groups)) ⌝ }
+    requires bits { ⌜ CellBits (now table) (now groups) × (cellsOf (length (now memory)) ≤ groupAt (length (now groups))) ⌝ }
     requires sized { ⌜ length (now ends) ≡ length (now groups) ⌝ }
     ensures { λ r. ⌜ leaves (report r) (buffers (now (memory .entry)) (now (bodies .exit)) (now (table .exit)))
         ≡ outcome (performed (buffers (now (memory .entry)) (now (bodies .entry)) (now (table .entry)))) budget

@@ -5,9 +5,10 @@ use mathlib.Core.List.{List}
 use mathlib.Core.Path.{_≡_}
 use lib.Bits.{bitOr}
 use lib.Dec.{eqb, ltb}
-use lib.ListN.{length, getD, set}
-use Rattle.words.specs.Layout.{handleAt, maxLive}
-use Rattle.words.specs.Stores.{Store, _≔_, tab, gather}
+use lib.ListN.{length, getD, set, take}
+use Rattle.words.specs.Layout.{pairsAt, maxPairs, handleAt, maxLive, groupSize, groupOf, inGroup}
+use Rattle.words.specs.Stores.{Store, _≔_, stores, tab, gather}
+use Rattle.words.specs.Journal.{journal}
 use Rattle.table.specs.Changes.{Change, keep, put, isChanged, entryStores}
 use Rattle.changes.specs.declared.Head.{Head}
 
@@ -19,7 +20,7 @@ bitAt w j = eqb (w / 2 ^ j % 2) 1
 
 -- j is the lowest of a word's bits that are set
 pub record Lowest (w j : ℕ) : Type 0 where
-  pub within : j < 64
+  pub within : j < groupSize
   pub here : bitAt w j ≡ true
   pub before : (i : ℕ) → i < j → bitAt w i ≡ false
 
@@ -34,7 +35,7 @@ withBit b j w = cond b (bitOr w (2 ^ j)) w
 
 -- bit i of a run of 64-bit words, lowest bit of the first word first
 abbrev pub isSet : List ℕ → ℕ → Bool
-isSet bits i = bitAt (getD bits (i / 64) 0) (i % 64)
+isSet bits i = bitAt (getD bits (groupOf i) 0) (inGroup i)
 
 -- every bit that is set is one of the first e
 abbrev pub Inside : ℕ → List ℕ → Type 0
@@ -76,7 +77,7 @@ below n f i = cond (ltb i n) (f i) keep
 pub record Stages (n : ℕ) (f : ℕ → Change) (words bits : List ℕ) : Type 0 where
   pub each : (i : ℕ) → staged words bits i ≡ below n f i
 
--- the same in the middle of a pass over the 64 slots from 64 k on: their bits are gathered in w and are not stored yet
+-- the same in the middle of a pass over the slots of group k: their bits are gathered in w and are not stored yet
 pub record Gathers (k n : ℕ) (f : ℕ → Change) (words bits : List ℕ) (w : ℕ) : Type 0 where
   pub within : k < length bits
   pub stages : Stages n f words (set bits k w)
@@ -101,4 +102,12 @@ abbrev pub groupStores : (e base w : ℕ) → (words : List ℕ) → ℕ → Lis
 groupStores e base w words j = entryStores e (base + j) (entryOf (bitAt w j) words (base + j))
 
 unfoldable pub group : (e base w : ℕ) → (words : List ℕ) → List Store
-group e base w words = gather 64 (groupStores e base w words)
+group e base w words = gather groupSize (groupStores e base w words)
+
+-- ---- what the writer leaves
+
+-- the words ws are stored by the journal of a table t of e slots, at most k steps of it, which leaves u; r are its steps uncut
+pub record Journaled (e : ℕ) (ws : List Store) (k : ℕ) (t : List ℕ) (r : ℕ) (u : List ℕ) : Type 0 where
+  pub made : r ≡ length (journal (pairsAt e) ws)
+  pub few : r ≤ 3 * maxPairs e + 2
+  pub words : u ≡ stores (take k (journal (pairsAt e) ws)) t

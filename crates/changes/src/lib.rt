@@ -4,6 +4,7 @@
 // The new words of entry i stand at 2i and 2i + 1 of one run of words, and bit i of a run of bits says that they are there.
 use table::write_entry;
 use words::finish_journal;
+use words::layout::GROUP_SIZE;
 use words::layout::pairs_at;
 use words::remaining;
 use words::write_pair;
@@ -12,12 +13,12 @@ ghost use mathlib.Core.Bool.{true};
 ghost use mathlib.Core.List.{[], _∷_, _++_};
 ghost use Prim.Native.Nat.{ℕ, _+_, _*_, _≤_, _<_};
 ghost use lib.ListN.{length, take};
-ghost use Rattle.words.specs.Layout.{pairsAt, tableWords, handleAt, maxLive, maxSlots, maxPairs};
+ghost use Rattle.words.specs.Layout.{pairsAt, tableWords, handleAt, maxLive, maxSlots, maxPairs, groupSize, groupAt};
 ghost use Rattle.words.specs.Stores.{_≔_, stores};
-ghost use Rattle.words.specs.Journal.{pairPlans, journal};
+ghost use Rattle.words.specs.Journal.{pairPlans};
 ghost use Rattle.table.specs.Marks.{zeros};
 ghost use Rattle.table.specs.Changes.{put, entryChanges};
-ghost use Rattle.changes.specs.Staged.{bitAt, Lowest, Without, withBit, withWords, staged, Restaged, Inside, headRoom, HeadOk, headStores, group};
+ghost use Rattle.changes.specs.Staged.{bitAt, Lowest, Without, withBit, withWords, staged, Restaged, Inside, headRoom, HeadOk, headStores, group, Journaled};
 
 // ---- the head
 
@@ -85,7 +86,7 @@ pub fn many_bits() -> [u64; 64]
 
 // A word of bits with bit j set too, if it is to be.
 pub fn with_bit(bits: u64, j: usize, changed: bool) -> u64
-    requires { ⌜ j < 64 ⌝ }
+    requires { ⌜ j < groupSize ⌝ }
     ensures { λ r. ⌜ r ≡ withBit changed j bits ⌝ }
 {
     if changed {
@@ -106,12 +107,12 @@ pub fn stage_words(words: &mut [u32], i: usize, first: u32, second: u32)
 
 // Stages two new words for entry i, in place of what was staged for it before.
 pub fn stage_entry(words: &mut [u32], changed: &mut [u64], i: usize, first: u32, second: u32)
-    requires { ⌜ (2 * i + 1 < length (now words)) × (i < 64 * length (now changed)) ⌝ }
+    requires { ⌜ (2 * i + 1 < length (now words)) × (i < groupAt (length (now changed))) ⌝ }
     ensures { λ _. ⌜ Restaged (now (words .entry)) (now (changed .entry)) i (put first second) (now (words .exit)) (now (changed .exit)) ⌝ }
 {
     stage_words(words, i, first, second);
-    let k = i / 64;
-    changed[k] = with_bit(changed[k], i % 64, true);
+    let k = i / GROUP_SIZE;
+    changed[k] = with_bit(changed[k], i % GROUP_SIZE, true);
 }
 
 // ---- the writer
@@ -165,7 +166,7 @@ fn write_group(
     budget: usize,
 ) -> usize
     requires small { ⌜ (slots ≤ maxSlots) × (base ≤ maxSlots) × (2 * slots ≤ length (now words)) ⌝ }
-    requires inside { ⌜ ((j : ℕ) → j < 64 → bitAt bits j ≡ true → base + j < slots) ⌝ }
+    requires inside { ⌜ ((j : ℕ) → j < groupSize → bitAt bits j ≡ true → base + j < slots) ⌝ }
     requires room { ⌜ at + 2 * length (group slots base bits (now words)) ≤ length (now table) ⌝ }
     ensures counted { λ r. ⌜ r ≡ length (group slots base bits (now (words .entry))) ⌝ }
     ensures words { λ _. ⌜ now (table .exit) ≡ stores (take budget (pairPlans at (group slots base bits (now (words .entry))))) (now (table .entry)) ⌝ }
@@ -198,7 +199,7 @@ fn write_entries(
     changed: &[u64],
     budget: usize,
 ) -> usize
-    requires small { ⌜ (slots ≤ maxSlots) × (2 * slots ≤ length (now words)) × (slots ≤ 64 * length (now changed)) ⌝ }
+    requires small { ⌜ (slots ≤ maxSlots) × (2 * slots ≤ length (now words)) × (slots ≤ groupAt (length (now changed))) ⌝ }
     requires inside { ⌜ Inside slots (now changed) ⌝ }
     requires room { ⌜ at + 4 * slots ≤ length (now table) ⌝ }
     ensures counted { λ r. ⌜ r ≡ length (entryChanges slots (staged (now (words .entry)) (now (changed .entry)))) ⌝ }
@@ -206,12 +207,12 @@ fn write_entries(
 {
     let mut n: usize = 0;
     let mut k: usize = 0;
-    while 64 * k < slots {
+    while GROUP_SIZE * k < slots {
         n += write_group(
             table,
             slots,
             at + 2 * n,
-            64 * k,
+            GROUP_SIZE * k,
             changed[k],
             words,
             remaining(budget, 2 * n),
@@ -225,8 +226,7 @@ fn write_entries(
 pub fn write_head_words(table: &mut [u32], slots: usize, head: Head, budget: usize) -> usize
     requires small { ⌜ (slots ≤ maxSlots) × (length (now table) ≡ tableWords slots) ⌝ }
     requires heads { ⌜ HeadOk head ⌝ }
-    ensures made { λ r. ⌜ r ≡ length (journal (pairsAt slots) (headStores head)) ⌝ }
-    ensures words { λ _. ⌜ now (table .exit) ≡ stores (take budget (journal (pairsAt slots) (headStores head))) (now (table .entry)) ⌝ }
+    ensures { λ r. ⌜ Journaled slots (headStores head) budget (now (table .entry)) r (now (table .exit)) ⌝ }
 {
     let at = pairs_at(slots);
     let heads = head.count;
@@ -243,13 +243,11 @@ pub fn write_staged(
     changed: &[u64],
     budget: usize,
 ) -> usize
-    requires small { ⌜ (slots ≤ maxSlots) × (length (now table) ≡ tableWords slots) × (2 * slots ≤ length (now words)) × (slots ≤ 64 * length (now changed)) ⌝ }
+    requires small { ⌜ (slots ≤ maxSlots) × (length (now table) ≡ tableWords slots) × (2 * slots ≤ length (now words)) × (slots ≤ groupAt (length (now changed))) ⌝ }
     requires heads { ⌜ HeadOk head ⌝ }
     requires inside { ⌜ Inside slots (now changed) ⌝ }
-    ensures made { λ r. ⌜ r ≡ length (journal (pairsAt slots) (headStores head ++ entryChanges slots (staged (now (words .entry)) (now (changed .entry))))) ⌝ }
-    ensures few { λ r. ⌜ r ≤ 3 * maxPairs slots + 2 ⌝ }
-    ensures words { λ _. ⌜ now (table .exit)
-        ≡ stores (take budget (journal (pairsAt slots) (headStores head ++ entryChanges slots (staged (now (words .entry)) (now (changed .entry)))))) (now (table .entry)) ⌝ }
+    ensures { λ r. ⌜ Journaled slots (headStores head ++ entryChanges slots (staged (now (words .entry)) (now (changed .entry)))) budget
+        (now (table .entry)) r (now (table .exit)) ⌝ }
 {
     let at = pairs_at(slots);
     let heads = head.count;

@@ -14,13 +14,15 @@ use changes::stage_words;
 use changes::with_bit;
 use changes::with_word;
 use changes::write_staged;
-use search::find_domain;
 use search::keep_writable;
 use store::Answer;
 use store::answer_of;
+use store::innermost_check;
 use store::store_check;
 use table::FEW_CELLS;
 use table::FEW_SLOTS;
+use table::domains::is_inner;
+use table::domains::parent_of;
 use table::few_marks;
 use table::fields::cell_of;
 use table::fields::depth_of;
@@ -30,8 +32,10 @@ use table::fields::writable_of;
 use table::first_word;
 use table::has_depth;
 use table::many_marks;
+use table::mark_of;
 use table::no_bodies;
 use table::second_word;
+use words::layout::GROUP_SIZE;
 use words::layout::LIVE_AT;
 use words::layout::cells_of;
 use words::layout::handle_at;
@@ -42,12 +46,12 @@ ghost use mathlib.Core.Path.{_≡_};
 ghost use mathlib.Core.Bool.{true, cond};
 ghost use Prim.Native.Nat.{ℕ, _+_, _*_, _≤_, _<_, min};
 ghost use lib.ListN.{length, take};
-ghost use Rattle.words.specs.Layout.{cellsOf, pairsAt, slotsOf, tableWords, maxSlots, maxLive, maxCells};
+ghost use Rattle.words.specs.Layout.{cellsOf, pairsAt, slotsOf, tableWords, maxSlots, maxLive, maxCells, groupSize, groupAt};
 ghost use Rattle.words.specs.Stores.{stores};
 ghost use Rattle.words.specs.Journal.{journal};
 ghost use Rattle.table.specs.Entry.{depthOf, writableOf, parent, outward, writable};
 ghost use Rattle.table.specs.Marks.{has, cellIn, Marked, CellsOnce, Blank};
-ghost use Rattle.changes.specs.Staged.{Turned, Stages, HeadOk, headStores};
+ghost use Rattle.changes.specs.Staged.{Turned, Stages, HeadOk, headStores, Journaled};
 ghost use Rattle.store.specs.Outcome.{buffers, report, leaves, outcome};
 ghost use Rattle.store.specs.Means.{seen};
 ghost use Rattle.commit.specs.Commit.{raises, commitCheck, commitChange, commitCall, commitMeans};
@@ -65,14 +69,7 @@ fn commit_check(memory: usize, bodies: usize, table: &[u32], handle: u32, seen: 
     if no != 0 {
         return no;
     }
-    let depth = find_domain(table, handle);
-    if depth == 0 {
-        return 5;
-    }
-    if depth != table[LIVE_AT] {
-        return 6;
-    }
-    0
+    innermost_check(table, handle)
 }
 
 // Has the marks tell of the innermost depth which cells it holds read-write. The outermost domain has no parent whose entries could be
@@ -95,7 +92,7 @@ fn commit_head(live: u32) -> Head
     ensures stored { λ r. ⌜ headStores r ≡ headWords live ⌝ }
 {
     let one = with_word(no_head(), LIVE_AT as u32, live - 1);
-    with_word(one, handle_at(wide(live - 1)) as u32, 0)
+    with_word(one, handle_at(wide(parent_of(live))) as u32, 0)
 }
 
 // Can an entry change, by its first word alone? It can if it is innermost, or its parent's and read-only. Most are neither.
@@ -104,7 +101,7 @@ fn is_concerned(word: u32, live: u32) -> bool
     ensures { λ r. ⌜ r ≡ concerned live word ⌝ }
 {
     let depth = depth_of(word);
-    (depth == live) | ((2 <= live) & ((depth == live - 1) & (writable_of(word) == 0)))
+    (depth == live) | (is_inner(live) & ((depth == parent_of(live)) & (writable_of(word) == 0)))
 }
 
 // Does an innermost entry move out: is there a parent, and does it lack the cell?
@@ -112,7 +109,7 @@ fn moves_out(word: u32, live: u32, mark: u8) -> bool
     requires { ⌜ (1 ≤ live) × (live ≤ maxLive) ⌝ }
     ensures { λ r. ⌜ r ≡ moves live word (has (parent live) mark) ⌝ }
 {
-    (depth_of(word) == live) & ((2 <= live) & !has_depth(mark, live - 1))
+    (depth_of(word) == live) & (is_inner(live) & !has_depth(mark, parent_of(live)))
 }
 
 // Does an entry of the parent become read-write: is it read-only, and does the innermost domain hold its cell read-write?
@@ -120,8 +117,8 @@ fn is_raised(word: u32, live: u32, mark: u8) -> bool
     requires { ⌜ (1 ≤ live) × (live ≤ maxLive) ⌝ }
     ensures { λ r. ⌜ r ≡ raises live word (has live mark) ⌝ }
 {
-    (2 <= live)
-        & ((depth_of(word) == live - 1) & ((writable_of(word) == 0) & has_depth(mark, live)))
+    is_inner(live)
+        & ((depth_of(word) == parent_of(live)) & ((writable_of(word) == 0) & has_depth(mark, live)))
 }
 
 // The first word of an entry that changes: one depth further out, or read-write, or 0 where it is freed.
@@ -165,7 +162,7 @@ fn commit_entry(
     if !is_concerned(word, live) {
         return false;
     }
-    let mark = seen[cell_of(word)];
+    let mark = mark_of(seen, cell_of(word));
     let raised = is_raised(word, live, mark);
     if !((depth_of(word) == live) | raised) {
         return false;
@@ -177,7 +174,7 @@ fn commit_entry(
     true
 }
 
-// The same for the 64 entries from 64 k on. Their bits are stored at once.
+// The same for the entries of group k. Their bits are stored at once.
 fn commit_group(
     table: &[u32],
     slots: usize,
@@ -187,19 +184,19 @@ fn commit_group(
     changed: &mut [u64],
     k: usize,
 )
-    requires small { ⌜ (64 * k < slots) × (slots ≤ maxSlots) × (pairsAt slots ≤ length (now table)) × (1 ≤ live) × (live ≤ maxLive) ⌝ }
-    requires room { ⌜ (2 * slots ≤ length (now words)) × (slots ≤ 64 * length (now changed)) ⌝ }
+    requires small { ⌜ (groupAt k < slots) × (slots ≤ maxSlots) × (pairsAt slots ≤ length (now table)) × (1 ≤ live) × (live ≤ maxLive) ⌝ }
+    requires room { ⌜ (2 * slots ≤ length (now words)) × (slots ≤ groupAt (length (now changed))) ⌝ }
     requires told { ⌜ ((i : ℕ) → i < slots → cellIn slots (now table) i < length (now seen)) × TellsBoth slots (now table) live (now seen) ⌝ }
-    requires before { ⌜ Stages (64 * k) (commitChange slots (now table) live) (now words) (now changed) ⌝ }
-    ensures { λ _. ⌜ Stages (min slots (64 * k + 64)) (commitChange slots (now (table .entry)) live) (now (words .exit)) (now (changed .exit)) ⌝ }
+    requires before { ⌜ Stages (groupAt k) (commitChange slots (now table) live) (now words) (now changed) ⌝ }
+    ensures { λ _. ⌜ Stages (min slots (groupAt k + groupSize)) (commitChange slots (now (table .entry)) live) (now (words .exit)) (now (changed .exit)) ⌝ }
 {
-    let end = least(slots, 64 * k + 64);
+    let end = least(slots, GROUP_SIZE * k + GROUP_SIZE);
     let mut bits: u64 = 0;
-    let mut i = 64 * k;
+    let mut i = GROUP_SIZE * k;
     while i < end {
         bits = with_bit(
             bits,
-            i % 64,
+            i % GROUP_SIZE,
             commit_entry(table, slots, live, seen, words, i),
         );
         i += 1;
@@ -217,13 +214,13 @@ fn commit_entries(
     changed: &mut [u64],
 )
     requires small { ⌜ (slots ≤ maxSlots) × (pairsAt slots ≤ length (now table)) × (1 ≤ live) × (live ≤ maxLive) ⌝ }
-    requires room { ⌜ (2 * slots ≤ length (now words)) × (slots ≤ 64 * length (now changed)) ⌝ }
+    requires room { ⌜ (2 * slots ≤ length (now words)) × (slots ≤ groupAt (length (now changed))) ⌝ }
     requires told { ⌜ ((i : ℕ) → i < slots → cellIn slots (now table) i < length (now seen)) × TellsBoth slots (now table) live (now seen) ⌝ }
     requires before { ⌜ Stages 0 (commitChange slots (now table) live) (now words) (now changed) ⌝ }
     ensures { λ _. ⌜ Stages slots (commitChange slots (now (table .entry)) live) (now (words .exit)) (now (changed .exit)) ⌝ }
 {
     let mut k: usize = 0;
-    while 64 * k < slots {
+    while GROUP_SIZE * k < slots {
         commit_group(table, slots, live, seen, words, changed, k);
         k += 1;
     }
@@ -240,11 +237,10 @@ fn end_domain(
     budget: usize,
 ) -> usize
     requires small { ⌜ (slots ≤ maxSlots) × (length (now table) ≡ tableWords slots) × (1 ≤ live) × (live ≤ maxLive) ⌝ }
-    requires room { ⌜ (2 * slots ≤ length (now words)) × (slots ≤ 64 * length (now changed)) ⌝ }
+    requires room { ⌜ (2 * slots ≤ length (now words)) × (slots ≤ groupAt (length (now changed))) ⌝ }
     requires told { ⌜ ((i : ℕ) → i < slots → cellIn slots (now table) i < length (now seen)) × TellsBoth slots (now table) live (now seen) ⌝ }
     requires before { ⌜ Stages 0 (commitChange slots (now table) live) (now words) (now changed) ⌝ }
-    ensures made { λ r. ⌜ r ≡ length (journal (pairsAt slots) (endingWords slots (now (table .entry)) live)) ⌝ }
-    ensures words { λ _. ⌜ now (table .exit) ≡ stores (take budget (journal (pairsAt slots) (endingWords slots (now (table .entry)) live))) (now (table .entry)) ⌝ }
+    ensures { λ r. ⌜ Journaled slots (endingWords slots (now (table .entry)) live) budget (now (table .entry)) r (now (table .exit)) ⌝ }
 {
     commit_entries(table, slots, live, seen, words, changed);
     write_staged(table, slots, commit_head(live), words, changed, budget)
@@ -254,8 +250,7 @@ fn end_domain(
 fn end_few(table: &mut [u32], slots: usize, live: u32, seen: &[u8], budget: usize) -> usize
     requires small { ⌜ (slots ≤ 256) × (length (now table) ≡ tableWords slots) × (1 ≤ live) × (live ≤ maxLive) ⌝ }
     requires told { ⌜ ((i : ℕ) → i < slots → cellIn slots (now table) i < length (now seen)) × TellsBoth slots (now table) live (now seen) ⌝ }
-    ensures made { λ r. ⌜ r ≡ length (journal (pairsAt slots) (endingWords slots (now (table .entry)) live)) ⌝ }
-    ensures words { λ _. ⌜ now (table .exit) ≡ stores (take budget (journal (pairsAt slots) (endingWords slots (now (table .entry)) live))) (now (table .entry)) ⌝ }
+    ensures { λ r. ⌜ Journaled slots (endingWords slots (now (table .entry)) live) budget (now (table .entry)) r (now (table .exit)) ⌝ }
 {
     let mut words = few_words();
     let mut changed = few_bits();
@@ -266,8 +261,7 @@ fn end_few(table: &mut [u32], slots: usize, live: u32, seen: &[u8], budget: usiz
 fn end_many(table: &mut [u32], slots: usize, live: u32, seen: &[u8], budget: usize) -> usize
     requires small { ⌜ (slots ≤ maxSlots) × (length (now table) ≡ tableWords slots) × (1 ≤ live) × (live ≤ maxLive) ⌝ }
     requires told { ⌜ ((i : ℕ) → i < slots → cellIn slots (now table) i < length (now seen)) × TellsBoth slots (now table) live (now seen) ⌝ }
-    ensures made { λ r. ⌜ r ≡ length (journal (pairsAt slots) (endingWords slots (now (table .entry)) live)) ⌝ }
-    ensures words { λ _. ⌜ now (table .exit) ≡ stores (take budget (journal (pairsAt slots) (endingWords slots (now (table .entry)) live))) (now (table .entry)) ⌝ }
+    ensures { λ r. ⌜ Journaled slots (endingWords slots (now (table .entry)) live) budget (now (table .entry)) r (now (table .exit)) ⌝ }
 {
     let mut words = many_words();
     let mut changed = many_bits();
@@ -279,8 +273,7 @@ fn end_many(table: &mut [u32], slots: usize, live: u32, seen: &[u8], budget: usi
 fn commit_words(table: &mut [u32], slots: usize, live: u32, seen: &[u8], budget: usize) -> usize
     requires small { ⌜ (slots ≤ maxSlots) × (length (now table) ≡ tableWords slots) × (1 ≤ live) × (live ≤ maxLive) ⌝ }
     requires told { ⌜ ((i : ℕ) → i < slots → cellIn slots (now table) i < length (now seen)) × TellsBoth slots (now table) live (now seen) ⌝ }
-    ensures made { λ r. ⌜ r ≡ length (journal (pairsAt slots) (endingWords slots (now (table .entry)) live)) ⌝ }
-    ensures words { λ _. ⌜ now (table .exit) ≡ stores (take budget (journal (pairsAt slots) (endingWords slots (now (table .entry)) live))) (now (table .entry)) ⌝ }
+    ensures { λ r. ⌜ Journaled slots (endingWords slots (now (table .entry)) live) budget (now (table .entry)) r (now (table .exit)) ⌝ }
 {
     if slots <= FEW_SLOTS {
         return end_few(table, slots, live, seen, budget);

@@ -18,8 +18,3 @@ inCells d first n w = eqb (depthOf w) d && inRange first n (cellOf w)
 -- is it via parent as well?
 abbrev pub viaWord : (d first n w : ℕ) → Bool
 viaWord d first n w = isVia w && inCells d first n w
-
--- the words ws are stored by the journal of a table t of e entries, at most k steps of it, which leaves u; r are its steps uncut
-pub record Journaled (e : ℕ) (ws : List Store) (k : ℕ) (t : List ℕ) (r : ℕ) (u : List ℕ) : Type 0 where
-  pub made : r ≡ length (journal (pairsAt e) ws)
-  pub words : u ≡ stores (take k (journal (pairsAt e) ws)) t

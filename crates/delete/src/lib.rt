@@ -13,9 +13,11 @@ use changes::write_staged;
 use search::find_domain;
 use store::Answer;
 use store::answer_of;
+use store::range_ok;
 use store::store_check;
 use table::FEW_CELLS;
 use table::FEW_SLOTS;
+use table::domains::child_of;
 use table::few_marks;
 use table::fields::cell_of;
 use table::fields::depth_of;
@@ -23,7 +25,9 @@ use table::fields::is_via;
 use table::first_word;
 use table::has_depth;
 use table::many_marks;
+use table::mark_of;
 use table::no_bodies;
+use words::layout::GROUP_SIZE;
 use words::layout::cells_of;
 use words::layout::slots_of;
 use words::least;
@@ -31,37 +35,29 @@ use words::wide;
 ghost use mathlib.Core.Path.{_≡_};
 ghost use mathlib.Core.Bool.{true, not};
 ghost use Prim.Native.Nat.{ℕ, _+_, _*_, _≤_, _<_, min};
-ghost use lib.ListN.{length, getD};
-ghost use Rattle.words.specs.Layout.{cellsOf, pairsAt, tableWords, maxSlots, maxCells};
+ghost use lib.ListN.{length};
+ghost use Rattle.words.specs.Layout.{cellsOf, pairsAt, tableWords, maxSlots, maxCells, groupSize, groupAt};
 ghost use Rattle.words.specs.Scan.{all};
 ghost use Rattle.table.specs.Entry.{word1};
-ghost use Rattle.table.specs.Marks.{has, Blank};
+ghost use Rattle.table.specs.Marks.{markOf, has, Blank};
 ghost use Rattle.table.specs.Changes.{keep, entryChanges};
-ghost use Rattle.changes.specs.Staged.{Turned, Stages};
-ghost use Rattle.model.specs.Holdings.{rangeOk};
+ghost use Rattle.changes.specs.Staged.{Turned, Stages, Journaled};
 ghost use Rattle.store.specs.Outcome.{buffers, report, leaves, outcome};
 ghost use Rattle.store.specs.Means.{seen};
 ghost use Rattle.delete.specs.Delete.{deleteCheck, deleteChange, deleteCall, deleteMeans};
-ghost use Rattle.delete.specs.Parts.{inCells, viaWord, Journaled};
+ghost use Rattle.delete.specs.Parts.{inCells, viaWord};
 
 // ---- the questions
-
-// Question 8: at least one cell, and all of them in memory. The sum of two words does not wrap in a usize.
-fn range_ok(cells: usize, first: u32, count: u32) -> bool
-    ensures { λ r. ⌜ r ≡ rangeOk cells first count ⌝ }
-{
-    (1 <= wide(count)) & (wide(first) + wide(count) <= cells)
-}
 
 // Question 13: does the domain at this depth hold each of `count` cells from `first` on? All marks are asked, with no branch.
 fn all_held(seen: &[u8], depth: u32, first: usize, count: usize) -> bool
     requires { ⌜ (first + count ≤ length (now seen)) × (depth < 16) ⌝ }
-    ensures { λ r. ⌜ r ≡ all count (λ j. has depth (getD (now (seen .entry)) (first + j) 0)) ⌝ }
+    ensures { λ r. ⌜ r ≡ all count (λ j. has depth (markOf (now (seen .entry)) (first + j))) ⌝ }
 {
     let mut held = true;
     let mut j: usize = 0;
     while j < count {
-        held = held & has_depth(seen[first + j], depth);
+        held = held & has_depth(mark_of(seen, first + j), depth);
         j += 1;
     }
     held
@@ -114,13 +110,15 @@ fn check_marked(
     if depth == 0 {
         return 5;
     }
-    if !range_ok(cells_of(memory), first, count) {
+    let from = wide(first);
+    let cells = wide(count);
+    if !range_ok(cells_of(memory), from, cells) {
         return 8;
     }
-    if !all_held(seen, depth, wide(first), wide(count)) {
+    if !all_held(seen, depth, from, cells) {
         return 13;
     }
-    if !none_via(table, slots_of(table.len()), depth + 1, first, count) {
+    if !none_via(table, slots_of(table.len()), child_of(depth), first, count) {
         return 14;
     }
     0
@@ -218,7 +216,7 @@ fn none_freed(
     none
 }
 
-// Stages those of the 64 entries from 64 k on that are freed. Their bits are stored at once. Most groups have none, and are passed over.
+// Stages those entries of group k that are freed. Their bits are stored at once. Most groups have none, and are passed over.
 fn free_group(
     table: &[u32],
     slots: usize,
@@ -229,20 +227,20 @@ fn free_group(
     changed: &mut [u64],
     k: usize,
 )
-    requires small { ⌜ (64 * k < slots) × (slots ≤ maxSlots) × (pairsAt slots ≤ length (now table)) × (first + count ≤ maxCells) ⌝ }
-    requires room { ⌜ (2 * slots ≤ length (now words)) × (slots ≤ 64 * length (now changed)) ⌝ }
-    requires before { ⌜ Stages (64 * k) (deleteChange slots (now table) depth first count) (now words) (now changed) ⌝ }
-    ensures { λ _. ⌜ Stages (min slots (64 * k + 64)) (deleteChange slots (now (table .entry)) depth first count) (now (words .exit)) (now (changed .exit)) ⌝ }
+    requires small { ⌜ (groupAt k < slots) × (slots ≤ maxSlots) × (pairsAt slots ≤ length (now table)) × (first + count ≤ maxCells) ⌝ }
+    requires room { ⌜ (2 * slots ≤ length (now words)) × (slots ≤ groupAt (length (now changed))) ⌝ }
+    requires before { ⌜ Stages (groupAt k) (deleteChange slots (now table) depth first count) (now words) (now changed) ⌝ }
+    ensures { λ _. ⌜ Stages (min slots (groupAt k + groupSize)) (deleteChange slots (now (table .entry)) depth first count) (now (words .exit)) (now (changed .exit)) ⌝ }
 {
-    let end = least(slots, 64 * k + 64);
-    if none_freed(table, slots, depth, first, count, 64 * k, end) {
+    let end = least(slots, GROUP_SIZE * k + GROUP_SIZE);
+    if none_freed(table, slots, depth, first, count, GROUP_SIZE * k, end) {
         return;
     }
     let mut bits: u64 = 0;
-    let mut i = 64 * k;
+    let mut i = GROUP_SIZE * k;
     while i < end {
         let freed = free_entry(table, slots, depth, first, count, words, i);
-        bits = with_bit(bits, i % 64, freed);
+        bits = with_bit(bits, i % GROUP_SIZE, freed);
         i += 1;
     }
     changed[k] = bits;
@@ -259,12 +257,12 @@ fn free_entries(
     changed: &mut [u64],
 )
     requires small { ⌜ (slots ≤ maxSlots) × (pairsAt slots ≤ length (now table)) × (first + count ≤ maxCells) ⌝ }
-    requires room { ⌜ (2 * slots ≤ length (now words)) × (slots ≤ 64 * length (now changed)) ⌝ }
+    requires room { ⌜ (2 * slots ≤ length (now words)) × (slots ≤ groupAt (length (now changed))) ⌝ }
     requires before { ⌜ Stages 0 (deleteChange slots (now table) depth first count) (now words) (now changed) ⌝ }
     ensures { λ _. ⌜ Stages slots (deleteChange slots (now (table .entry)) depth first count) (now (words .exit)) (now (changed .exit)) ⌝ }
 {
     let mut k: usize = 0;
-    while 64 * k < slots {
+    while GROUP_SIZE * k < slots {
         free_group(table, slots, depth, first, count, words, changed, k);
         k += 1;
     }
@@ -284,7 +282,7 @@ fn free_staged(
     budget: usize,
 ) -> usize
     requires small { ⌜ (slots ≤ maxSlots) × (length (now table) ≡ tableWords slots) × (first + count ≤ maxCells) ⌝ }
-    requires room { ⌜ (2 * slots ≤ length (now words)) × (slots ≤ 64 * length (now changed)) ⌝ }
+    requires room { ⌜ (2 * slots ≤ length (now words)) × (slots ≤ groupAt (length (now changed))) ⌝ }
     requires before { ⌜ Stages 0 (deleteChange slots (now table) depth first count) (now words) (now changed) ⌝ }
     ensures { λ r. ⌜ Journaled slots (entryChanges slots (deleteChange slots (now (table .entry)) depth first count)) budget (now (table .entry)) r (now (table .exit)) ⌝ }
 {

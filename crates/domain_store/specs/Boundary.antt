@@ -3,6 +3,7 @@ use Prim.Native.Nat.{ℕ, _+_, _≤_}
 use mathlib.Core.List.{List}
 use mathlib.Core.Path.{_≡_}
 use lib.ListN.{length, getD}
+use Rattle.words.specs.Layout.{cellSize}
 use Rattle.words.specs.Stores.{tab}
 use Rattle.model.specs.Answer.{Status, isDone, isStopped, isRefused}
 use Rattle.model.specs.Calls.{Listed}
@@ -59,4 +60,4 @@ lookedBy (Bodies at) = lookedInC 0 2 at
 
 -- the 64 bytes at that offset lie inside that buffer
 abbrev pub offsetWithin : (place offset : ℕ) → Buffers → Type 0
-offsetWithin place offset b = (place ≡ 1 → offset + 64 ≤ length (b .memory)) × (place ≡ 2 → offset + 64 ≤ length (b .bodies))
+offsetWithin place offset b = (place ≡ 1 → offset + cellSize ≤ length (b .memory)) × (place ≡ 2 → offset + cellSize ≤ length (b .bodies))

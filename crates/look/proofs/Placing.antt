@@ -53,13 +53,6 @@ module _ (e : ℕ) (t : List ℕ) (d c : ℕ) where
 
 -- ---- the questions
 
--- question 8 with count 1, by the numbers that the code has
-pub range-yes : (r w m c : ℕ) → r ≡ m → w ≡ c → w < r → rangeOk m c 1 ≡ true
-range-yes r w m c p q l = le-leb (c + 1) m (omega arith)
-
-pub range-not : (r w m c : ℕ) → r ≡ m → w ≡ c → r ≤ w → rangeOk m c 1 ≡ false
-range-not r w m c p q l = lt-leb (c + 1) m (omega arith)
-
 range-below : (m c : ℕ) → rangeOk m c 1 ≡ true → c < m
 range-below m c h = omega (arith, leb-true (c + 1) m h)
 

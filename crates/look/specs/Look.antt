@@ -3,7 +3,7 @@ use Prim.Native.Nat.{ℕ, _+_, _≤_}
 use mathlib.Core.Bool.{cond}
 use mathlib.Core.List.{List, []}
 use lib.ListN.{length, take, drop}
-use Rattle.words.specs.Layout.{cellAt, cellsOf, slotsOf}
+use Rattle.words.specs.Layout.{cellAt, cellsOf, slotsOf, cellSize}
 use Rattle.search.specs.Search.{bodyFrom, valueFrom}
 use Rattle.search.specs.declared.Held.{Held}
 use Rattle.search.specs.declared.Held.the-variants.{Nowhere, InBody}
@@ -46,14 +46,14 @@ placeReport (Bodies at) = done 0 0
 
 abbrev pub placePart : Place → Buffers → List ℕ
 placePart (Refused n) b = []
-placePart (Memory at) b = take 64 (drop at (b .memory))
-placePart (Bodies at) b = take 64 (drop at (b .bodies))
+placePart (Memory at) b = take cellSize (drop at (b .memory))
+placePart (Bodies at) b = take cellSize (drop at (b .bodies))
 
 -- the 64 bytes at that offset lie inside that buffer
 abbrev pub placeWithin : Place → Buffers → Type 0
 placeWithin (Refused n) b = Unit {0}
-placeWithin (Memory at) b = at + 64 ≤ length (b .memory)
-placeWithin (Bodies at) b = at + 64 ≤ length (b .bodies)
+placeWithin (Memory at) b = at + cellSize ≤ length (b .memory)
+placeWithin (Bodies at) b = at + cellSize ≤ length (b .bodies)
 
 abbrev pub shownAt : Place → Buffers → Looked
 shownAt p b = record { report = placeReport p; part = placePart p b }

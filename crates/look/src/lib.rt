@@ -4,6 +4,8 @@ use search::find_domain;
 use search::find_value;
 use store::Answer;
 use store::plain_check;
+use store::range_ok;
+use words::layout::CELL_SIZE;
 use words::layout::cell_at;
 use words::layout::cells_of;
 use words::layout::slots_of;
@@ -35,7 +37,7 @@ fn look_check(memory: usize, bodies: usize, table: &[u32], handle: u32, cell: u3
     if find_domain(table, handle) == 0 {
         return 5;
     }
-    if cells_of(memory) <= wide(cell) {
+    if !range_ok(cells_of(memory), wide(cell), 1) {
         return 8;
     }
     0
@@ -101,7 +103,7 @@ pub fn look<'a>(
 {
     match look_place(memory, bodies, table, handle, cell) {
         Place::Refused(_) => &memory[0..0],
-        Place::Memory(at) => &memory[at..at + 64],
-        Place::Bodies(at) => &bodies[at..at + 64],
+        Place::Memory(at) => &memory[at..at + CELL_SIZE],
+        Place::Bodies(at) => &bodies[at..at + CELL_SIZE],
     }
 }

@@ -5,6 +5,7 @@ use mathlib.Core.List.{List, [], _∷_}
 use mathlib.Core.Option.{Option, none, some}
 use lib.Dec.{leb, ltb, eqb}
 use lib.ListN.{length}
+use Rattle.words.specs.Layout.{cellSize}
 use Rattle.words.specs.Scan.{all, count}
 use Rattle.words.specs.Cells.{cellBytes, sameCell}
 use Rattle.model.specs.State.{Label, readOnly, readWrite, Kind, copy, viaParent, Holding, Domain, State}
@@ -230,7 +231,7 @@ addChecks room memory h first n k l s =
 abbrev pub addEffect : Room → List ℕ → (h first n k l : ℕ) → State → Effect
 addEffect room memory h first n k l s =
     orRefuse (addChecks room memory h first n k l s)
-    (change (64 * newBodies (kindNumbered k) (newlyHeld first n s)) (2 * (newlyHeld first n s + relabelled first n (labelNumbered l) s)) 0
+    (change (cellSize * newBodies (kindNumbered k) (newlyHeld first n s)) (2 * (newlyHeld first n s + relabelled first n (labelNumbered l) s)) 0
     (addTo memory first n (kindNumbered k) (labelNumbered l) s))
 
 -- ---- delete: "frees the named cells of the named domain only"
@@ -282,7 +283,7 @@ advanceChecks room h s =
 abbrev pub advanceEffect : Room → List ℕ → (h : ℕ) → State → Effect
 advanceEffect room memory h s =
     orRefuse (advanceChecks room h s)
-    (change (64 * writableCells (room .cells) s) (2 * writableCells (room .cells) s) 0 (advance memory s))
+    (change (cellSize * writableCells (room .cells) s) (2 * writableCells (room .cells) s) 0 (advance memory s))
 
 -- ---- commit
 

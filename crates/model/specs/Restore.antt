@@ -5,6 +5,7 @@ use mathlib.Core.List.{List, [], _∷_}
 use mathlib.Core.Option.{Option, none, some}
 use lib.Dec.{ltb, eqb}
 use lib.ListN.{length, getD, take, drop}
+use Rattle.words.specs.Layout.{cellSize}
 use Rattle.words.specs.Scan.{count}
 use Rattle.words.specs.Stores.{tab}
 use Rattle.words.specs.Cells.{cellBytes}
@@ -16,10 +17,10 @@ use Rattle.model.specs.Holdings.{named, isHeld, valueOr, askLive, askRan
 -- ---- the bytes of memory: the cell that byte x is in, and its place in that cell
 
 abbrev pub cellOfByte : ℕ → ℕ
-cellOfByte x = x / 64
+cellOfByte x = x / cellSize
 
 abbrev pub placeInCell : ℕ → ℕ
-placeInCell x = x % 64
+placeInCell x = x % cellSize
 
 -- ---- holders
 
@@ -80,12 +81,12 @@ restoreChecks h s = askLive h s 0
 abbrev pub restoreEffect : (m h : ℕ) → State → Effect
 restoreEffect m h s =
     orRefuse (restoreChecks h s)
-    (change (64 * cellsPutBack m (named h s) s) (restoreWords m (named h s) s) 0 (restored (named h s) s))
+    (change (cellSize * cellsPutBack m (named h s) s) (restoreWords m (named h s) s) 0 (restored (named h s) s))
 
 -- memory after k steps: "A call stores bytes first: 64 for each .. cell put back, rising by cell and byte"
 unfoldable pub memoryAfterSteps : (k d : ℕ) → State → List ℕ → List ℕ
 memoryAfterSteps k d s memory =
-    tab (length memory) (λ x. cond (ltb (64 * cellsPutBack (cellOfByte x) d s + placeInCell x) k) (restoredByte d s memory x) (getD memory x 0))
+    tab (length memory) (λ x. cond (ltb (cellSize * cellsPutBack (cellOfByte x) d s + placeInCell x) k) (restoredByte d s memory x) (getD memory x 0))
 
 abbrev pub restoreView : (m h k : ℕ) → State → List ℕ → View
 restoreView m h k s memory = viewedWith (restoreEffect m h s) k s memory (memoryAfterSteps k (named h s) s memory)

@@ -9,6 +9,7 @@ use mathlib.Core.Option.{Option, none, some}
 use mathlib.Core.Path.{_≡_}
 use lib.Dec.{leb}
 use lib.ListN.{length, getD}
+use Rattle.words.specs.Layout.{cellSize}
 use Rattle.words.specs.Stores.{Store, stores}
 use Rattle.model.specs.State.{Holding, Domain, State}
 use Rattle.model.specs.Answer.{Report, done, stopped, refused, View, stepsOf}
@@ -133,7 +134,7 @@ abbrev pub SameCell : Option Holding → Option Kept → Type 0
 SameCell none none = Unit {0}
 SameCell none (some k) = ⊥
 SameCell (some h) none = ⊥
-SameCell (some h) (some k) = (h .label ≡ k .label) × ((j : ℕ) → j < 64 → getD (h .value) j 0 ≡ getD (k .bytes) j 0)
+SameCell (some h) (some k) = (h .label ≡ k .label) × ((j : ℕ) → j < cellSize → getD (h .value) j 0 ≡ getD (k .bytes) j 0)
 
 pub data SameDomains : List Domain → List Tracked → Type 0 where
   none-left : SameDomains [] []

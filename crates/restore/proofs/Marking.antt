@@ -7,7 +7,7 @@ use mathlib.Core.Path.{_≡_, refl, sym, ap, _∙_}
 use native.Mathlib.Omega.{arith}
 use borrow.Author.Count.{below-more}
 use borrow.Author.Tests.{eq-eqb, ne-eqb, eqb-true, eqb-false, lt-ltb, le-leb, lt-leb, not-true}
-use lib.Bits.{bitAnd, and-shr, and-step}
+use lib.Bits.{bitAnd, bitOr, and-shr, and-step, and-le-l, and-le-r, or-add-and}
 use lib.Dec.{leb, eqb}
 use lib.ListN.{length, getD, take, drop}
 use lib.Seq.{getD-take, getD-drop}
@@ -103,12 +103,17 @@ pub either-false : (x y : Bool) → (x || y) ≡ false → (x ≡ false) × (y �
 either-false true y h = absurd (true≢ refl h)
 either-false false y h = (refl, h)
 
--- x says whether one of the first j is held by a domain of the mask
-pub held-more : (marks : List ℕ) (mask j : ℕ) (x y : Bool) → (x ≡ false → (k : ℕ) → k < j → heldBy mask (getD marks k 0) ≡ false)
-    → y ≡ heldBy mask (getD marks j 0) → (x || y) ≡ false → (k : ℕ) → k < j + 1 → heldBy mask (getD marks k 0) ≡ false
-held-more marks mask j x y so-far q h k l =
-    let both = either-false x y h in
-    below-more (λ i. heldBy mask (getD marks i 0) ≡ false) j (so-far (both .0)) (sym q ∙ both .1) k l
+-- where two numbers have no bit together, neither has one
+none-either : (a b : ℕ) → bitOr a b ≡ 0 → (a ≡ 0) × (b ≡ 0)
+none-either a b h = (omega (arith, or-add-and a b, and-le-r a b), omega (arith, or-add-and a b, and-le-l a b))
+
+-- x has the bits of the first j marks that are in the mask
+pub held-more : (marks : List ℕ) (mask j x : ℕ) → (x ≡ 0 → (k : ℕ) → k < j → heldBy mask (getD marks k 0) ≡ false)
+    → bitOr x (bitAnd (getD marks j 0) mask) ≡ 0 → (k : ℕ) → k < j + 1 → heldBy mask (getD marks k 0) ≡ false
+unfolding heldBy
+held-more marks mask j x so-far h k l =
+    let both = none-either x (bitAnd (getD marks j 0) mask) h in
+    below-more (λ i. not (eqb (bitAnd (getD marks i 0) mask) 0) ≡ false) j (so-far (both .0)) (ap not (eq-eqb (bitAnd (getD marks j 0) mask) 0 (both .1))) k l
 
 -- a mark of the part of 64 from `from` on is one of all
 pub part-held : (seen : List ℕ) (mask from j : ℕ) → j < 64 → heldBy mask (getD (take (from + 64 - from) (drop from seen)) j 0) ≡ false

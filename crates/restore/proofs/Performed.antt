@@ -7,6 +7,7 @@ use native.Mathlib.Omega.{arith}
 use borrow.Author.Tests.{lt-ltb, le-ltb}
 use lib.Dec.{ltb}
 use lib.ListN.{length, take}
+use Rattle.changes.specs.Staged.{Journaled}
 use Rattle.words.specs.Layout.{cellsOf, bodiesOf, slotsOf, pairsAt, maxLive}
 use Rattle.words.specs.Stores.{stores}
 use Rattle.words.specs.Journal.{journal}
@@ -21,7 +22,6 @@ use Rattle.store.proofs.Checks.{orElse-both}
 use Rattle.store.proofs.Outcome.{refuses}
 use Rattle.store.proofs.Raw.{check-rule}
 use Rattle.restore.specs.Restore.{restoreCheck, restoreBytes, restoreWords, restoreCall}
-use Rattle.restore.specs.Parts.{Journaled}
 use Rattle.restore.proofs.Plan.{plan-performed}
 use Rattle.restore.proofs.Restored.{asked, asked-low}
 

@@ -7,6 +7,7 @@ use native.Mathlib.Omega.{arith}
 use borrow.Author.Tests.{le-ltb, ltb-false}
 use lib.Dec.{ltb}
 use lib.ListN.{length}
+use Rattle.changes.specs.Staged.{Journaled}
 use Rattle.words.specs.Layout.{liveAt, handleAt, slotsOf}
 use Rattle.words.specs.Stores.{Store, _≔_, tab}
 use Rattle.words.proofs.Scan.{by-le}
@@ -14,7 +15,7 @@ use Rattle.words.proofs.Plans.{stores-none, tab-last}
 use Rattle.table.specs.Entry.{live, word1, depthOf}
 use Rattle.table.specs.Changes.{keep}
 use Rattle.restore.specs.Restore.{restoreChange, restoreWords}
-use Rattle.restore.specs.Parts.{headWords, endingWords, Journaled}
+use Rattle.restore.specs.Parts.{headWords, endingWords}
 use Rattle.restore.proofs.Marking.{either-false}
 use Rattle.restore.proofs.Counting.{words-none, words-some}
 

@@ -5,7 +5,7 @@ use mathlib.Core.List.{List}
 use mathlib.Core.Path.{_≡_}
 use lib.Bits.{bitAnd}
 use lib.Dec.{eqb}
-use lib.ListN.{getD}
+use Rattle.table.specs.Marks.{markOf}
 use Rattle.search.specs.Search.{heldFrom}
 
 -- the mask of the domains from depth d inwards: as in a mark, depth k is bit k - 1, and it has every depth from d to 8
@@ -18,4 +18,4 @@ heldBy mask mark = not (eqb (bitAnd mark mask) 0)
 
 -- the marks that have one are those of the cells held by depth d or one inside it
 abbrev pub Tells : ℕ → List ℕ → (d mask : ℕ) → (seen : List ℕ) → Type 0
-Tells e t d mask seen = (c : ℕ) → heldBy mask (getD seen c 0) ≡ heldFrom e t d c
+Tells e t d mask seen = (c : ℕ) → heldBy mask (markOf seen c) ≡ heldFrom e t d c

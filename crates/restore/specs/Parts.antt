@@ -27,9 +27,3 @@ headWords d n = (liveAt ≔ d) ∷ clearedHandles d n
 -- and all the words then
 abbrev pub endingWords : (e : ℕ) → List ℕ → (d n : ℕ) → List Store
 endingWords e t d n = headWords d n ++ entryChanges e (restoreChange e t d)
-
--- the words ws are stored by the journal of a table t of e entries, at most k steps of it, which leaves u; r are its steps uncut
-pub record Journaled (e : ℕ) (ws : List Store) (k : ℕ) (t : List ℕ) (r : ℕ) (u : List ℕ) : Type 0 where
-  pub made : r ≡ length (journal (pairsAt e) ws)
-  pub few : r ≤ 3 * maxPairs e + 2
-  pub words : u ≡ stores (take k (journal (pairsAt e) ws)) t

@@ -22,12 +22,16 @@ use store::answer_of;
 use store::store_check;
 use table::FEW_CELLS;
 use table::FEW_SLOTS;
+use table::domains::is_inside;
 use table::few_marks;
 use table::fields::depth_of;
 use table::first_word;
 use table::many_marks;
+use table::mark_of;
 use table::no_bodies;
 use words::copy_bytes;
+use words::layout::CELL_SIZE;
+use words::layout::GROUP_SIZE;
 use words::layout::LIVE_AT;
 use words::layout::cell_at;
 use words::layout::cells_of;
@@ -40,19 +44,19 @@ ghost use mathlib.Core.Path.{_≡_};
 ghost use mathlib.Core.Bool.{true, false};
 ghost use Prim.Native.Nat.{ℕ, _+_, _*_, _≤_, _<_, min};
 ghost use lib.ListN.{length, take, getD};
-ghost use Rattle.words.specs.Layout.{cellAt, cellsOf, bodiesOf, pairsAt, slotsOf, tableWords, maxSlots, maxLive, maxCells, maxBodies};
+ghost use Rattle.words.specs.Layout.{cellAt, cellsOf, bodiesOf, pairsAt, slotsOf, tableWords, maxSlots, maxLive, maxCells, maxBodies, cellSize, groupSize, groupAt};
 ghost use Rattle.words.specs.Stores.{stores, gather};
 ghost use Rattle.words.specs.Cells.{cellPlan};
 ghost use Rattle.table.specs.Entry.{live, word1, depthOf};
 ghost use Rattle.table.specs.Marks.{Blank, Marked, AllMarked};
 ghost use Rattle.table.specs.Rule.{ruleOk};
 ghost use Rattle.search.specs.Search.{heldFrom};
-ghost use Rattle.changes.specs.Staged.{Turned, Stages, HeadOk, headStores};
+ghost use Rattle.changes.specs.Staged.{Turned, Stages, HeadOk, headStores, Journaled};
 ghost use Rattle.store.specs.Outcome.{buffers, report, leaves, outcome};
 ghost use Rattle.store.specs.Means.{seen};
 ghost use Rattle.restore.specs.Restore.{restoreCheck, restoreBytes, restoreChange, restoreWords, restoreCall, restoreMeans};
 ghost use Rattle.restore.specs.Marks.{inwards, heldBy, Tells};
-ghost use Rattle.restore.specs.Parts.{backPlan, groupPlan, headWords, endingWords, Journaled};
+ghost use Rattle.restore.specs.Parts.{backPlan, groupPlan, headWords, endingWords};
 
 // The questions put to restore: 0, or the number of the first no. It leaves the marks of all entries where it says 0.
 fn restore_check(
@@ -97,37 +101,37 @@ fn held_by(mask: u8, mark: u8) -> bool
 
 // Has one of 64 marks a domain of the mask? All of them are asked, so that the compiler can ask many at once.
 fn any_held(marks: &[u8], mask: u8) -> bool
-    requires { ⌜ length (now marks) ≡ 64 ⌝ }
-    ensures { λ r. ⌜ (r ≡ false → (j : ℕ) → j < 64 → heldBy mask (getD (now (marks .entry)) j 0) ≡ false) ⌝ }
+    requires { ⌜ length (now marks) ≡ groupSize ⌝ }
+    ensures { λ r. ⌜ (r ≡ false → (j : ℕ) → j < groupSize → heldBy mask (getD (now (marks .entry)) j 0) ≡ false) ⌝ }
 {
-    let mut any = false;
+    let mut any: u8 = 0;
     let mut j: usize = 0;
-    while j < 64 {
-        any = any | held_by(mask, marks[j]);
+    while j < GROUP_SIZE {
+        any = any | (marks[j] & mask);
         j += 1;
     }
-    any
+    any != 0
 }
 
 // May a cell of this group be one to be put back? The cells of a group that is not full, which only the last can be, are not asked for all
 // at once.
 fn group_held(seen: &[u8], from: usize, n: usize, mask: u8) -> bool
-    requires { ⌜ (n ≤ 64) × (from + n ≤ length (now seen)) ⌝ }
+    requires { ⌜ (n ≤ groupSize) × (from + n ≤ length (now seen)) ⌝ }
     ensures { λ r. ⌜ (r ≡ false → (j : ℕ) → j < n → heldBy mask (getD (now (seen .entry)) (from + j) 0) ≡ false) ⌝ }
 {
-    if n < 64 {
+    if n < GROUP_SIZE {
         return true;
     }
-    any_held(&seen[from..from + 64], mask)
+    any_held(&seen[from..from + GROUP_SIZE], mask)
 }
 
 // Puts 64 bytes back into a cell of memory, at most budget of them. It is lent the bytes that the holder holds, and no table.
 fn put_cell(bytes: &[u8], memory: &mut [u8], cell: usize, budget: usize)
-    requires { ⌜ (length (now bytes) ≡ 64) × (cellAt cell + 64 ≤ length (now memory)) ⌝ }
+    requires { ⌜ (length (now bytes) ≡ cellSize) × (cellAt cell + cellSize ≤ length (now memory)) ⌝ }
     ensures { λ _. ⌜ now (memory .exit) ≡ stores (take budget (cellPlan (now (bytes .entry)) 0 cell)) (now (memory .entry)) ⌝ }
 {
     let at = cell_at(cell);
-    copy_bytes(bytes, &mut memory[at..at + 64], budget);
+    copy_bytes(bytes, &mut memory[at..at + CELL_SIZE], budget);
 }
 
 // Puts a cell back where it is held, at most budget bytes of it, and gives how many bytes that is uncut.
@@ -141,10 +145,10 @@ fn put_held(
     held: bool,
     budget: usize,
 ) -> usize
-    requires { ⌜ (slots ≤ maxSlots) × (pairsAt slots ≤ length (now table)) × (1 ≤ depth) × (cell < maxCells) × (cellAt cell + 64 ≤ length (now memory)) ⌝ }
+    requires { ⌜ (slots ≤ maxSlots) × (pairsAt slots ≤ length (now table)) × (1 ≤ depth) × (cell < maxCells) × (cellAt cell + cellSize ≤ length (now memory)) ⌝ }
     requires { ⌜ (ruleOk (cellsOf (length (now memory))) slots (bodiesOf (length (now bodies))) (now table) ≡ true) × (held ≡ heldFrom slots (now table) depth cell) ⌝ }
     ensures made { λ r. ⌜ r ≡ length (backPlan slots (now (table .entry)) depth (now (bodies .entry)) cell) ⌝ }
-    ensures few { λ r. ⌜ r ≤ 64 ⌝ }
+    ensures few { λ r. ⌜ r ≤ cellSize ⌝ }
     ensures bytes { λ _. ⌜ now (memory .exit) ≡ stores (take budget (backPlan slots (now (table .entry)) depth (now (bodies .entry)) cell)) (now (memory .entry)) ⌝ }
 {
     if !held {
@@ -154,8 +158,8 @@ fn put_held(
         Held::Nowhere => 0,
         Held::InBody(_, body) => {
             let at = cell_at(wide(body));
-            put_cell(&bodies[at..at + 64], memory, cell, budget);
-            64
+            put_cell(&bodies[at..at + CELL_SIZE], memory, cell, budget);
+            CELL_SIZE
         }
     }
 }
@@ -173,10 +177,10 @@ fn put_group(
     n: usize,
     budget: usize,
 ) -> usize
-    requires { ⌜ (slots ≤ maxSlots) × (pairsAt slots ≤ length (now table)) × (1 ≤ depth) × (cellsOf (length (now memory)) ≤ maxCells) × (n ≤ 64) × (from + n ≤ length (now seen)) × (from + n ≤ cellsOf (length (now memory))) ⌝ }
+    requires { ⌜ (slots ≤ maxSlots) × (pairsAt slots ≤ length (now table)) × (1 ≤ depth) × (cellsOf (length (now memory)) ≤ maxCells) × (n ≤ groupSize) × (from + n ≤ length (now seen)) × (from + n ≤ cellsOf (length (now memory))) ⌝ }
     requires { ⌜ (ruleOk (cellsOf (length (now memory))) slots (bodiesOf (length (now bodies))) (now table) ≡ true) × Tells slots (now table) depth mask (now seen) ⌝ }
     ensures made { λ r. ⌜ r ≡ length (groupPlan slots (now (table .entry)) depth (now (bodies .entry)) from n) ⌝ }
-    ensures few { λ r. ⌜ r ≤ 64 * n ⌝ }
+    ensures few { λ r. ⌜ r ≤ cellSize * n ⌝ }
     ensures bytes { λ _. ⌜ now (memory .exit) ≡ stores (take budget (groupPlan slots (now (table .entry)) depth (now (bodies .entry)) from n)) (now (memory .entry)) ⌝ }
 {
     if !group_held(seen, from, n, mask) {
@@ -193,7 +197,7 @@ fn put_group(
             slots,
             depth,
             cell,
-            held_by(mask, seen[cell]),
+            held_by(mask, mark_of(seen, cell)),
             remaining(budget, bytes),
         );
         j += 1;
@@ -215,14 +219,14 @@ fn put_back(
     requires { ⌜ (slots ≤ maxSlots) × (pairsAt slots ≤ length (now table)) × (1 ≤ depth) × (cellsOf (length (now memory)) ≤ maxCells) × (cellsOf (length (now memory)) ≤ length (now seen)) ⌝ }
     requires { ⌜ (ruleOk (cellsOf (length (now memory))) slots (bodiesOf (length (now bodies))) (now table) ≡ true) × Tells slots (now table) depth mask (now seen) ⌝ }
     ensures made { λ r. ⌜ r ≡ length (gather (cellsOf (length (now (memory .entry)))) (backPlan slots (now (table .entry)) depth (now (bodies .entry)))) ⌝ }
-    ensures few { λ r. ⌜ r ≤ 64 * maxCells ⌝ }
+    ensures few { λ r. ⌜ r ≤ cellSize * maxCells ⌝ }
     ensures bytes { λ _. ⌜ now (memory .exit) ≡ stores (take budget (gather (cellsOf (length (now (memory .entry)))) (backPlan slots (now (table .entry)) depth (now (bodies .entry))))) (now (memory .entry)) ⌝ }
 {
     let cells = cells_of(memory.len());
     let mut bytes: usize = 0;
     let mut cell: usize = 0;
     while cell < cells {
-        let n = least(64, cells - cell);
+        let n = least(GROUP_SIZE, cells - cell);
         bytes += put_group(
             memory,
             bodies,
@@ -252,7 +256,7 @@ fn restore_memory(
     requires { ⌜ (slotsOf (length (now table)) ≤ maxSlots) × (pairsAt (slotsOf (length (now table))) ≤ length (now table)) × (1 ≤ depth) × (depth ≤ maxLive) × (cellsOf (length (now memory)) ≤ maxCells) × (cellsOf (length (now memory)) ≤ length (now seen)) ⌝ }
     requires { ⌜ (ruleOk (cellsOf (length (now memory))) (slotsOf (length (now table))) (bodiesOf (length (now bodies))) (now table) ≡ true) × Marked (slotsOf (length (now table))) (now table) (slotsOf (length (now table))) (now seen) ⌝ }
     ensures made { λ r. ⌜ r ≡ length (restoreBytes (cellsOf (length (now (memory .entry)))) depth (now (bodies .entry)) (now (table .entry))) ⌝ }
-    ensures few { λ r. ⌜ r ≤ 64 * maxCells ⌝ }
+    ensures few { λ r. ⌜ r ≤ cellSize * maxCells ⌝ }
     ensures bytes { λ _. ⌜ now (memory .exit) ≡ stores (take budget (restoreBytes (cellsOf (length (now (memory .entry)))) depth (now (bodies .entry)) (now (table .entry)))) (now (memory .entry)) ⌝ }
 {
     let slots = slots_of(table.len());
@@ -285,7 +289,7 @@ fn any_deeper(table: &[u32], slots: usize, depth: u32, from: usize, end: usize) 
     let mut any = false;
     let mut i = from;
     while i < end {
-        any = any | (depth < depth_of(first_word(table, slots, i)));
+        any = any | is_inside(depth, depth_of(first_word(table, slots, i)));
         i += 1;
     }
     any
@@ -296,7 +300,7 @@ fn stage_turn(table: &[u32], slots: usize, depth: u32, words: &mut [u32], i: usi
     requires { ⌜ (i < slots) × (slots ≤ maxSlots) × (length (now table) ≡ tableWords slots) × (2 * slots ≤ length (now words)) ⌝ }
     ensures { λ r. ⌜ Turned (restoreChange slots (now (table .entry)) depth i) i (now (words .entry)) (now (words .exit)) r ⌝ }
 {
-    if depth_of(first_word(table, slots, i)) <= depth {
+    if !is_inside(depth, depth_of(first_word(table, slots, i))) {
         return false;
     }
     stage_words(words, i, 0, 0);
@@ -312,18 +316,22 @@ fn stage_group(
     changed: &mut [u64],
     k: usize,
 )
-    requires { ⌜ (64 * k < slots) × (slots ≤ maxSlots) × (length (now table) ≡ tableWords slots) × (2 * slots ≤ length (now words)) × (slots ≤ 64 * length (now changed)) ⌝ }
-    requires { ⌜ Stages (64 * k) (restoreChange slots (now table) depth) (now words) (now changed) ⌝ }
-    ensures { λ _. ⌜ Stages (min slots (64 * k + 64)) (restoreChange slots (now (table .entry)) depth) (now (words .exit)) (now (changed .exit)) ⌝ }
+    requires { ⌜ (groupAt k < slots) × (slots ≤ maxSlots) × (length (now table) ≡ tableWords slots) × (2 * slots ≤ length (now words)) × (slots ≤ groupAt (length (now changed))) ⌝ }
+    requires { ⌜ Stages (groupAt k) (restoreChange slots (now table) depth) (now words) (now changed) ⌝ }
+    ensures { λ _. ⌜ Stages (min slots (groupAt k + groupSize)) (restoreChange slots (now (table .entry)) depth) (now (words .exit)) (now (changed .exit)) ⌝ }
 {
-    let end = least(slots, 64 * k + 64);
-    if !any_deeper(table, slots, depth, 64 * k, end) {
+    let end = least(slots, GROUP_SIZE * k + GROUP_SIZE);
+    if !any_deeper(table, slots, depth, GROUP_SIZE * k, end) {
         return;
     }
     let mut bits: u64 = 0;
-    let mut i = 64 * k;
+    let mut i = GROUP_SIZE * k;
     while i < end {
-        bits = with_bit(bits, i % 64, stage_turn(table, slots, depth, words, i));
+        bits = with_bit(
+            bits,
+            i % GROUP_SIZE,
+            stage_turn(table, slots, depth, words, i),
+        );
         i += 1;
     }
     changed[k] = bits;
@@ -331,12 +339,12 @@ fn stage_group(
 
 // All entries that are freed.
 fn stage_freed(table: &[u32], slots: usize, depth: u32, words: &mut [u32], changed: &mut [u64])
-    requires { ⌜ (slots ≤ maxSlots) × (length (now table) ≡ tableWords slots) × (2 * slots ≤ length (now words)) × (slots ≤ 64 * length (now changed)) ⌝ }
+    requires { ⌜ (slots ≤ maxSlots) × (length (now table) ≡ tableWords slots) × (2 * slots ≤ length (now words)) × (slots ≤ groupAt (length (now changed))) ⌝ }
     requires { ⌜ Stages 0 (restoreChange slots (now table) depth) (now words) (now changed) ⌝ }
     ensures { λ _. ⌜ Stages slots (restoreChange slots (now (table .entry)) depth) (now (words .exit)) (now (changed .exit)) ⌝ }
 {
     let mut k: usize = 0;
-    while 64 * k < slots {
+    while GROUP_SIZE * k < slots {
         stage_group(table, slots, depth, words, changed, k);
         k += 1;
     }
@@ -352,7 +360,7 @@ fn end_domains(
     changed: &mut [u64],
     budget: usize,
 ) -> usize
-    requires { ⌜ (slots ≤ maxSlots) × (length (now table) ≡ tableWords slots) × (depth ≤ live) × (live ≤ maxLive) × (2 * slots ≤ length (now words)) × (slots ≤ 64 * length (now changed)) ⌝ }
+    requires { ⌜ (slots ≤ maxSlots) × (length (now table) ≡ tableWords slots) × (depth ≤ live) × (live ≤ maxLive) × (2 * slots ≤ length (now words)) × (slots ≤ groupAt (length (now changed))) ⌝ }
     requires { ⌜ Stages 0 (restoreChange slots (now table) depth) (now words) (now changed) ⌝ }
     ensures { λ r. ⌜ Journaled slots (endingWords slots (now (table .entry)) depth live) budget (now (table .entry)) r (now (table .exit)) ⌝ }
 {

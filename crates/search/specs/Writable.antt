@@ -4,9 +4,9 @@ use mathlib.Core.Bool.{Bool, cond, _&&_}
 use mathlib.Core.List.{List}
 use mathlib.Core.Path.{_≡_}
 use lib.Dec.{eqb}
-use lib.ListN.{getD, set}
+use lib.ListN.{set}
 use Rattle.table.specs.Entry.{depthOf, cellOf, writableOf, writesIn}
-use Rattle.table.specs.Marks.{has, markAt}
+use Rattle.table.specs.Marks.{markOf, has, markAt}
 
 -- a mark with one depth less
 abbrev pub withoutDepth : ℕ → ℕ → ℕ
@@ -22,5 +22,5 @@ keepCell d w seen = set seen (cellOf w) (withoutDepth (takenBy d w) (markAt seen
 
 -- the marks `after` tell of depth d which cells it holds read-write, and of every other depth what the marks `before` tell
 pub record TellWritable (e : ℕ) (t : List ℕ) (d : ℕ) (before after : List ℕ) : Type 0 where
-  pub others : (k c : ℕ) → (k ≡ d → ⊥) → has k (getD after c 0) ≡ has k (getD before c 0)
-  pub writes : (c : ℕ) → has d (getD after c 0) ≡ writesIn e t d c
+  pub others : (k c : ℕ) → (k ≡ d → ⊥) → has k (markOf after c) ≡ has k (markOf before c)
+  pub writes : (c : ℕ) → has d (markOf after c) ≡ writesIn e t d c

@@ -1,5 +1,6 @@
 // What a table means: which entry is found for a depth and a cell, the first holder from a domain inwards, the copy behind a via parent
 // chain; and which entry slots and bodies are free.
+use table::domains::parent_of;
 use table::fields::cell_of;
 use table::fields::depth_of;
 use table::fields::entry_word;
@@ -163,7 +164,7 @@ pub fn find_value(table: &[u32], slots: usize, from: u32, cell: u32) -> Held
                 return Held::InBody(depth, second_word(table, slots, entry));
             }
             // a via parent entry has no body of its own: the copy further out has
-            let source = find_source(table, slots, depth - 1, cell);
+            let source = find_source(table, slots, parent_of(depth), cell);
             Held::InBody(depth, second_word(table, slots, source))
         }
     }

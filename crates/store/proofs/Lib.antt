@@ -19,3 +19,4 @@ pub mod InUse
 pub mod Reopened
 pub mod Outermost
 pub mod Checked
+pub mod Named

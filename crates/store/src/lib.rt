@@ -7,6 +7,7 @@ use changes::Head;
 use changes::no_head;
 use changes::with_word;
 use changes::write_head_words;
+use search::find_domain;
 use table::FEW_CELLS;
 use table::few_marks;
 use table::header_ok;
@@ -37,13 +38,14 @@ ghost use Prim.Native.Nat.{_+_, _-_, _≤_, _<_, min};
 ghost use lib.ListN.{length, take, getD};
 ghost use Rattle.words.specs.Layout.{pairsAt, cellsOf, slotsOf, tableWords, maxSlots, maxLive, maxCells, maxBodies, handleAt};
 ghost use Rattle.words.specs.Stores.{stores, tab};
-ghost use Rattle.table.specs.Entry.{handle};
+ghost use Rattle.table.specs.Entry.{live, handle};
 ghost use Rattle.table.specs.Marks.{Blank, AllMarked};
 ghost use Rattle.words.specs.Journal.{journal, pending};
-ghost use Rattle.changes.specs.Staged.{HeadOk, headStores};
+ghost use Rattle.changes.specs.Staged.{HeadOk, headStores, Journaled};
 ghost use Rattle.model.specs.Answer.{ended};
+ghost use Rattle.model.specs.Holdings.{rangeOk};
 ghost use Rattle.store.specs.Outcome.{buffers, report, leaves, outcome};
-ghost use Rattle.store.specs.Checks.{shapeCheck, tableCheck, openCheck, idleCheck, storeCheck, createCheck};
+ghost use Rattle.store.specs.Checks.{shapeCheck, tableCheck, openCheck, idleCheck, storeCheck, askInnermostIn, createCheck};
 ghost use Rattle.store.specs.Calls.{freshWord, makePlan, makeCall, openCall, domainWords, createWords, createCall};
 ghost use Rattle.store.specs.Means.{seen, makeMeans, openMeans, createMeans, listing, listMeans};
 
@@ -192,6 +194,31 @@ pub fn plain_check(memory: usize, bodies: usize, table: &[u32]) -> u32
     ask_plain(memory, bodies, table, false)
 }
 
+// Questions 5 and 6, in a table that passed those before: 0, or the number of the first no.
+pub fn innermost_check(table: &[u32], handle: u32) -> u32
+    requires { ⌜ (handleAt maxLive ≤ length (now table)) × (live (now table) ≤ maxLive) ⌝ }
+    ensures { λ r. ⌜ r ≡ askInnermostIn (now (table .entry)) handle 0 ⌝ }
+{
+    let depth = find_domain(table, handle);
+    if depth == 0 {
+        return 5;
+    }
+    if depth != table[LIVE_AT] {
+        return 6;
+    }
+    0
+}
+
+// Question 8: at least one cell, and all of them in memory. No sum is made, since it could wrap.
+pub fn range_ok(cells: usize, first: usize, count: usize) -> bool
+    ensures { λ r. ⌜ r ≡ rangeOk cells first count ⌝ }
+{
+    if cells < count {
+        return false;
+    }
+    (1 <= count) & (first <= cells - count)
+}
+
 // The questions put to create.
 fn create_check(memory: usize, bodies: usize, table: &[u32]) -> u32
     ensures { λ r. ⌜ r ≡ createCheck memory bodies (now (table .entry)) ⌝ }
@@ -326,8 +353,7 @@ fn create_head(live: u32, handle: u32) -> Head
 fn create_words(table: &mut [u32], budget: usize) -> usize
     requires long { ⌜ (length (now table) ≡ tableWords (slotsOf (length (now table)))) × (slotsOf (length (now table)) ≤ maxSlots) ⌝ }
     requires few { ⌜ (getD (now table) 4 0 < maxLive) × (getD (now table) 5 0 < 4294967295) ⌝ }
-    ensures made { λ r. ⌜ r ≡ length (journal (pairsAt (slotsOf (length (now (table .entry))))) (createWords (now (table .entry)))) ⌝ }
-    ensures words { λ _. ⌜ now (table .exit) ≡ stores (take budget (journal (pairsAt (slotsOf (length (now (table .entry))))) (createWords (now (table .entry))))) (now (table .entry)) ⌝ }
+    ensures { λ r. ⌜ Journaled (slotsOf (length (now (table .entry)))) (createWords (now (table .entry))) budget (now (table .entry)) r (now (table .exit)) ⌝ }
 {
     let head = create_head(table[LIVE_AT], table[NEXT_AT]);
     let slots = slots_of(table.len());

@@ -29,6 +29,10 @@ zeros n = replicate n 0
 
 -- ---- the cells: the mark of a cell is the set of the depths passed so far that have it, depth d as bit d - 1
 
+-- the mark of cell c
+abbrev pub markOf : List ℕ → ℕ → ℕ
+markOf seen c = getD seen c 0
+
 -- does a mark have depth d? It has no depth 0, which free entries have
 abbrev pub has : ℕ → ℕ → Bool
 has d mark = eqb (2 * mark / 2 ^ d % 2) 1
@@ -42,7 +46,7 @@ cellIn e t i = cellOf (word1 e t i)
 
 -- the mark of the cell of an entry with first word w
 abbrev pub markAt : List ℕ → ℕ → ℕ
-markAt seen w = getD seen (cellOf w) 0
+markAt seen w = markOf seen (cellOf w)
 
 -- the marks after that entry
 abbrev pub markCell : ℕ → List ℕ → List ℕ
@@ -54,8 +58,8 @@ parentTold w seen = eqb (viaOf w) 0 || has (parent (depthOf w)) (markAt seen w)
 
 -- n entries are marked
 pub record Marked (e : ℕ) (t : List ℕ) (n : ℕ) (seen : List ℕ) : Type 0 where
-  pub clear : (d k : ℕ) → 1 ≤ d → has d (getD seen k 0) ≡ false → (j : ℕ) → j < n → depthOf (word1 e t j) ≡ d → cellIn e t j ≡ k → ⊥
-  pub found : (d k : ℕ) → has d (getD seen k 0) ≡ true → (j : ℕ) × (j < n) × (depthOf (word1 e t j) ≡ d) × (cellIn e t j ≡ k)
+  pub clear : (d k : ℕ) → 1 ≤ d → has d (markOf seen k) ≡ false → (j : ℕ) → j < n → depthOf (word1 e t j) ≡ d → cellIn e t j ≡ k → ⊥
+  pub found : (d k : ℕ) → has d (markOf seen k) ≡ true → (j : ℕ) × (j < n) × (depthOf (word1 e t j) ≡ d) × (cellIn e t j ≡ k)
 
 -- no depth has a cell twice among the first n entries
 abbrev pub CellsOnce : ℕ → List ℕ → ℕ → Type 0

@@ -3,6 +3,7 @@
 // Question 4 passes over the entries once, with one mark for each cell, a bit for each depth that holds it, and one for each body, so that it
 // does not compare each entry with each; it passes over them again only to ask via parent entries for their parent. The caller lends the
 // room for marks and has the marks afterwards. While pairs are pending it looks at a copy in which they are in place.
+pub mod domains;
 pub mod fields;
 
 use fields::below_kind;
@@ -49,7 +50,7 @@ ghost use Rattle.table.specs.Changes.{put, entryStores};
 ghost use Rattle.table.specs.Entry.{live, word1, word2, viaOf, depthOf, cellOf, parent};
 ghost use Rattle.table.specs.Checks.{lengthsOk, headerOk};
 ghost use Rattle.table.specs.Rule.{handleOk, headOk, kindOk, parentOk, pairsOk, ruleOk, tableOk};
-ghost use Rattle.table.specs.Marks.{has, withDepth, markAt, markCell, Marked, ViasMarkable, ViaInner, parentTold, placed, markBody, bodyFits, zeros, Blank, FreeRun, NoVias, Passed, AllMarked};
+ghost use Rattle.table.specs.Marks.{markOf, has, withDepth, markAt, markCell, Marked, ViasMarkable, ViaInner, parentTold, placed, markBody, bodyFits, zeros, Blank, FreeRun, NoVias, Passed, AllMarked};
 
 // So many cells and entry slots count as few: what a call needs for them is cleared in no time.
 pub const FEW_CELLS: usize = 1024;
@@ -161,6 +162,14 @@ fn cells_word(cells: usize) -> u32
 }
 
 // ---- entries beside each other: the cells
+
+// The mark of a cell: which domains hold it.
+pub fn mark_of(seen: &[u8], cell: usize) -> u8
+    requires { ⌜ cell < length (now seen) ⌝ }
+    ensures { λ r. ⌜ r ≡ markOf (now (seen .entry)) cell ⌝ }
+{
+    seen[cell]
+}
 
 // Does a mark have this depth? The shift takes no branch, where scattered depths would be guessed wrong.
 pub fn has_depth(mark: u8, depth: u32) -> bool

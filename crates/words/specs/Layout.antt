@@ -1,19 +1,23 @@
 -- Document 01, "Three lent buffers": where everything stands. Other files use these names; the numbers stand here alone.
-use Prim.Native.Nat.{ℕ, _+_, _-_, _*_, _/_}
+use Prim.Native.Nat.{ℕ, _+_, _-_, _*_, _/_, _%_}
 
--- ---- cells and bodies: 64 bytes each
+-- ---- cells and bodies
+
+-- so many bytes each
+abbrev pub cellSize : ℕ
+cellSize = 64
 
 -- the first byte of cell c of memory, or of body c of the bodies
 abbrev pub cellAt : ℕ → ℕ
-cellAt c = 64 * c
+cellAt c = cellSize * c
 
 -- how many cells a buffer of so many bytes has
 abbrev pub cellsOf : ℕ → ℕ
-cellsOf bytes = bytes / 64
+cellsOf bytes = bytes / cellSize
 
 -- and how many bodies
 abbrev pub bodiesOf : ℕ → ℕ
-bodiesOf bytes = bytes / 64
+bodiesOf bytes = bytes / cellSize
 
 abbrev pub maxCells : ℕ
 maxCells = 65_536
@@ -87,3 +91,19 @@ pairsAt e = 16 + 2 * e
 -- how many pairs there is room for
 abbrev pub maxPairs : ℕ → ℕ
 maxPairs e = 2 * e + 10
+
+-- ---- groups: a run of 64-bit numbers has a bit for each cell or slot, so that these stand in groups of 64; none of this is document 01's
+
+abbrev pub groupSize : ℕ
+groupSize = 64
+
+-- the first of group k
+abbrev pub groupAt : ℕ → ℕ
+groupAt k = groupSize * k
+
+-- the group of the i-th, and its place in it
+abbrev pub groupOf : ℕ → ℕ
+groupOf i = i / groupSize
+
+abbrev pub inGroup : ℕ → ℕ
+inGroup i = i % groupSize

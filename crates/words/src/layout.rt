@@ -3,6 +3,12 @@ ghost use mathlib.Core.Path.{_≡_};
 ghost use Prim.Native.Nat.{_≤_, _<_};
 ghost use Rattle.words.specs.Layout.{cellAt, cellsOf, bodiesOf, slotsOf, tableWords, handleAt, firstAt, secondAt, pairsAt, maxPairs, maxLive, maxSlots};
 
+// A cell has so many bytes, and so has a body.
+pub const CELL_SIZE: usize = 64;
+
+// A number of 64 bits has one for each of so many cells or slots.
+pub const GROUP_SIZE: usize = 64;
+
 pub const MAX_CELLS: usize = 65536;
 
 pub const MAX_BODIES: usize = 4096;
@@ -36,21 +42,21 @@ pub fn cell_at(c: usize) -> usize
     requires { ⌜ cellAt c < 18446744073709551616 ⌝ }
     ensures { λ r. ⌜ r ≡ cellAt c ⌝ }
 {
-    64 * c
+    CELL_SIZE * c
 }
 
 // How many cells a buffer of so many bytes has.
 pub fn cells_of(bytes: usize) -> usize
     ensures { λ r. ⌜ r ≡ cellsOf bytes ⌝ }
 {
-    bytes / 64
+    bytes / CELL_SIZE
 }
 
 // And how many bodies.
 pub fn bodies_of(bytes: usize) -> usize
     ensures { λ r. ⌜ r ≡ bodiesOf bytes ⌝ }
 {
-    bytes / 64
+    bytes / CELL_SIZE
 }
 
 // The length in words of a table with so many slots.

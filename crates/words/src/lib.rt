@@ -7,13 +7,14 @@ ghost use mathlib.Core.Path.{_≡_};
 ghost use Prim.Native.Nat.{ℕ, _+_, _-_, _*_, _≤_, _<_, min};
 ghost use mathlib.Core.List.{List};
 ghost use lib.ListN.{length, take, getD};
-ghost use Rattle.words.specs.Layout.{cellAt, pendingAt};
+ghost use Rattle.words.specs.Layout.{cellAt, pendingAt, cellSize};
 ghost use Rattle.words.specs.Stores.{stores};
 ghost use Rattle.words.specs.Journal.{pairPlan, applyPlan, publishPlan, finishPlan, journalSteps};
 ghost use Rattle.words.specs.Cells.{cellBytes, sameCell, copyPlan, cellPlan, Copied};
 
 pub mod layout;
 
+use layout::CELL_SIZE;
 use layout::PENDING_AT;
 
 // The lesser of two numbers.
@@ -39,12 +40,12 @@ pub fn wide(x: u32) -> usize
 
 // Do two parts of 64 bytes agree? All of them are compared, so that the compiler can compare many at once.
 pub fn same_bytes(a: &[u8], b: &[u8]) -> bool
-    requires { ⌜ (length (now a) ≡ 64) × (length (now b) ≡ 64) ⌝ }
+    requires { ⌜ (length (now a) ≡ cellSize) × (length (now b) ≡ cellSize) ⌝ }
     ensures { λ r. ⌜ r ≡ sameCell (now (a .entry)) (now (b .entry)) ⌝ }
 {
     let mut same = true;
     let mut k: usize = 0;
-    while k < 64 {
+    while k < CELL_SIZE {
         same = same & (a[k] == b[k]);
         k += 1;
     }
@@ -53,17 +54,17 @@ pub fn same_bytes(a: &[u8], b: &[u8]) -> bool
 
 // Does cell `cell` of one buffer hold what cell `other` of another holds?
 pub fn same_cell(buffer: &[u8], cell: usize, others: &[u8], other: usize) -> bool
-    requires { ⌜ (cellAt cell + 64 ≤ length (now buffer)) × (cellAt other + 64 ≤ length (now others)) ⌝ }
+    requires { ⌜ (cellAt cell + cellSize ≤ length (now buffer)) × (cellAt other + cellSize ≤ length (now others)) ⌝ }
     ensures { λ r. ⌜ r ≡ sameCell (cellBytes (now (buffer .entry)) cell) (cellBytes (now (others .entry)) other) ⌝ }
 {
-    let a = 64 * cell;
-    let b = 64 * other;
-    same_bytes(&buffer[a..a + 64], &others[b..b + 64])
+    let a = CELL_SIZE * cell;
+    let b = CELL_SIZE * other;
+    same_bytes(&buffer[a..a + CELL_SIZE], &others[b..b + CELL_SIZE])
 }
 
 // A quarter of the 64 bytes of src, from `at` on.
 fn quarter_of(src: &[u8], at: usize) -> [u8; 16]
-    requires { ⌜ (at + 16 ≤ 64) × (length (now src) ≡ 64) ⌝ }
+    requires { ⌜ (at + 16 ≤ cellSize) × (length (now src) ≡ cellSize) ⌝ }
     ensures { λ r. ⌜ ((j : ℕ) → j < 16 → getD r j 0 ≡ getD (now (src .entry)) (at + j) 0) ⌝ }
 {
     let mut quarter = [0u8; 16];
@@ -78,7 +79,7 @@ fn quarter_of(src: &[u8], at: usize) -> [u8; 16]
 // Stores a quarter in dst from `at` on: where dst has the bytes of some s up to `at`, and the quarter is the next of s, it then has them up to
 // `at + 16`.
 fn put_quarter(quarter: &[u8; 16], dst: &mut [u8], at: usize)
-    requires { ⌜ (at + 16 ≤ 64) × (length (now dst) ≡ 64) ⌝ }
+    requires { ⌜ (at + 16 ≤ cellSize) × (length (now dst) ≡ cellSize) ⌝ }
     ensures { λ _. ⌜ ((s d : List ℕ) → ((j : ℕ) → j < 16 → getD (now (quarter .entry)) j 0 ≡ getD s (at + j) 0) → Copied s d at (now (dst .entry)) → Copied s d (at + 16) (now (dst .exit))) ⌝ }
 {
     let mut j: usize = 0;
@@ -91,7 +92,7 @@ fn put_quarter(quarter: &[u8; 16], dst: &mut [u8], at: usize)
 // Copies a quarter of the 64 bytes of src over dst. It is read before its first byte is stored, so that the compiler moves it at once: it
 // cannot where a store might change a byte that is yet to be read.
 fn copy_quarter(src: &[u8], dst: &mut [u8], at: usize)
-    requires { ⌜ (at + 16 ≤ 64) × (length (now src) ≡ 64) × (length (now dst) ≡ 64) ⌝ }
+    requires { ⌜ (at + 16 ≤ cellSize) × (length (now src) ≡ cellSize) × (length (now dst) ≡ cellSize) ⌝ }
     ensures { λ _. ⌜ ((d : List ℕ) → Copied (now (src .entry)) d at (now (dst .entry)) → Copied (now (src .entry)) d (at + 16) (now (dst .exit))) ⌝ }
 {
     let quarter = quarter_of(src, at);
@@ -100,8 +101,8 @@ fn copy_quarter(src: &[u8], dst: &mut [u8], at: usize)
 
 // Copies the 64 bytes of src over those of dst, quarter by quarter, so that the compiler keeps them in rising order.
 fn copy_whole(src: &[u8], dst: &mut [u8])
-    requires { ⌜ (length (now src) ≡ 64) × (length (now dst) ≡ 64) ⌝ }
-    ensures { λ _. ⌜ Copied (now (src .entry)) (now (dst .entry)) 64 (now (dst .exit)) ⌝ }
+    requires { ⌜ (length (now src) ≡ cellSize) × (length (now dst) ≡ cellSize) ⌝ }
+    ensures { λ _. ⌜ Copied (now (src .entry)) (now (dst .entry)) cellSize (now (dst .exit)) ⌝ }
 {
     copy_quarter(src, dst, 0);
     copy_quarter(src, dst, 16);
@@ -111,7 +112,7 @@ fn copy_whole(src: &[u8], dst: &mut [u8])
 
 // Copies the first n of the 64 bytes of src over those of dst, byte by byte.
 fn copy_first(src: &[u8], dst: &mut [u8], n: usize)
-    requires { ⌜ (n ≤ 64) × (length (now src) ≡ 64) × (length (now dst) ≡ 64) ⌝ }
+    requires { ⌜ (n ≤ cellSize) × (length (now src) ≡ cellSize) × (length (now dst) ≡ cellSize) ⌝ }
     ensures { λ _. ⌜ Copied (now (src .entry)) (now (dst .entry)) n (now (dst .exit)) ⌝ }
 {
     let mut j = 0;
@@ -123,10 +124,10 @@ fn copy_first(src: &[u8], dst: &mut [u8], n: usize)
 
 // Copies the 64 bytes of src over those of dst, at most budget of them.
 pub fn copy_bytes(src: &[u8], dst: &mut [u8], budget: usize)
-    requires { ⌜ (length (now src) ≡ 64) × (length (now dst) ≡ 64) ⌝ }
+    requires { ⌜ (length (now src) ≡ cellSize) × (length (now dst) ≡ cellSize) ⌝ }
     ensures { λ _. ⌜ now (dst .exit) ≡ stores (take budget (copyPlan (now (src .entry)))) (now (dst .entry)) ⌝ }
 {
-    if 64 <= budget {
+    if CELL_SIZE <= budget {
         copy_whole(src, dst);
         return;
     }
@@ -135,13 +136,13 @@ pub fn copy_bytes(src: &[u8], dst: &mut [u8], budget: usize)
 
 // Copies cell `from` of src over cell `to` of dst, at most budget bytes of it.
 pub fn copy_cell(src: &[u8], from: usize, dst: &mut [u8], to: usize, budget: usize)
-    requires { ⌜ (cellAt from + 64 ≤ length (now src)) × (cellAt to + 64 ≤ length (now dst)) ⌝ }
+    requires { ⌜ (cellAt from + cellSize ≤ length (now src)) × (cellAt to + cellSize ≤ length (now dst)) ⌝ }
     ensures { λ _. ⌜ now (dst .exit) ≡ stores (take budget (cellPlan (now (src .entry)) from to)) (now (dst .entry)) ⌝ }
 {
-    let a = 64 * from;
-    let b = a + 64;
-    let d = 64 * to;
-    let e = d + 64;
+    let a = CELL_SIZE * from;
+    let b = a + CELL_SIZE;
+    let d = CELL_SIZE * to;
+    let e = d + CELL_SIZE;
     copy_bytes(&src[a..b], &mut dst[d..e], budget);
 }
 

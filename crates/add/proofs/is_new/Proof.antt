@@ -5,14 +5,14 @@ use borrow.Author.Needs.{needs}
 use Rattle.add.proofs.is_new.Statement.{statement}
 use Rattle.add.proofs.is_new.Tie as tie
 
-shared-slice-read-has-depth : tie.Need-shared-slice-read-has-depth
-shared-slice-read-has-depth c = search needs
+mark-of-requires : tie.Need-mark-of-requires
+mark-of-requires c κs = search needs
 
 has-depth-requires : tie.Need-has-depth-requires
 has-depth-requires c κs = search needs
 
 returns : tie.Need-returns
-returns c = ap not (c .has-depth .ensures)
+returns c = rw (c .has-depth .ensures, c .before .mark-of .ensures)
 
 pub is-new-spec : {M : Type 1} → statement M
-is-new-spec = tie.close (tie.spec shared-slice-read-has-depth has-depth-requires returns)
+is-new-spec = tie.close (tie.spec mark-of-requires has-depth-requires returns)

@@ -27,18 +27,18 @@ add-cell c = search needs
 is-new-requires : tie.Need-is-new-requires Inv-loop μ-loop
 is-new-requires c κs = search needs
 
-sub-is-new : tie.Need-sub-is-new Inv-loop μ-loop
-sub-is-new c = search needs
+parent-of-requires : tie.Need-parent-of-requires Inv-loop μ-loop
+parent-of-requires c κs = search needs
 
 is-new-requires-2 : tie.Need-is-new-requires-2 Inv-loop μ-loop
 is-new-requires-2 c κs = search needs
 
 returns : tie.Need-returns Inv-loop μ-loop
 returns c =
-    let a = c .before .before .before .before .before .before .before .before .args in
-    let j = c .before .before .before .before .before .before .loop .j in
-    sym (all-not (a .range .count) (λ x. backed (a .held .now) (a .depth) (a .range .first + x)) j (c .before .before .before .before .if1 .taken)
-    (or-fails (lacks (a .held .now) (a .depth) (a .range .first + j)) (lacks (a .held .now) (parent (a .depth)) (a .range .first + j)) (rw (c .before .before .is-new .ensures, c .before .is-new2 .ensures) at (c .if2 .taken))))
+    let a = c .before .before .before .before .before .before .before .before .before .args in
+    let j = c .before .before .before .before .before .before .before .loop .j in
+    sym (all-not (a .range .count) (λ x. backed (a .held .now) (a .depth) (a .range .first + x)) j (c .before .before .before .before .before .if1 .taken)
+    (or-fails (lacks (a .held .now) (a .depth) (a .range .first + j)) (lacks (a .held .now) (parent (a .depth)) (a .range .first + j)) (rw (c .before .before .before .is-new .ensures, c .before .is-new2 .ensures, c .before .before .parent-of .ensures) at (c .if2 .taken))))
 
 add-j : tie.Need-add-j Inv-loop μ-loop
 add-j c = search needs
@@ -48,9 +48,9 @@ loop-less c = search needs
 
 loop-again : tie.Need-loop-again Inv-loop μ-loop
 loop-again c =
-    let a = c .before .before .before .before .before .before .before .before .args in
-    let j = c .before .before .before .before .before .before .loop .j in
-    (search needs, below-more _ _ (c .before .before .before .before .before .before .loop .inv .1) (or-holds (lacks (a .held .now) (a .depth) (a .range .first + j)) (lacks (a .held .now) (parent (a .depth)) (a .range .first + j)) (rw (c .before .before .is-new .ensures, c .before .is-new2 .ensures) at (c .if2 .left))))
+    let a = c .before .before .before .before .before .before .before .before .before .args in
+    let j = c .before .before .before .before .before .before .before .loop .j in
+    (search needs, below-more _ _ (c .before .before .before .before .before .before .before .loop .inv .1) (or-holds (lacks (a .held .now) (a .depth) (a .range .first + j)) (lacks (a .held .now) (parent (a .depth)) (a .range .first + j)) (rw (c .before .before .before .is-new .ensures, c .before .is-new2 .ensures, c .before .before .parent-of .ensures) at (c .if2 .left))))
 
 returns-2 : tie.Need-returns-2 Inv-loop μ-loop
 returns-2 c =
@@ -67,7 +67,7 @@ parent-holds-spec =
     loop-holds
     add-cell
     is-new-requires
-    sub-is-new
+    parent-of-requires
     is-new-requires-2
     returns
     add-j

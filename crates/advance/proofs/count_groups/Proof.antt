@@ -4,16 +4,17 @@ use mathlib.Core.Path.{_≡_, refl, ap, subst, _∙_}
 use native.Mathlib.Omega.{arith}
 use borrow.Author.Needs.{needs}
 use lib.ListN.{length, getD, length-set}
+use Rattle.words.specs.Layout.{groupAt}
 use Rattle.words.specs.Scan.{count}
 use Rattle.words.proofs.Nth.{count-mono}
 use Rattle.changes.specs.Staged.{isSet}
-use Rattle.advance.specs.Notes.{firstCell, Ends}
+use Rattle.advance.specs.Notes.{Ends}
 use Rattle.advance.proofs.Bits.{count-next, count-empty, ends-none, ends-more, ends-empty}
 use Rattle.advance.proofs.count_groups.Statement.{statement}
 use Rattle.advance.proofs.count_groups.Tie as tie
 
 abbrev Inv-loop : tie.InvT-loop
-Inv-loop groups ends₀ n₀ g₀ ends n g = (g ≤ length groups) × (length ends ≡ length ends₀) × (n ≡ count (firstCell g) (isSet groups)) × Ends groups g ends
+Inv-loop groups ends₀ n₀ g₀ ends n g = (g ≤ length groups) × (length ends ≡ length ends₀) × (n ≡ count (groupAt g) (isSet groups)) × Ends groups g ends
 
 abbrev μ-loop : tie.MeasureT-loop
 μ-loop groups ends₀ n₀ g₀ ends n g = length groups - g
@@ -43,7 +44,7 @@ add-n c =
     let s = c .before .before .before .loop in
     let small : getD (a .groups .now) (s .g) 0 < 2 ^ 64 = omega (arith, c .before .shared-slice-known2 .given (s .g)) in
     let next = count-next (a .groups .now) (s .g) small in
-    omega (arith, next, c .wide .ensures, s .inv .2, count-mono (isSet (a .groups .now)) (firstCell (s .g + 1)) (64 * length (a .groups .now)) (omega (arith, c .before .before .loop-test .taken)), c .before .before .before .before .before .before .before .pre .1)
+    omega (arith, next, c .wide .ensures, s .inv .2, count-mono (isSet (a .groups .now)) (groupAt (s .g + 1)) (64 * length (a .groups .now)) (omega (arith, c .before .before .loop-test .taken)), c .before .before .before .before .before .before .before .pre .1)
 
 cast-ends : tie.Need-cast-ends Inv-loop μ-loop
 cast-ends c =
@@ -51,7 +52,7 @@ cast-ends c =
     let s = c .before .before .before .loop in
     let small : getD (a .groups .now) (s .g) 0 < 2 ^ 64 = omega (arith, c .before .shared-slice-known2 .given (s .g)) in
     let next = count-next (a .groups .now) (s .g) small in
-    omega (arith, next, c .wide .ensures, s .inv .2, count-mono (isSet (a .groups .now)) (firstCell (s .g + 1)) (64 * length (a .groups .now)) (omega (arith, c .before .before .loop-test .taken)), c .before .before .before .before .before .before .before .pre .1)
+    omega (arith, next, c .wide .ensures, s .inv .2, count-mono (isSet (a .groups .now)) (groupAt (s .g + 1)) (64 * length (a .groups .now)) (omega (arith, c .before .before .loop-test .taken)), c .before .before .before .before .before .before .before .pre .1)
 
 mul-ends : tie.Need-mul-ends Inv-loop μ-loop
 mul-ends c = search needs
@@ -74,7 +75,7 @@ loop-again c =
     let s = c .before .before .before .before .loop in
     let p = c .past-empty2 .ensures in
     let small : getD (a .groups .now) (s .g) 0 < 2 ^ 64 = omega (arith, c .before .before .shared-slice-known2 .given (s .g)) in
-    let now : s .n + c .before .wide .result ≡ count (firstCell (s .g + 1)) (isSet (a .groups .now)) = omega (arith, count-next (a .groups .now) (s .g) small, c .before .wide .ensures, s .inv .2) in (
+    let now : s .n + c .before .wide .result ≡ count (groupAt (s .g + 1)) (isSet (a .groups .now)) = omega (arith, count-next (a .groups .now) (s .g) small, c .before .wide .ensures, s .inv .2) in (
       p .1,
       length-set (s .ends) _ _ ∙ s .inv .1,
       now ∙ count-empty (a .groups .now) (s .g + 1) _ (p .0) (p .2),
@@ -89,7 +90,7 @@ returns c =
     let a = c .before .before .before .before .before .args in
     let s = c .before .loop in
     let last : s .g ≡ length (a .groups .now) = omega (arith, s .inv .0, c .loop-test .left) in
-    (s .inv .2 ∙ ap (λ (x : ℕ). count (firstCell x) (isSet (a .groups .now))) last, subst (λ (x : ℕ). Ends (a .groups .now) x (s .ends)) last (s .inv .3))
+    (s .inv .2 ∙ ap (λ (x : ℕ). count (groupAt x) (isSet (a .groups .now))) last, subst (λ (x : ℕ). Ends (a .groups .now) x (s .ends)) last (s .inv .3))
 
 pub count-groups-spec : {M : Type 1} → statement M
 count-groups-spec =

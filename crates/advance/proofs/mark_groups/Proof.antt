@@ -33,11 +33,11 @@ first-word-requires c κs = search needs
 cell-of-requires : tie.Need-cell-of-requires Inv-loop μ-loop
 cell-of-requires c κs = search needs
 
-shared-slice-read-has-depth : tie.Need-shared-slice-read-has-depth Inv-loop μ-loop
-shared-slice-read-has-depth c = let h = c .before .before .before .before .before .before .before .before .pre .1 .0 (c .before .before .before .before .loop .i) (omega (arith, c .before .before .before .before .before .before .before .before .pre .0)) in omega (arith, h, c .before .cell-of .ensures, ap cellOf (c .before .before .first-word .ensures))
+mark-of-requires : tie.Need-mark-of-requires Inv-loop μ-loop
+mark-of-requires c κs = let h = c .before .before .before .before .before .before .before .pre .1 .0 (c .before .before .before .loop .i) (omega (arith, c .before .before .before .before .before .before .before .pre .0)) in omega (arith, h, c .cell-of .ensures, ap cellOf (c .before .first-word .ensures))
 
-sub-has-depth : tie.Need-sub-has-depth Inv-loop μ-loop
-sub-has-depth c = search needs
+parent-of-requires : tie.Need-parent-of-requires Inv-loop μ-loop
+parent-of-requires c κs = search needs
 
 has-depth-requires : tie.Need-has-depth-requires Inv-loop μ-loop
 has-depth-requires c κs = search needs
@@ -47,8 +47,8 @@ turns-word-requires c κs = search needs
 
 mark-turning-requires : tie.Need-mark-turning-requires Inv-loop μ-loop
 mark-turning-requires c κs =
-    let h = c .before .before .before .before .before .before .before .before .before .before .before .pre .1 .0 (c .before .before .before .before .before .before .before .loop .i) (omega (arith, c .before .before .before .before .before .before .before .before .before .before .before .pre .0)) in
-    omega (arith, h, ap cellOf (c .before .before .before .before .before .first-word .ensures), c .before .before .before .before .before .before .before .loop .inv .1, c .before .before .before .before .before .before .before .before .before .before .before .pre .1 .1)
+    let h = c .before .before .before .before .before .before .before .before .before .before .before .before .pre .1 .0 (c .before .before .before .before .before .before .before .before .loop .i) (omega (arith, c .before .before .before .before .before .before .before .before .before .before .before .before .pre .0)) in
+    omega (arith, h, ap cellOf (c .before .before .before .before .before .before .first-word .ensures), c .before .before .before .before .before .before .before .before .loop .inv .1, c .before .before .before .before .before .before .before .before .before .before .before .before .pre .1 .1)
 
 add-i : tie.Need-add-i Inv-loop μ-loop
 add-i c = search needs
@@ -58,18 +58,18 @@ loop-less c = search needs
 
 loop-again : tie.Need-loop-again Inv-loop μ-loop
 loop-again c =
-    let a = c .before .before .before .before .before .before .before .before .before .before .before .before .before .before .args in
-    let s = c .before .before .before .before .before .before .before .before .before .before .loop in
-    let h = c .before .before .before .before .before .before .before .before .before .before .before .before .before .before .pre .1 .0 (s .i) (omega (arith, c .before .before .before .before .before .before .before .before .before .before .before .before .before .before .pre .0, c .before .before .before .before .before .before .before .before .before .loop-test .taken)) in
-    let q = c .before .before .mark-turning .ensures ∙ ap (λ (w : ℕ). markTurning (a .live) w (s .groups)) (c .before .before .before .before .before .before .before .before .first-word .ensures) in
+    let a = c .before .before .before .before .before .before .before .before .before .before .before .before .before .before .before .args in
+    let s = c .before .before .before .before .before .before .before .before .before .before .before .loop in
+    let h = c .before .before .before .before .before .before .before .before .before .before .before .before .before .before .before .pre .1 .0 (s .i) (omega (arith, c .before .before .before .before .before .before .before .before .before .before .before .before .before .before .before .pre .0, c .before .before .before .before .before .before .before .before .before .before .loop-test .taken)) in
+    let q = c .before .before .mark-turning .ensures ∙ ap (λ (w : ℕ). markTurning (a .live) w (s .groups)) (c .before .before .before .before .before .before .before .before .before .first-word .ensures) in
     let at : ℕ → Bool = λ w. not (turns (a .live) w) || has (parent (a .live)) (markAt (a .seen .now) w) in
     let now : (not (c .before .before .before .before .turns-word .result) || c .before .before .before .before .before .has-depth .result) ≡ at (word1 (a .slots) (a .table .now) (s .i)) =
-    (λ j. not (c .before .before .before .before .turns-word .ensures j) || (c .before .before .before .before .before .has-depth .ensures ∙ ap (λ (x : ℕ). has (parent (a .live)) (getD (a .seen .now) x 0)) (c .before .before .before .before .before .before .before .cell-of .ensures)) j)
-    ∙ ap at (c .before .before .before .before .before .before .before .before .first-word .ensures) in (
+    (λ j. not (c .before .before .before .before .turns-word .ensures j) || (rw (c .before .before .before .before .before .before .parent-of .ensures, c .before .before .before .before .before .before .before .mark-of .ensures, c .before .before .before .before .before .before .before .before .cell-of .ensures) at (c .before .before .before .before .before .has-depth .ensures)) j)
+    ∙ ap at (c .before .before .before .before .before .before .before .before .before .first-word .ensures) in (
       search needs,
       c .before .before .mark-turning .kept .0 ∙ s .inv .1,
       subst (Turned (a .slots) (a .table .now) (a .live) (s .i + 1)) (sym q)
-          (turned-more (a .slots) (a .table .now) (a .live) (s .i) (s .groups) (omega (arith, h, s .inv .1, c .before .before .before .before .before .before .before .before .before .before .before .before .before .before .pre .1 .1)) (s .inv .2)),
+          (turned-more (a .slots) (a .table .now) (a .live) (s .i) (s .groups) (omega (arith, h, s .inv .1, c .before .before .before .before .before .before .before .before .before .before .before .before .before .before .before .pre .1 .1)) (s .inv .2)),
       (λ j. s .inv .3 j && now j) ∙ all-next (s .i) (λ k. at (word1 (a .slots) (a .table .now) k)),
     )
 
@@ -94,8 +94,8 @@ mark-groups-spec =
     loop-holds
     first-word-requires
     cell-of-requires
-    shared-slice-read-has-depth
-    sub-has-depth
+    mark-of-requires
+    parent-of-requires
     has-depth-requires
     turns-word-requires
     mark-turning-requires

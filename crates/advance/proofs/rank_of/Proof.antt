@@ -3,7 +3,7 @@ use Prim.Native.Nat.{_<_, _^_}
 use native.Mathlib.Omega.{arith}
 use borrow.Author.Needs.{needs}
 use lib.ListN.{getD}
-use Rattle.advance.specs.Notes.{groupOf}
+use Rattle.words.specs.Layout.{groupOf}
 use Rattle.advance.proofs.Bits.{ends-rank, rank-fits, group-known}
 use Rattle.advance.proofs.rank_of.Statement.{statement}
 use Rattle.advance.proofs.rank_of.Tie as tie

@@ -54,7 +54,7 @@ add-answer-of : tie.Need-add-answer-of
 add-answer-of c =
     let a = c .before .before .before .before .before .before .before .before .before .before .before .before .before .before .before .before .before .before .before .before .before .before .before .before .before .before .before .args in
     let f = ready-sizes (a .memory .now) (a .bodies .now) (a .table .now) (a .used .now) (c .before .before .before .before .before .before .before .before .before .before .before .before .before .before .before .before .before .before .before .before .before .before .before .before .before .before .before .pre .0 .0) in
-    omega (arith, ready-few (a .memory .now) (a .bodies .now) (a .table .now) (a .used .now) (c .before .before .before .before .before .before .before .before .before .before .before .before .before .before .before .before .before .before .before .before .before .before .before .before .before .before .before .pre .0 .0), c .before .before .before .before .before .before .before .before .before .before .before .before .before .before .before .before .before .before .before .before .before .before .before .before .before .before .before .pre .1 .1 .0, f .slots-high, c .before .before .before .before .before .before .before .before .before .before .before .before .before .before .before .before .before .before .before .slots-of .ensures, c .before .before .write-staged .ensures .1 .0)
+    omega (arith, ready-few (a .memory .now) (a .bodies .now) (a .table .now) (a .used .now) (c .before .before .before .before .before .before .before .before .before .before .before .before .before .before .before .before .before .before .before .before .before .before .before .before .before .before .before .pre .0 .0), c .before .before .before .before .before .before .before .before .before .before .before .before .before .before .before .before .before .before .before .before .before .before .before .before .before .before .before .pre .1 .1 .0, f .slots-high, c .before .before .before .before .before .before .before .before .before .before .before .before .before .before .before .before .before .before .before .slots-of .ensures, c .before .before .write-staged .ensures .few)
 
 answer-of-requires : tie.Need-answer-of-requires
 answer-of-requires c κs = search needs
@@ -78,7 +78,7 @@ returns c =
     let copied = rw q at (c .before .before .before .before .before .before .before .before .before .before .before .before .before .before .before .copy-listed .ensures) in
     let written = rw (q, c .before .before .before .before .before .before .before .before .remaining .ensures) at (c .before .before .before .write-staged .ensures) in
     ready-performed (a .memory .now) (a .bodies .now) (a .table .now) (a .used .now) (c .before .before .before .before .before .before .before .before .before .before .before .before .before .before .before .before .before .before .before .before .before .before .before .before .before .before .before .before .pre .0 .0) (a .n) (a .places .now) (c .before .before .before .before .before .before .before .before .before .before .before .before .before .before .before .before .before .before .before .before .before .before .before .before .before .before .before .before .pre .1 .0 .0) (a .budget) _ _ _ _ _ _ _ (c .before .before .before .before .before .before .before .before .before .before .before .before .before .before .before .before .before .before .before .before .before .before .before .before .before .before .before .before .pre .1 .1 .0)
-    (copied .0) (copied .1) (c .before .before .before .before .before .before .no-head .ensures .1 .1) (written .0) (written .1 .1) (c .answer-of .ensures)
+    (copied .0) (copied .1) (c .before .before .before .before .before .before .no-head .ensures .1 .1) (written .made) (written .words) (c .answer-of .ensures)
 
 pub store-listed-spec : {M : Type 1} → statement M
 store-listed-spec =

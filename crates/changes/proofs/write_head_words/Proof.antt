@@ -31,7 +31,7 @@ same-length c = search needs
 returns : tie.Need-returns
 returns c = let front = c .before .before .before .before .before .before .before .before .pairs-at .ensures in
     let done = pairs-done (c .before .before .before .before .before .before .before .before .before .before .args .slots) (headStores (c .before .before .before .before .before .before .before .before .before .before .args .head)) (c .before .before .before .before .before .before .before .before .before .before .args .table .now) _ (c .before .before .before .before .before .before .before .before .before .before .args .budget) (c .before .before .before .before .before .before .before .before .before .before .args .head .count) (c .before .before .before .before .before .before .before .before .before .before .pre .0 .0) (c .before .before .before .before .before .before .before .before .before .before .pre .0 .1) (head-count (c .before .before .before .before .before .before .before .before .before .before .args .head)) (omega (arith, c .before .before .before .before .before .before .before .before .before .before .pre .1 .few)) (head-below (c .before .before .before .before .before .before .before .before .before .before .args .slots) (c .before .before .before .before .before .before .before .before .before .before .args .head) (c .before .before .before .before .before .before .before .before .before .before .pre .1)) (rw front at (c .before .before .before .before .before .before .write-head .ensures)) _ _ (c .before .before .finish-journal .ensures .0) (rw front at (c .before .before .finish-journal .ensures .1)) in
-    (done .0, done .2)
+    record { made = done .0; few = done .1; words = done .2 }
 
 pub write-head-words-spec : {M : Type 1} → statement M
 write-head-words-spec =

@@ -59,7 +59,7 @@ same-length c = search needs
 returns : tie.Need-returns
 returns c = let front = c .before .before .before .before .before .before .before .before .before .before .before .before .before .pairs-at .ensures in
     let done = pairs-done (c .before .before .before .before .before .before .before .before .before .before .before .before .before .before .before .before .before .args .slots) (headStores (c .before .before .before .before .before .before .before .before .before .before .before .before .before .before .before .before .before .args .head) ++ entryChanges (c .before .before .before .before .before .before .before .before .before .before .before .before .before .before .before .before .before .args .slots) (staged (c .before .before .before .before .before .before .before .before .before .before .before .before .before .before .before .before .before .args .words .now) (c .before .before .before .before .before .before .before .before .before .before .before .before .before .before .before .before .before .args .changed .now))) (c .before .before .before .before .before .before .before .before .before .before .before .before .before .before .before .before .before .args .table .now) _ (c .before .before .before .before .before .before .before .before .before .before .before .before .before .before .before .before .before .args .budget) _ (c .before .before .before .before .before .before .before .before .before .before .before .before .before .before .before .before .before .pre .0 .0) (c .before .before .before .before .before .before .before .before .before .before .before .before .before .before .before .before .before .pre .0 .1) (all-number (c .before .before .before .before .before .before .before .before .before .before .before .before .before .before .before .before .before .args .slots) (c .before .before .before .before .before .before .before .before .before .before .before .before .before .before .before .before .before .args .head) (c .before .before .before .before .before .before .before .before .before .before .before .before .before .before .before .before .before .pre .1 .0) (staged (c .before .before .before .before .before .before .before .before .before .before .before .before .before .before .before .before .before .args .words .now) (c .before .before .before .before .before .before .before .before .before .before .before .before .before .before .before .before .before .args .changed .now)) _ (c .before .before .before .before .before .before .write-entries .ensures .0)) (all-few (c .before .before .before .before .before .before .before .before .before .before .before .before .before .before .before .before .before .args .slots) (c .before .before .before .before .before .before .before .before .before .before .before .before .before .before .before .before .before .args .head) (c .before .before .before .before .before .before .before .before .before .before .before .before .before .before .before .before .before .pre .1 .0) (staged (c .before .before .before .before .before .before .before .before .before .before .before .before .before .before .before .before .before .args .words .now) (c .before .before .before .before .before .before .before .before .before .before .before .before .before .before .before .before .before .args .changed .now)) _ (c .before .before .before .before .before .before .write-entries .ensures .0)) (all-below (c .before .before .before .before .before .before .before .before .before .before .before .before .before .before .before .before .before .args .slots) (c .before .before .before .before .before .before .before .before .before .before .before .before .before .before .before .before .before .args .head) (c .before .before .before .before .before .before .before .before .before .before .before .before .before .before .before .before .before .pre .1 .0) (staged (c .before .before .before .before .before .before .before .before .before .before .before .before .before .before .before .before .before .args .words .now) (c .before .before .before .before .before .before .before .before .before .before .before .before .before .before .before .before .before .args .changed .now)) _ (c .before .before .before .before .before .before .write-entries .ensures .0)) (all-written (c .before .before .before .before .before .before .before .before .before .before .before .before .before .before .before .before .before .args .slots) (c .before .before .before .before .before .before .before .before .before .before .before .before .before .before .before .before .before .args .head) (c .before .before .before .before .before .before .before .before .before .before .before .before .before .before .before .before .before .pre .1 .0) (staged (c .before .before .before .before .before .before .before .before .before .before .before .before .before .before .before .before .before .args .words .now) (c .before .before .before .before .before .before .before .before .before .before .before .before .before .before .before .before .before .args .changed .now)) _ (c .before .before .before .before .before .before .write-entries .ensures .0) (c .before .before .before .before .before .before .before .before .before .before .before .before .before .before .before .before .before .args .budget) (c .before .before .before .before .before .before .before .before .before .before .before .before .before .before .before .before .before .args .table .now) _ _ (rw front at (c .before .before .before .before .before .before .before .before .before .before .before .write-head .ensures)) (rw (front, c .before .before .before .before .before .before .before .remaining .ensures) at (c .before .before .before .before .before .before .write-entries .ensures .1))) _ _ (c .before .before .finish-journal .ensures .0) (rw front at (c .before .before .finish-journal .ensures .1)) in
-    (done .0, (done .1, done .2))
+    record { made = done .0; few = done .1; words = done .2 }
 
 pub write-staged-spec : {M : Type 1} → statement M
 write-staged-spec =

@@ -26,8 +26,8 @@ returns c = let a = c .before .before .before .before .before .before .args in
 cell-of-requires : tie.Need-cell-of-requires
 cell-of-requires c κs = search needs
 
-shared-slice-read-mark : tie.Need-shared-slice-read-mark
-shared-slice-read-mark c = rw (c .before .cell-of .ensures, c .before .before .before .before .first-word .ensures) (c .before .before .before .before .before .before .before .before .pre .1 .0)
+mark-of-requires : tie.Need-mark-of-requires
+mark-of-requires c κs = search needs
 
 is-raised-requires : tie.Need-is-raised-requires
 is-raised-requires c κs = search needs
@@ -37,7 +37,7 @@ depth-of-requires c κs = search needs
 
 returns-2 : tie.Need-returns-2
 returns-2 c = let a = c .before .before .before .before .before .before .before .before .before .before .before .args in
-    let none = rw (c .before .depth-of .ensures, c .before .before .is-raised .ensures, c .before .before .before .before .cell-of .ensures, c .before .before .before .before .before .before .before .first-word .ensures) at (not-true (eqb (c .before .depth-of .result) (a .live) || c .before .before .is-raised .result) (c .if2 .taken)) in
+    let none = rw (c .before .depth-of .ensures, c .before .before .is-raised .ensures, c .before .before .before .mark-of .ensures, c .before .before .before .before .cell-of .ensures, c .before .before .before .before .before .before .before .first-word .ensures) at (not-true (eqb (c .before .depth-of .result) (a .live) || c .before .before .is-raised .result) (c .if2 .taken)) in
     turn-kept (change-kept (a .slots) (a .table .now) (a .live) (a .i) (c .before .before .before .before .before .before .before .before .before .before .before .pre .0 .3) (a .seen .now) (c .before .before .before .before .before .before .before .before .before .before .before .pre .1 .1) none)
 
 moves-out-requires : tie.Need-moves-out-requires
@@ -45,7 +45,7 @@ moves-out-requires c κs = search needs
 
 changed-word-requires : tie.Need-changed-word-requires
 changed-word-requires c κs = let a = c .before .before .before .before .before .before .before .before .before .before .before .before .args in
-    let mark = getD (a .seen .now) (c .before .before .before .before .before .cell-of .result) 0 in
+    let mark = c .before .before .before .before .mark-of .result in
     ((λ z. moves-deep (a .live) _ 0 true (has (parent (a .live)) mark) (c .before .before .before .before .before .before .before .before .before .before .before .before .pre .0 .3) (sym (c .moves-out .ensures) ∙ z)), (λ z. raises-low (a .live) _ 0 (has (a .live) mark) true (c .before .before .before .before .before .before .before .before .before .before .before .before .pre .0 .3) (sym (c .before .before .before .is-raised .ensures) ∙ z)))
 
 second-word-requires : tie.Need-second-word-requires
@@ -62,8 +62,8 @@ same-length c = search needs
 
 returns-3 : tie.Need-returns-3
 returns-3 c = let a = c .before .before .before .before .before .before .before .before .before .before .before .before .before .before .before .before .before .before .before .args in
-    let changes = rw (c .before .before .before .before .before .before .before .before .before .depth-of .ensures, c .before .before .before .before .before .before .before .before .before .before .is-raised .ensures, c .before .before .before .before .before .before .before .before .before .before .before .before .cell-of .ensures, c .before .before .before .before .before .before .before .before .before .before .before .before .before .before .before .first-word .ensures) at (not-false (eqb (c .before .before .before .before .before .before .before .before .before .depth-of .result) (a .live) || c .before .before .before .before .before .before .before .before .before .before .is-raised .result) (c .before .before .before .before .before .before .before .before .if2 .left)) in
-    let made = rw (c .before .before .before .before .body-if .ensures, c .before .before .before .before .before .before .changed-word .ensures, c .before .before .before .before .before .before .before .moves-out .ensures, c .before .before .before .before .before .before .before .before .before .before .is-raised .ensures, c .before .before .before .before .before .before .before .before .before .before .before .before .cell-of .ensures, c .before .before .before .before .before .second-word .ensures, c .before .before .before .before .before .before .before .before .before .before .before .before .before .before .before .first-word .ensures) at (c .before .before .stage-words .ensures) in
+    let changes = rw (c .before .before .before .before .before .before .before .before .before .depth-of .ensures, c .before .before .before .before .before .before .before .before .before .before .is-raised .ensures, c .before .before .before .before .before .before .before .before .before .before .before .mark-of .ensures, c .before .before .before .before .before .before .before .before .before .before .before .before .cell-of .ensures, c .before .before .before .before .before .before .before .before .before .before .before .before .before .before .before .first-word .ensures) at (not-false (eqb (c .before .before .before .before .before .before .before .before .before .depth-of .result) (a .live) || c .before .before .before .before .before .before .before .before .before .before .is-raised .result) (c .before .before .before .before .before .before .before .before .if2 .left)) in
+    let made = rw (c .before .before .before .before .body-if .ensures, c .before .before .before .before .before .before .changed-word .ensures, c .before .before .before .before .before .before .before .moves-out .ensures, c .before .before .before .before .before .before .before .before .before .before .is-raised .ensures, c .before .before .before .before .before .before .before .before .before .before .before .mark-of .ensures, c .before .before .before .before .before .before .before .before .before .before .before .before .cell-of .ensures, c .before .before .before .before .before .second-word .ensures, c .before .before .before .before .before .before .before .before .before .before .before .before .before .before .before .first-word .ensures) at (c .before .before .stage-words .ensures) in
     turn-put (change-put (a .slots) (a .table .now) (a .live) (a .i) (c .before .before .before .before .before .before .before .before .before .before .before .before .before .before .before .before .before .before .before .pre .0 .3) (a .seen .now) (c .before .before .before .before .before .before .before .before .before .before .before .before .before .before .before .before .before .before .before .pre .1 .1) changes) made
 
 pub commit-entry-spec : {M : Type 1} → statement M
@@ -74,7 +74,7 @@ commit-entry-spec =
     is-concerned-requires
     returns
     cell-of-requires
-    shared-slice-read-mark
+    mark-of-requires
     is-raised-requires
     depth-of-requires
     returns-2

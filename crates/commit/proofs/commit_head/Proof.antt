@@ -15,8 +15,8 @@ sub-with-word c = search needs
 with-word-requires : tie.Need-with-word-requires
 with-word-requires c κs = search needs
 
-sub-wide : tie.Need-sub-wide
-sub-wide c = search needs
+parent-of-requires : tie.Need-parent-of-requires
+parent-of-requires c κs = search needs
 
 wide-requires : tie.Need-wide-requires
 wide-requires c κs = search needs
@@ -31,8 +31,8 @@ with-word-requires-2 : tie.Need-with-word-requires-2
 with-word-requires-2 c κs = search needs
 
 returns : tie.Need-returns
-returns c = let one = rw (c .before .before .before .before .no-head .ensures .1 .1) at (c .before .before .before .with-word .ensures .1 .1) in
-    (c .with-word2 .ensures .0, rw (one, c .before .handle-at .ensures, c .before .before .wide .ensures) at (c .with-word2 .ensures .1 .1))
+returns c = let one = rw (c .before .before .before .before .before .no-head .ensures .1 .1) at (c .before .before .before .before .with-word .ensures .1 .1) in
+    (c .with-word2 .ensures .0, rw (one, c .before .handle-at .ensures, c .before .before .wide .ensures, c .before .before .before .parent-of .ensures) at (c .with-word2 .ensures .1 .1))
 
 pub commit-head-spec : {M : Type 1} → statement M
 commit-head-spec =
@@ -42,7 +42,7 @@ commit-head-spec =
     cast-with-word
     sub-with-word
     with-word-requires
-    sub-wide
+    parent-of-requires
     wide-requires
     handle-at-requires
     cast-with-word-2

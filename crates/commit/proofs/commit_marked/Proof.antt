@@ -48,7 +48,7 @@ same-length-4 c = search needs
 returns-2 : tie.Need-returns-2
 returns-2 c = let a = c .before .before .before .before .before .before .before .before .before .before .before .before .before .before .before .before .before .before .before .before .before .before .before .args in
     let w = c .before .before .before .commit-words .ensures in
-    commit-performed (a .memory .now) (a .bodies .now) (a .table .now) (a .handle) (a .budget) (sym (c .before .before .before .before .before .before .before .before .before .before .before .before .before .before .before .before .commit-check .ensures .0) ∙ c .before .before .before .before .before .before .before .before .before .before .before .before .before .if1 .left) (c .before .before .before .before .before .before .before .before .before .before .before .before .slots-of .ensures) (w .0) (w .1) (c .answer-of .ensures)
+    commit-performed (a .memory .now) (a .bodies .now) (a .table .now) (a .handle) (a .budget) (sym (c .before .before .before .before .before .before .before .before .before .before .before .before .before .before .before .before .commit-check .ensures .0) ∙ c .before .before .before .before .before .before .before .before .before .before .before .before .before .if1 .left) (c .before .before .before .before .before .before .before .before .before .before .before .before .slots-of .ensures) (w .made) (w .words) (c .answer-of .ensures)
 
 pub commit-marked-spec : {M : Type 1} → statement M
 commit-marked-spec =

@@ -30,10 +30,8 @@ same-length-3 c = search needs
 
 returns : tie.Need-returns
 returns c =
-    let a = c .before .before .before .before .before .before .before .before .before .before .before .before .before .before .before .before .before .before .before .args in
     let same = stages-words (c .before .before .before .before .before .commit-head .ensures .1) (c .before .before .before .before .before .before .before .before .before .before .before .commit-entries .ensures) in
-    let r = c .before .before .write-staged .ensures in
-    (r .0 ∙ ap (λ (ws : List Store). length (journal (pairsAt (a .slots)) ws)) same, r .1 .1 ∙ ap (λ (ws : List Store). stores (take (a .budget) (journal (pairsAt (a .slots)) ws)) (a .table .now)) same)
+    rw same at (c .before .before .write-staged .ensures)
 
 pub end-domain-spec : {M : Type 1} → statement M
 end-domain-spec =

@@ -6,14 +6,19 @@ use Rattle.commit.proofs.is_concerned.Tie as tie
 depth-of-requires : tie.Need-depth-of-requires
 depth-of-requires c κs = search needs
 
-sub-result : tie.Need-sub-result
-sub-result c = search needs
+is-inner-requires : tie.Need-is-inner-requires
+is-inner-requires c κs = search needs
+
+parent-of-requires : tie.Need-parent-of-requires
+parent-of-requires c κs = search needs
 
 writable-of-requires : tie.Need-writable-of-requires
 writable-of-requires c κs = search needs
 
 returns : tie.Need-returns
-returns c = rw (c .before .depth-of .ensures, c .writable-of .ensures)
+returns c = rw (c .before .before .before .depth-of .ensures, c .before .before .is-inner .ensures, c .before .parent-of .ensures, c .writable-of .ensures)
 
 pub is-concerned-spec : {M : Type 1} → statement M
-is-concerned-spec = tie.close (tie.spec depth-of-requires sub-result writable-of-requires returns)
+is-concerned-spec =
+    tie.close
+    (tie.spec depth-of-requires is-inner-requires parent-of-requires writable-of-requires returns)

@@ -3,11 +3,14 @@ use borrow.Author.Needs.{needs}
 use Rattle.commit.proofs.is_raised.Statement.{statement}
 use Rattle.commit.proofs.is_raised.Tie as tie
 
+is-inner-requires : tie.Need-is-inner-requires
+is-inner-requires c κs = search needs
+
 depth-of-requires : tie.Need-depth-of-requires
 depth-of-requires c κs = search needs
 
-sub-result : tie.Need-sub-result
-sub-result c = search needs
+parent-of-requires : tie.Need-parent-of-requires
+parent-of-requires c κs = search needs
 
 writable-of-requires : tie.Need-writable-of-requires
 writable-of-requires c κs = search needs
@@ -16,9 +19,15 @@ has-depth-requires : tie.Need-has-depth-requires
 has-depth-requires c κs = search needs
 
 returns : tie.Need-returns
-returns c = rw (c .before .before .depth-of .ensures, c .before .writable-of .ensures, c .has-depth .ensures)
+returns c = rw (c .before .before .before .before .is-inner .ensures, c .before .before .before .depth-of .ensures, c .before .before .parent-of .ensures, c .before .writable-of .ensures, c .has-depth .ensures)
 
 pub is-raised-spec : {M : Type 1} → statement M
 is-raised-spec =
     tie.close
-    (tie.spec depth-of-requires sub-result writable-of-requires has-depth-requires returns)
+    (tie.spec
+    is-inner-requires
+    depth-of-requires
+    parent-of-requires
+    writable-of-requires
+    has-depth-requires
+    returns)

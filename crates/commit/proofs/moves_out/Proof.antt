@@ -6,14 +6,19 @@ use Rattle.commit.proofs.moves_out.Tie as tie
 depth-of-requires : tie.Need-depth-of-requires
 depth-of-requires c κs = search needs
 
-sub-has-depth : tie.Need-sub-has-depth
-sub-has-depth c = search needs
+is-inner-requires : tie.Need-is-inner-requires
+is-inner-requires c κs = search needs
+
+parent-of-requires : tie.Need-parent-of-requires
+parent-of-requires c κs = search needs
 
 has-depth-requires : tie.Need-has-depth-requires
 has-depth-requires c κs = search needs
 
 returns : tie.Need-returns
-returns c = rw (c .before .depth-of .ensures, c .has-depth .ensures)
+returns c = rw (c .before .before .before .depth-of .ensures, c .before .before .is-inner .ensures, c .has-depth .ensures, c .before .parent-of .ensures)
 
 pub moves-out-spec : {M : Type 1} → statement M
-moves-out-spec = tie.close (tie.spec depth-of-requires sub-has-depth has-depth-requires returns)
+moves-out-spec =
+    tie.close
+    (tie.spec depth-of-requires is-inner-requires parent-of-requires has-depth-requires returns)

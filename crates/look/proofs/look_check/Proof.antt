@@ -3,7 +3,8 @@ use mathlib.Core.Path.{sym, _∙_}
 use native.Mathlib.Omega.{arith}
 use Rattle.store.proofs.Checks.{store-shape, shape-facts, ask-go, ask-stop, orElse-go, orElse-stop}
 use Rattle.look.specs.Look.{lookCheck}
-use Rattle.look.proofs.Placing.{none-named, some-named, range-yes, range-not, live-within}
+use Rattle.look.proofs.Placing.{none-named, some-named, live-within}
+use borrow.Author.Tests.{not-true, not-false}
 use borrow.Author.Needs.{needs}
 use Rattle.look.proofs.look_check.Statement.{statement}
 use Rattle.look.proofs.look_check.Tie as tie
@@ -31,13 +32,16 @@ cells-of-requires c κs = search needs
 wide-requires : tie.Need-wide-requires
 wide-requires c κs = search needs
 
+range-ok-requires : tie.Need-range-ok-requires
+range-ok-requires c κs = search needs
+
 returns-3 : tie.Need-returns-3
 unfolding lookCheck
-returns-3 c = sym (orElse-go _ _ (sym (c .before .before .before .before .before .before .plain-check .ensures) ∙ c .before .before .before .before .before .if1 .left) ∙ ask-go _ _ _ (some-named _ _ (c .before .before .before .before .find-domain .ensures) (c .before .before .before .if2 .left)) ∙ ask-stop _ _ _ (range-not _ _ _ _ (c .before .before .cells-of .ensures) (c .before .wide .ensures) (c .if3 .taken)))
+returns-3 c = sym (orElse-go _ _ (sym (c .before .before .before .before .before .before .before .plain-check .ensures) ∙ c .before .before .before .before .before .before .if1 .left) ∙ ask-go _ _ _ (some-named _ _ (c .before .before .before .before .before .find-domain .ensures) (c .before .before .before .before .if2 .left)) ∙ ask-stop _ _ _ (sym (rw (c .before .before .before .cells-of .ensures, c .before .before .wide .ensures) at (c .before .range-ok .ensures)) ∙ not-true _ (c .if3 .taken)))
 
 returns-4 : tie.Need-returns-4
 unfolding lookCheck
-returns-4 c = sym (orElse-go _ _ (sym (c .before .before .before .before .before .before .plain-check .ensures) ∙ c .before .before .before .before .before .if1 .left) ∙ ask-go _ _ _ (some-named _ _ (c .before .before .before .before .find-domain .ensures) (c .before .before .before .if2 .left)) ∙ ask-go _ _ _ (range-yes _ _ _ _ (c .before .before .cells-of .ensures) (c .before .wide .ensures) (c .if3 .left)))
+returns-4 c = sym (orElse-go _ _ (sym (c .before .before .before .before .before .before .before .plain-check .ensures) ∙ c .before .before .before .before .before .before .if1 .left) ∙ ask-go _ _ _ (some-named _ _ (c .before .before .before .before .before .find-domain .ensures) (c .before .before .before .before .if2 .left)) ∙ ask-go _ _ _ (sym (rw (c .before .before .before .cells-of .ensures, c .before .before .wide .ensures) at (c .before .range-ok .ensures)) ∙ not-false _ (c .if3 .left)))
 
 pub look-check-spec : {M : Type 1} → statement M
 look-check-spec =
@@ -49,5 +53,6 @@ look-check-spec =
     returns-2
     cells-of-requires
     wide-requires
+    range-ok-requires
     returns-3
     returns-4)

@@ -24,6 +24,9 @@ first-word-requires c κs = search needs
 depth-of-requires : tie.Need-depth-of-requires Inv-loop μ-loop
 depth-of-requires c κs = search needs
 
+is-inside-requires : tie.Need-is-inside-requires Inv-loop μ-loop
+is-inside-requires c κs = search needs
+
 add-i : tie.Need-add-i Inv-loop μ-loop
 add-i c = search needs
 
@@ -32,8 +35,8 @@ loop-less c = search needs
 
 loop-again : tie.Need-loop-again Inv-loop μ-loop
 loop-again c =
-    let s = c .before .before .before .loop in
-    (omega arith, omega arith, deeper-more (c .before .before .before .before .before .args .slots) (c .before .before .before .before .before .args .table .now) (c .before .before .before .before .before .args .depth) (c .before .before .before .before .before .args .from) (s .i) (s .any) (c .depth-of .result) (s .inv .2) (rw (c .before .first-word .ensures) at (c .depth-of .ensures)))
+    let s = c .before .before .before .before .loop in
+    (omega arith, omega arith, rw (c .is-inside .ensures) (deeper-more (c .before .before .before .before .before .before .args .slots) (c .before .before .before .before .before .before .args .table .now) (c .before .before .before .before .before .before .args .depth) (c .before .before .before .before .before .before .args .from) (s .i) (s .any) (c .before .depth-of .result) (s .inv .2) (rw (c .before .before .first-word .ensures) at (c .before .depth-of .ensures))))
 
 returns : tie.Need-returns Inv-loop μ-loop
 returns c = λ no k a b. c .before .loop .inv .2 no k a (omega (arith, b))
@@ -47,6 +50,7 @@ any-deeper-spec =
     loop-holds
     first-word-requires
     depth-of-requires
+    is-inside-requires
     add-i
     loop-less
     loop-again

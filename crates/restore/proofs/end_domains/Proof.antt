@@ -30,14 +30,8 @@ same-length-3 c = search needs
 
 returns : tie.Need-returns
 returns c =
-    let a = c .before .before .before .before .before .before .before .before .before .before .before .before .before .before .before .before .before .before .args in
     let same = stages-words (c .before .before .before .before .before .stage-head .ensures .1) (c .before .before .before .before .before .before .before .before .before .before .before .stage-freed .ensures) in
-    let r = c .before .before .write-staged .ensures in
-    record {
-      made = r .0 ∙ ap (λ (ws : List Store). length (journal (pairsAt (a .slots)) ws)) same;
-      few = r .1 .0;
-      words = r .1 .1 ∙ ap (λ (ws : List Store). stores (take (a .budget) (journal (pairsAt (a .slots)) ws)) (a .table .now)) same;
-    }
+    rw same at (c .before .before .write-staged .ensures)
 
 pub end-domains-spec : {M : Type 1} → statement M
 end-domains-spec =

@@ -39,8 +39,8 @@ loop-holds c = (search needs, search needs, refl, refl, stores-none (c .before .
 add-cell : tie.Need-add-cell Inv-loop μ-loop
 add-cell c = omega (arith, c .before .before .before .before .before .before .before .before .pre .0 .6, c .before .before .before .before .before .before .before .before .pre .0 .3)
 
-shared-slice-read-held-by : tie.Need-shared-slice-read-held-by Inv-loop μ-loop
-shared-slice-read-held-by c = search needs
+mark-of-requires : tie.Need-mark-of-requires Inv-loop μ-loop
+mark-of-requires c κs = search needs
 
 held-by-requires : tie.Need-held-by-requires Inv-loop μ-loop
 held-by-requires c κs = search needs
@@ -55,7 +55,7 @@ put-held-requires c κs =
     let here = c .before .before .before .before .loop-test .taken in
     let p = c .before .before .before .before .before .before .before .before .before .before .before .before .pre in (
       (p .0 .0, p .0 .1, p .0 .2, omega (arith, p .0 .6, p .0 .3), omega (arith, p .0 .6, s .inv .2)),
-      (subst (λ (n : ℕ). ruleOk (cellsOf n) (a .slots) (bodiesOf (length (a .bodies .now))) (a .table .now) ≡ true) (sym (s .inv .2)) (p .1 .0), c .before .held-by .ensures ∙ p .1 .1 (a .from + s .j)),
+      (subst (λ (n : ℕ). ruleOk (cellsOf n) (a .slots) (bodiesOf (length (a .bodies .now))) (a .table .now) ≡ true) (sym (s .inv .2)) (p .1 .0), rw (c .before .before .mark-of .ensures) at (c .before .held-by .ensures) ∙ p .1 .1 (a .from + s .j)),
     )
 
 add-bytes : tie.Need-add-bytes Inv-loop μ-loop
@@ -104,7 +104,7 @@ put-group-spec =
     returns
     loop-holds
     add-cell
-    shared-slice-read-held-by
+    mark-of-requires
     held-by-requires
     remaining-requires
     put-held-requires

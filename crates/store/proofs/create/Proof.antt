@@ -53,7 +53,7 @@ same-length-2 c = search needs
 returns-2 : tie.Need-returns-2
 returns-2 c =
     let t = c .before .before .before .before .before .before .before .before .before .before .before .before .args .table .now in
-    let e = create-performed _ _ t (c .before .before .before .before .before .before .before .before .before .before .before .before .args .budget) _ _ _ _ (sym (c .before .before .before .before .before .before .before .create-check .ensures) ∙ c .before .before .before .before .before .before .if1 .left) refl (c .before .before .before .create-words .ensures .0) (c .before .before .before .create-words .ensures .1) (c .answer-of .ensures) in
+    let e = create-performed _ _ t (c .before .before .before .before .before .before .before .before .before .before .before .before .args .budget) _ _ _ _ (sym (c .before .before .before .before .before .before .before .create-check .ensures) ∙ c .before .before .before .before .before .before .if1 .left) refl (c .before .before .before .create-words .ensures .made) (c .before .before .before .create-words .ensures .words) (c .answer-of .ensures) in
     (e, ap seenOf e ∙ create-means _ _)
 
 pub create-spec : {M : Type 1} → statement M
