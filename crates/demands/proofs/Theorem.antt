@@ -64,9 +64,6 @@ make-enough k b e = ended-enough (makeSteps (slots b)) 0 k (ap (λ (v : View). v
 pub make-stands : (k : ℕ) (b : Buffers) → MakeDone b k → standing (madeFrom b k) ≡ some fresh
 make-stands k b e = ap (λ (v : View). v .state) (make-view k b e) ∙ rw (make-enough k b e)
 
-make-memory : (k : ℕ) (b : Buffers) → MakeDone b k → (madeFrom b k) .memory ≡ b .memory
-make-memory k b e = ap (λ (v : View). v .memory) (make-view k b e)
-
 abbrev cellsIn : Buffers → ℕ
 cellsIn b = cellsOf (length (b .memory))
 

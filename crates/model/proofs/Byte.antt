@@ -44,11 +44,6 @@ addH true false v (ro w) = ro w
 addH true true v (ro w) = wr w
 addH true l v (wr w) = wr w
 
--- delete
-abbrev pub dropH : Bool → Hold → Hold
-dropH true h = free
-dropH false h = h
-
 -- advance
 abbrev pub advH : ℕ → Hold → Hold
 advH m free = free

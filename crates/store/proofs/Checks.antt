@@ -1,6 +1,6 @@
 -- Laws of the questions: what a passed question tells, and that the questions on the shape read no word that a pair may name.
 -- Assumes nothing.
-use Prim.Native.Nat.{ℕ, zero, suc, _-_, _≤_, _<_}
+use Prim.Native.Nat.{ℕ, zero, suc, _≤_, _<_}
 use mathlib.Core.Bool.{Bool, true, false}
 use mathlib.Core.List.{List}
 use mathlib.Core.Path.{_≡_, refl, sym}
@@ -65,12 +65,6 @@ module _ (memory bodies : ℕ) (t : List ℕ) where
 
   pub shape-facts : shapeCheck memory bodies t ≡ 0 → Lengths memory bodies (length t)
   shape-facts e = lengths-facts memory bodies (length t) (shape-lengths e)
-
-  pub shape-header : shapeCheck memory bodies t ≡ 0 → headerOk memory bodies t ≡ true
-  unfolding shapeCheck
-  shape-header e =
-      ask-yes (headerOk memory bodies t) 2 0 (omega arith)
-      (ask-rest (lengthsOk memory bodies (length t)) 1 (ask (headerOk memory bodies t) 2 0) (omega arith) e)
 
   pub shape-make : lengthsOk memory bodies (length t) ≡ true → headerOk memory bodies t ≡ true → shapeCheck memory bodies t ≡ 0
   unfolding shapeCheck

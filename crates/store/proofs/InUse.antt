@@ -7,8 +7,7 @@ use mathlib.Core.Path.{_≡_, refl, sym, ap, _∙_}
 use native.Mathlib.Omega.{arith}
 use borrow.Author.Tests.{eq-eqb, ne-eqb, eqb-true, eqb-false, lt-ltb, le-ltb}
 use lib.Dec.{ltb, eqb}
-use lib.ListN.{length, drop}
-use Rattle.words.specs.Layout.{cellsOf, bodiesOf}
+use lib.ListN.{drop}
 use Rattle.words.specs.Scan.{count}
 use Rattle.words.specs.Stores.{tabFrom}
 use Rattle.words.proofs.Scan.{by-bool, by-le, count-ext}
@@ -18,11 +17,8 @@ use Rattle.search.specs.Free.{slotFree, usedSlots, copies}
 use Rattle.search.proofs.Counts.{count-entries}
 use Rattle.model.specs.State.{Holding}
 use Rattle.model.specs.Holdings.{isHeld, hasBody, heldInBody, countHeld, liveEntries, copiesInUse}
-use Rattle.store.specs.Outcome.{Buffers}
-use Rattle.store.specs.Checks.{storeCheck}
-use Rattle.store.specs.State.{kindOf, heldIn, domainIn, stateIn, stateOf, slots}
+use Rattle.store.specs.State.{kindOf, heldIn, domainIn, stateIn}
 use Rattle.store.proofs.Domains.{held-holds}
-use Rattle.store.proofs.Raw.{raw-rule, raw-state}
 
 -- ---- counts
 
@@ -143,15 +139,3 @@ module _ (m e b : ℕ) (t : List ℕ) (ok : Rule m e b t) (bodies : List ℕ) wh
   pub copies-in-use : copiesInUse m (stateIn e t bodies) ≡ copies e t
   unfolding copies
   copies-in-use = held-all (λ w. eqb (viaOf w) 0) heldInBody in-body
-
--- of lent buffers that pass questions 1 to 4: what the code counts in the table is what the state has
-module _ (b : Buffers) (yes : storeCheck (length (b .memory)) (length (b .bodies)) (b .table) ≡ 0) where
-  pub store-entries : liveEntries (cellsOf (length (b .memory))) (stateOf b) ≡ usedSlots (slots b) (b .table)
-  store-entries =
-      ap (liveEntries (cellsOf (length (b .memory)))) (raw-state (b .memory) (b .bodies) (b .table) yes)
-      ∙ entries-in-use (cellsOf (length (b .memory))) (slots b) (bodiesOf (length (b .bodies))) (b .table) (raw-rule (b .memory) (b .bodies) (b .table) yes) (b .bodies)
-
-  pub store-copies : copiesInUse (cellsOf (length (b .memory))) (stateOf b) ≡ copies (slots b) (b .table)
-  store-copies =
-      ap (copiesInUse (cellsOf (length (b .memory)))) (raw-state (b .memory) (b .bodies) (b .table) yes)
-      ∙ copies-in-use (cellsOf (length (b .memory))) (slots b) (bodiesOf (length (b .bodies))) (b .table) (raw-rule (b .memory) (b .bodies) (b .table) yes) (b .bodies)

@@ -123,9 +123,6 @@ module _ (c : Call) (b : Buffers) (s : Shaped c b) (good : storeCheck (length (b
   abbrev first : ℕ
   first = pairsAt (slotsOf (length (b .table)))
 
-  abbrev p : ℕ
-  p = length (s .ws)
-
   idle : pending (b .table) ≡ 0
   idle = store-idle (length (b .memory)) (length (b .bodies)) (b .table) good
 

@@ -4,7 +4,7 @@ use mathlib.Core.Bool.{true}
 use mathlib.Core.List.{List, map}
 use mathlib.Core.Path.{_≡_, sym, ap, _∙_}
 use native.Mathlib.Omega.{arith}
-use borrow.Author.Tests.{eq-eqb, eqb-true}
+use borrow.Author.Tests.{eqb-true}
 use borrow.Rule.Slice.PartMut.{putMid, midOf}
 use lib.Dec.{eqb}
 use lib.ListN.{length, getD, take, drop, length-take, length-drop}
@@ -12,7 +12,7 @@ use lib.Seq.{ext-getD, getD-take, getD-drop}
 use Rattle.words.specs.Layout.{cellAt}
 use Rattle.words.specs.Stores.{tab, Store, _≔_, stores}
 use Rattle.words.specs.Cells.{cellBytes, sameCell, copyPlan, cellPlan}
-use Rattle.words.proofs.Scan.{all-at, all-make}
+use Rattle.words.proofs.Scan.{all-at}
 use Rattle.words.proofs.Plans.{shift, stores-part, each-take, each-tab, take-map, map-tabFrom, tab-below}
 
 -- a cell that lies in its buffer has 64 bytes
@@ -30,10 +30,6 @@ pub same-cell-is : (a b : List ℕ) → length a ≡ 64 → length b ≡ 64 → 
 unfolding sameCell
 same-cell-is a b la lb h =
     ext-getD 0 a b (la ∙ sym lb) (λ i l. eqb-true _ _ (all-at 64 (λ (k : ℕ). eqb (getD a k 0) (getD b k 0)) h i (omega arith)))
-
-pub is-same-cell : (a b : List ℕ) → a ≡ b → sameCell a b ≡ true
-unfolding sameCell
-is-same-cell a b e = all-make 64 (λ (k : ℕ). eqb (getD a k 0) (getD b k 0)) (λ k l. eq-eqb _ _ (ap (λ (s : List ℕ). getD s k 0) e))
 
 -- a cell copied by way of the two parts, `&s[64 * from..64 * from + 64]` and `&mut d[64 * to..64 * to + 64]`
 pub copy-part : (s d y : List ℕ) (from to k : ℕ)

@@ -11,7 +11,7 @@ use Rattle.words.specs.Layout.{pendingAt}
 use Rattle.words.specs.Stores.{Store, _≔_, store, stores}
 use Rattle.words.specs.Journal.{pairs, pending, nameOk, namesOk, effective, applyPlan, openPlan, openings}
 use Rattle.words.proofs.Scan.{by-le, true≢}
-use Rattle.words.proofs.Plans.{Each, each-take, each-append, each-map, length-stores, stores-none, getD-stores, replay, run-append}
+use Rattle.words.proofs.Plans.{Each, each-take, each-append, each-map, length-stores, getD-stores, replay, run-append}
 use Rattle.words.proofs.Pairs.{length-pairs, length-openPlan, pairs-none, pairs-same, open-idle, open-pending}
 use Rattle.words.proofs.Names.{names-each, names-fine, names-below, names-rising, names-none}
 
@@ -179,12 +179,6 @@ module _ (first : ℕ) (t : List ℕ) (front : pendingAt < first) (room : first 
 
 -- ---- openings that are stopped, one after another
 
-pub openings-idle : (first : ℕ) (ks : List ℕ) (t : List ℕ) → pending t ≡ 0 → openings first ks t ≡ t
-openings-idle first [] t e = refl
-openings-idle first (k ∷ ks) t e =
-    let same : stores (take k (openPlan first t)) t ≡ t = rw (open-idle first t e) (sym (stores-none k t)) in
-    rw same (openings-idle first ks t e)
-
 pub openings-length : (first : ℕ) (ks : List ℕ) (t : List ℕ) → length (openings first ks t) ≡ length t
 openings-length first [] t = refl
 openings-length first (k ∷ ks) t = openings-length first ks (stores (take k (openPlan first t)) t) ∙ length-stores (take k (openPlan first t)) t
@@ -220,17 +214,5 @@ module _ (first : ℕ) (t : List ℕ) (front : pendingAt < first) (room : first 
   opened : Opened first t (openings first ks t)
   opened = openings-kept-all first t front room names ks
 
-  pub openings-effective : effective first (openings first ks t) ≡ effective first t
-  openings-effective = opened .same
-
   pub openings-again : stores (openPlan first (openings first ks t)) (openings first ks t) ≡ stores (openPlan first t) t
   openings-again = opened .again
-
-  pub openings-names : namesOk first 0 (pairs (openings first ks t) first (pending (openings first ks t))) ≡ true
-  openings-names = opened .named
-
-  pub openings-count : pending (openings first ks t) ≤ pending t
-  openings-count = opened .fewer
-
-  pub openings-kept : (i : ℕ) → i < first → (i ≡ pendingAt → ⊥) → nameOk first i ≡ false → getD (openings first ks t) i 0 ≡ getD t i 0
-  openings-kept = opened .kept

@@ -75,9 +75,6 @@ pub all-next : (j : ℕ) (f : ℕ → Bool) → (all j f && f j) ≡ all (j + 1)
 unfolding all
 all-next j f = rw add-one
 
-pub all-more : (j : ℕ) (f : ℕ → Bool) → all j f ≡ true → f j ≡ true → all (j + 1) f ≡ true
-all-more j f e h = sym (all-next j f) ∙ and-join (all j f) (f j) e h
-
 -- ---- first
 
 pub first-at : (n : ℕ) (f : ℕ → Bool) (k : ℕ) → k ≤ n → ((j : ℕ) → j < k → f j ≡ false) → (k < n → f k ≡ true) → first n f ≡ k
