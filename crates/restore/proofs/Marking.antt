@@ -11,12 +11,13 @@ use lib.Bits.{bitAnd, and-shr, and-step}
 use lib.Dec.{leb, eqb}
 use lib.ListN.{length, getD, take, drop}
 use lib.Seq.{getD-take, getD-drop}
-use lib.Pow.{shr-shr, shr-le}
+use lib.Pow.{shr-le}
 use Rattle.words.specs.Layout.{maxLive}
 use Rattle.words.specs.Scan.{first, all}
-use Rattle.words.proofs.Scan.{by-bool, by-le, true≢, is-false, first-miss, all-at}
+use Rattle.words.proofs.Scan.{by-bool, by-le, true≢, is-false, first-miss, all-at, or-split}
 use Rattle.table.specs.Entry.{live, word1, holdsIn}
 use Rattle.table.specs.Marks.{has, zeros, Blank, Marked}
+use Rattle.table.proofs.Digits.{halved}
 use Rattle.table.proofs.Marks.{zeros-length, blank-zeros, marked-holds}
 use Rattle.table.proofs.Rule.{Rule}
 use Rattle.search.specs.Search.{stepsIn, heldFrom}
@@ -29,10 +30,6 @@ pub lent : (n : ℕ) (s : List ℕ) → s ≡ zeros n → (length s ≡ n) × Bl
 lent n s q = rw q (zeros-length n, blank-zeros n)
 
 -- ---- the digits of a mark
-
--- digit k + 1 is digit k of the half
-halved : (m k : ℕ) → m / 2 ^ suc k ≡ m / 2 / 2 ^ k
-halved m k = ap (λ (j : ℕ). m / 2 ^ j) (omega arith) ∙ sym (shr-shr m 1 k)
 
 some-digit : (n m : ℕ) → 1 ≤ m → m ≤ n → (k : ℕ) × (m / 2 ^ k % 2 ≡ 1)
 some-digit zero m low few = absurd (omega arith)
@@ -99,15 +96,11 @@ inwards-only (suc i) (suc j) low high l few h =
 
 -- ---- many marks, asked one after another
 
-pub either-false : (x y : Bool) → (x || y) ≡ false → (x ≡ false) × (y ≡ false)
-either-false true y h = absurd (true≢ refl h)
-either-false false y h = (refl, h)
-
 -- x says whether one of the first j is held by a domain of the mask
 pub held-more : (marks : List ℕ) (mask j : ℕ) (x y : Bool) → (x ≡ false → (k : ℕ) → k < j → heldBy mask (getD marks k 0) ≡ false)
     → y ≡ heldBy mask (getD marks j 0) → (x || y) ≡ false → (k : ℕ) → k < j + 1 → heldBy mask (getD marks k 0) ≡ false
 held-more marks mask j x y so-far q h k l =
-    let both = either-false x y h in
+    let both = or-split x y h in
     below-more (λ i. heldBy mask (getD marks i 0) ≡ false) j (so-far (both .0)) (sym q ∙ both .1) k l
 
 -- a mark of the part of 64 from `from` on is one of all

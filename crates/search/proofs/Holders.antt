@@ -17,7 +17,7 @@ use Rattle.search.specs.declared.Holder.the-variants.{At, Nobody}
 abbrev pub Lacking : ℕ → List ℕ → ℕ → ℕ → ℕ → Type 0
 Lacking e t from c n = (k : ℕ) → k < n → holdsIn e t (from + k) c ≡ false
 
-zero-one : _≡_ {A = ℕ} 0 1 → ⊥
+pub zero-one : _≡_ {A = ℕ} 0 1 → ⊥
 zero-one z = omega arith
 
 module _ (e : ℕ) (t : List ℕ) (from c : ℕ) where

@@ -1,6 +1,6 @@
 -- Live entries and copies in use: as many in the words of a right table as in the state that it stands for. Assumes nothing.
 use Prim.Native.Nat.{ℕ, zero, suc, _+_, _-_, _≤_, _<_}
-use mathlib.Core.Bool.{Bool, true, false, not, _&&_, _||_}
+use mathlib.Core.Bool.{Bool, true, not, _&&_, _||_, and-true}
 use mathlib.Core.List.{List}
 use mathlib.Core.Option.{Option}
 use mathlib.Core.Path.{_≡_, refl, sym, ap, _∙_}
@@ -10,7 +10,7 @@ use lib.Dec.{ltb, eqb}
 use lib.ListN.{drop}
 use Rattle.words.specs.Scan.{count}
 use Rattle.words.specs.Stores.{tabFrom}
-use Rattle.words.proofs.Scan.{by-bool, by-le, count-ext}
+use Rattle.words.proofs.Scan.{by-bool, by-le, count-ext, count-none}
 use Rattle.table.specs.Entry.{live, word1, depthOf, viaOf, findIn, holdsIn}
 use Rattle.table.proofs.Rule.{Rule}
 use Rattle.search.specs.Free.{slotFree, usedSlots, copies}
@@ -21,15 +21,6 @@ use Rattle.store.specs.State.{kindOf, heldIn, domainIn, stateIn}
 use Rattle.store.proofs.Domains.{held-holds}
 
 -- ---- counts
-
-pub count-none : (n : ℕ) (f : ℕ → Bool) → ((k : ℕ) → k < n → f k ≡ false) → count n f ≡ 0
-unfolding count
-count-none zero f h = refl
-count-none (suc n) f h = rw (h n (omega arith), count-none n f (λ k l. h k (omega arith)))
-
-pub and-true : (a : Bool) → (a && true) ≡ a
-and-true true = refl
-and-true false = refl
 
 -- numbers above x: the next one, and those above it
 above : (x y : ℕ) → ltb x y ≡ (eqb y (suc x) || ltb (suc x) y)

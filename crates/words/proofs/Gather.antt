@@ -1,15 +1,17 @@
 -- Laws of lists gathered one after another, and of pairs written so. Assumes nothing.
 use mathlib.Core.Path.{_≡_, refl, sym, ap, _∙_}
+use mathlib.Core.Bool.{Bool, cond}
 use mathlib.Core.List.{List, [], _∷_, _++_, append-assoc, append-nil}
 use mathlib.Core.Logic.{⊎-elim}
 use Prim.Native.Nat.{ℕ, zero, suc, _+_, _-_, _*_, _<_, _≤_}
-use native.Mathlib.Nat.{not-suc-le-zero, le-of-suc-le-suc, eq-or-lt-of-le}
+use native.Mathlib.Nat.{not-suc-le-zero, le-of-suc-le-suc, eq-or-lt-of-le, mul-zero, mul-suc}
 use native.Mathlib.Numerals.{add-one}
 use native.Mathlib.Omega.{arith}
 use lib.ListN.{length, take, length-append}
+use Rattle.words.specs.Scan.{count}
 use Rattle.words.specs.Stores.{gather, run, Store, _≔_, store, stores}
 use Rattle.words.specs.Journal.{pairPlans}
-use Rattle.words.proofs.Scan.{by-le}
+use Rattle.words.proofs.Scan.{by-le, by-bool}
 use Rattle.words.proofs.Plans.{Each, each-append, run-take-append}
 use Rattle.words.proofs.Pairs.{length-pairPlans}
 
@@ -45,6 +47,15 @@ module _ {A : Type 0} where
 
   pub gather-none : (n : ℕ) (f : ℕ → List A) → ((i : ℕ) → i < n → f i ≡ []) → gather n f ≡ []
   gather-none n f h = gather-skip f 0 n (omega arith) (λ i l b. h i b)
+
+  -- k for each element of which p holds
+  pub gather-count : (k n : ℕ) (p : ℕ → Bool) (f : ℕ → List A) → ((i : ℕ) → length (f i) ≡ cond (p i) k 0) → length (gather n f) ≡ k * count n p
+  unfolding count
+  gather-count k zero p f h = sym (mul-zero k)
+  gather-count k (suc n) p f h =
+      length-append (gather n f) (f n)
+      ∙ rw (gather-count k n p f h, h n)
+      (by-bool (p n) (λ z. rw z (sym (mul-suc k (count n p)))) (λ z. rw z (omega arith)))
 
   -- in two parts
   pub gather-split : (f : ℕ → List A) (a b : ℕ) → gather (a + b) f ≡ gather a f ++ gather b (λ j. f (a + j))

@@ -32,6 +32,16 @@ module _ (f : ℕ → Bool) where
   pub count-below : (k n : ℕ) → k < n → f k ≡ true → count k f < count n f
   count-below k n l h = omega (arith, count-suc k h, count-mono (suc k) n l)
 
+  -- two numbers that pass and have as many below them are one
+  pub same-rank : (i j : ℕ) → f i ≡ true → f j ≡ true → count i f ≡ count j f → i ≡ j
+  same-rank i j p q h =
+      by-le i j
+      (λ l. by-le j i (λ r. omega arith) (λ r. absurd (never (count-below i j r p) h)))
+      (λ l. absurd (never (count-below j i l q) (sym h)))
+    where
+      never : {a b : ℕ} → a < b → a ≡ b → ⊥
+      never l e = omega arith
+
   -- where none from `at` on and below n passes
   count-flat : (at n : ℕ) → at ≤ n → ((k : ℕ) → at ≤ k → k < n → f k ≡ false) → count n f ≡ count at f
   count-flat at zero l h = let z : 0 ≡ at = omega arith in ap (λ (x : ℕ). count x f) z

@@ -5,9 +5,9 @@ use borrow.Author.Tests.{eq-eqb, ne-eqb}
 use borrow.Author.Needs.{needs}
 use lib.ListN.{length}
 use Rattle.table.proofs.Marks.{zeros-length, blank-zeros}
-use Rattle.store.proofs.Checks.{store-shape, shape-facts, ask-go, ask-stop, orElse-go, orElse-stop}
+use Rattle.store.proofs.Checks.{store-shape, shape-facts, ask-go, ask-stop, orElse-go, orElse-stop, none-named, some-named}
+use Rattle.store.proofs.Raw.{live-within}
 use Rattle.commit.specs.Commit.{commitCheck}
-use Rattle.commit.proofs.Committed.{live-within, none-named, some-named}
 use Rattle.commit.proofs.commit_check.Statement.{statement}
 use Rattle.commit.proofs.commit_check.Tie as tie
 
