@@ -73,23 +73,20 @@ module _ (memory bodies t : List ℕ) (yes : storeCheck (length memory) (length 
   abbrev e : ℕ
   e = slotsOf (length t)
 
-  right : Rule (cellsOf (length memory)) (slotsOf (length t)) (bodiesOf (length bodies)) t
-  right = raw-rule memory bodies t yes
-
   -- questions 5 and 6 are the model's
   pub same-checks : (h : ℕ) → ask (ltb 0 (depthNamed t h)) 5 (ask (eqb (depthNamed t h) (live t)) 6 0) ≡ commitChecks h (stateOf (buffers memory bodies t))
   same-checks h = rw (raw-named memory bodies t yes h, live-count memory bodies t yes)
 
   module _ (some-live : 1 ≤ live t) where
     names : namesOk (pairsAt (slotsOf (length t))) 0 (commitWords t) ≡ true
-    names = words-names t some-live (right .live)
+    names = words-names t some-live (live-within (length memory) (length bodies) t yes)
 
     below : Each (λ s. s .at < pairsAt (slotsOf (length t))) (commitWords t)
     below = names-below (pairsAt e) 0 (commitWords t) (pendingAt-below e) names
 
     whole-rule : Rule (cellsOf (length memory)) (slotsOf (length t)) (bodiesOf (length bodies)) (stores (commitWords t) t)
     unfolding commitWords
-    whole-rule = commit-rule (cellsOf (length memory)) e (bodiesOf (length bodies)) t right (raw-long memory bodies t yes) some-live
+    whole-rule = commit-rule (cellsOf (length memory)) e (bodiesOf (length bodies)) t (raw-rule memory bodies t yes) (raw-long memory bodies t yes) some-live
 
     -- the new table is right
     pub new-rule : Rule (cellsOf (length memory)) (slotsOf (length t)) (bodiesOf (length bodies)) (stores (commitWords t) (take (pairsAt (slotsOf (length t))) t))
@@ -100,14 +97,14 @@ module _ (memory bodies t : List ℕ) (yes : storeCheck (length memory) (length 
     unfolding commitWords
     new-state =
         raw-after memory bodies t yes (commitWords t) below whole-rule bodies
-        ∙ commit-state-is (cellsOf (length memory)) e (bodiesOf (length bodies)) t right (raw-long memory bodies t yes) some-live bodies
+        ∙ commit-state-is (cellsOf (length memory)) e (bodiesOf (length bodies)) t (raw-rule memory bodies t yes) (raw-long memory bodies t yes) some-live bodies
         ∙ ap commit (sym (raw-state memory bodies t yes))
 
     -- as many words as the model says
     pub new-count : length (commitWords t)
         ≡ 2 + 2 * (innerCells (cellsOf (length memory)) (stateOf (buffers memory bodies t)) + raisedCells (cellsOf (length memory)) (stateOf (buffers memory bodies t)))
     new-count =
-        words-count t ∙ rw (changes-are (cellsOf (length memory)) e (bodiesOf (length bodies)) t right some-live bodies, raw-state memory bodies t yes)
+        words-count t ∙ rw (changes-are (cellsOf (length memory)) e (bodiesOf (length bodies)) t (raw-rule memory bodies t yes) some-live bodies, raw-state memory bodies t yes)
 
     -- at most 70E + 32 steps
     pub commit-bound :

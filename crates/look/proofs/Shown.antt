@@ -36,7 +36,7 @@ use Rattle.look.proofs.Placing.{Passed, check-passed, place-memory, pla
 abbrev pub checked : (h c : ℕ) → Buffers → ℕ
 checked h c b = lookCheck (length (b .memory)) (length (b .bodies)) (b .table) h c
 
--- ---- the answer and the length of the part
+-- ---- the length of the part
 
 shown-part : (h c : ℕ) (b : Buffers) → lookMeans h c b .part ≡ placePart (lookPlace h c b) b
 shown-part h c b = ap (λ (l : Looked). l .part) (sym (look-means h c b))
@@ -93,15 +93,12 @@ module _ (h c : ℕ) (b : Buffers) (pass : checked h c b ≡ 0) where
   passed : Passed (length (b .memory)) (length (b .bodies)) (b .table) h c
   passed = check-passed (length (b .memory)) (length (b .bodies)) (b .table) h c pass
 
-  same-depth : named h (stateOf b) ≡ depthNamed (b .table) h
-  same-depth = raw-named (b .memory) (b .bodies) (b .table) (passed .store) h
-
   part-is : lookMeans h c b .part ≡ restoredCell (named h (stateOf b)) (stateOf b) (b .memory) c
   part-is =
       shown-part h c b
       ∙ ap (λ (p : Place). placePart p b) (look-placed h c b pass)
       ∙ ap (λ (l : Looked). l .part) (place-shown (b .memory) (b .bodies) (b .table) h c (passed .store) (passed .live))
-      ∙ ap (λ (d : ℕ). restoredCell d (stateOf b) (b .memory) c) (sym same-depth)
+      ∙ ap (λ (d : ℕ). restoredCell d (stateOf b) (b .memory) c) (sym (raw-named (b .memory) (b .bodies) (b .table) (passed .store) h))
 
   exact : length (b .memory) ≡ 64 * cellsOf (length (b .memory))
   exact = shape-facts (length (b .memory)) (length (b .bodies)) (b .table) (store-shape (length (b .memory)) (length (b .bodies)) (b .table) (passed .store)) .memory-exact

@@ -49,7 +49,6 @@ module _ (e : ℕ) (t : List ℕ) (from c : ℕ) where
 
   -- what an answer says
   pub record HolderFacts (d i : ℕ) : Type 0 where
-    pub inwards : from ≤ d
     pub live : d ≤ live t
     pub entry : findIn e t d c ≡ i
     pub slot : i < e
@@ -68,7 +67,6 @@ module _ (e : ℕ) (t : List ℕ) (from c : ℕ) where
       let lt = ltb-true (first n f) n p in
       let hit = holds-found e t (from + first n f) c (first-hit n f lt) in
       record {
-        inwards = omega arith;
         live = omega arith;
         entry = subst (λ (x : ℕ). findIn e t x c ≡ i) qd qi;
         slot = subst (λ (x : ℕ). x < e) qi hit;

@@ -1,4 +1,4 @@
--- What passed questions 1 to 4 tell of the table's own words: nothing is pending, so that the rule holds of them as they stand. Assumes nothing.
+-- What passed questions 1 to 4 let a pass over the entries rely on: no depth has a cell twice, and there are marks enough. Assumes nothing.
 use Prim.Native.Nat.{ℕ, _≤_, _<_, min}
 use mathlib.Core.List.{List}
 use mathlib.Core.Path.{_≡_}

@@ -1,5 +1,5 @@
--- What holds of every call by its shape: a refusal changes nothing, a step is one store, and stopped is exactly what needs more than the
--- budget. Assumes nothing.
+-- What holds of every call by its shape: a refusal changes nothing, and one more of the budget makes at most one store more.
+-- Assumes nothing.
 use Prim.Native.Nat.{ℕ, zero, suc, _≤_}
 use mathlib.Core.List.{List, [], _∷_, map}
 use mathlib.Core.Logic.{_⊎_, inl, inr}
@@ -11,7 +11,7 @@ use lib.Seq.{take-all}
 use Rattle.words.specs.Stores.{Store, _≔_, store, stores}
 use Rattle.words.proofs.Scan.{by-le}
 use Rattle.words.proofs.Plans.{run-take-suc, take-map}
-use Rattle.model.specs.Answer.{Report, done, stopped, refused, ended}
+use Rattle.model.specs.Answer.{Report, done, refused, ended}
 use Rattle.store.specs.Outcome.{Buffers, buffers, Step, inTable, step, steps, Call, refuse, perform, unless, leaves, outcome}
 
 -- ---- a refusal has its number, zero steps, no handle and every buffer as lent, whatever the budget
@@ -25,7 +25,7 @@ unfolding outcome
 refuses q zero c k b e h = absurd (h e)
 refuses q (suc n) c k b e h = rw e
 
--- ---- done, or stopped exactly if more is needed
+-- ---- done, where the budget suffices
 
 pub ended-done : (need h k : ℕ) → need ≤ k → ended need h k ≡ done need h
 unfolding ended

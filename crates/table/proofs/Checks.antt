@@ -1,4 +1,4 @@
--- Questions 1 and 2 as facts, and that the computed tests and the facts say the same. Assumes nothing.
+-- Questions 1 and 2 as facts: what a yes to question 1 tells, and what makes a yes to question 2. Assumes nothing.
 use Prim.Native.Nat.{ℕ, _≤_}
 use mathlib.Core.Bool.{true, false, _&&_}
 use mathlib.Core.List.{List}

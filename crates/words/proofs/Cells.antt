@@ -1,4 +1,4 @@
--- Laws of cells and bodies: what a comparison tells, and a copy by way of two parts. Assumes nothing.
+-- Laws of cells and bodies: what a comparison tells, stores beside a cell, and a copy by way of two parts. Assumes nothing.
 use Prim.Native.Nat.{ℕ, _+_, _-_, _*_, _≤_, _<_}
 use mathlib.Core.Bool.{true}
 use mathlib.Core.List.{List, map}
