@@ -7,7 +7,7 @@ use borrow.Author.Tests.{lt-ltb, le-ltb, le-leb, lt-leb}
 use Rattle.words.specs.Scan.{count}
 use Rattle.words.proofs.Scan.{by-bool, is-false}
 use Rattle.model.specs.Holdings.{inRange}
-use Rattle.store.proofs.InUse.{count-none}
+use Rattle.words.proofs.Scan.{count-none}
 
 -- two tests that never both pass
 pub count-or : (n : ℕ) (f g : ℕ → Bool) → ((i : ℕ) → i < n → f i ≡ true → g i ≡ true → ⊥) → count n (λ i. f i || g i) ≡ count n f + count n g

@@ -21,7 +21,7 @@ use Rattle.search.proofs.Counts.{count-entries}
 use Rattle.model.specs.Holdings.{holdingAt, isHeld, heldReadOnly, valueOr, inRange, labelNumbered, kindNumbered, newlyHeld, relabelled, newBodies}
 use Rattle.store.specs.State.{heldIn, stateIn}
 use Rattle.store.proofs.Domains.{state-holding, state-zero, domains-count, held-holds, held-writable}
-use Rattle.store.proofs.InUse.{count-none}
+use Rattle.words.proofs.Scan.{count-none}
 use Rattle.store.proofs.Raw.{raw-rule}
 use Rattle.add.specs.Add.{isNew}
 use Rattle.add.specs.Walking.{rises, raiseChange, Ready}

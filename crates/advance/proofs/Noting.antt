@@ -18,7 +18,7 @@ use Rattle.table.specs.Entry.{live, word1, word2, depthOf, writableOf, cellOf, 
 use Rattle.table.specs.Marks.{Marks, Marked, IsCopy, cellIn, has, markAt}
 use Rattle.table.proofs.Entry.{find-hit, holds-found}
 use Rattle.table.proofs.Rule.{Rule}
-use Rattle.table.proofs.Change.{only-one}
+use Rattle.table.proofs.Single.{only-one}
 use Rattle.table.proofs.Marks.{marked-holds}
 use Rattle.search.specs.Free.{isCopy, bodyUsed, bodyFree, copies}
 use Rattle.search.proofs.From.{count-stop}

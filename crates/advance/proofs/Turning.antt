@@ -22,7 +22,7 @@ use Rattle.table.specs.Marks.{IsCopy}
 use Rattle.table.proofs.Entry.{names-make, find-hit, holds-true, holds-found}
 use Rattle.table.proofs.Made.{copy-made}
 use Rattle.table.proofs.Rule.{Rule, Used}
-use Rattle.table.proofs.Change.{only-one, find-self}
+use Rattle.table.proofs.Single.{only-one, find-self}
 use Rattle.table.proofs.Entries.{changes-count}
 use Rattle.table.proofs.Head.{all-remain}
 use Rattle.search.proofs.Free.{body-unused}

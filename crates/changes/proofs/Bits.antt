@@ -10,9 +10,10 @@ use lib.Dec.{eqb}
 use lib.Bits.{bitAnd, bitOr, and-step, and-self, and-le-r, or-shr, or-mod, or-zero-r}
 use lib.Count.{trailingZeros, under}
 use lib.ListN.{length, getD, set}
-use lib.Pow.{shr-shr, shr-le, shl-shr, shl-exact}
+use lib.Pow.{shr-le, shl-shr, shl-exact}
 use lib.Seq.{getD-set-same, getD-set-other}
 use Rattle.words.proofs.Scan.{by-bool}
+use Rattle.table.proofs.Digits.{halved}
 use Rattle.changes.specs.Staged.{bitAt, Lowest, Without, withBit, isSet}
 
 -- ---- one word, digit by digit
@@ -20,13 +21,8 @@ use Rattle.changes.specs.Staged.{bitAt, Lowest, Without, withBit, isSet}
 bit-zero : (w : ℕ) → w / 2 ^ 0 % 2 ≡ w % 2
 bit-zero w = ap (λ (n : ℕ). n % 2) (div-one w)
 
-bit-suc : (w j : ℕ) → w / 2 ^ suc j ≡ w / 2 / 2 ^ j
-bit-suc w j =
-    let e : 1 + j ≡ suc j = omega arith in
-    sym (shr-shr w 1 j ∙ ap (λ (n : ℕ). w / 2 ^ n) e)
-
 digit-suc : (w j : ℕ) → w / 2 ^ suc j % 2 ≡ w / 2 / 2 ^ j % 2
-digit-suc w j = ap (λ (n : ℕ). n % 2) (bit-suc w j)
+digit-suc w j = ap (λ (n : ℕ). n % 2) (halved w j)
 
 pub bit-none : (w j : ℕ) → w ≡ 0 → bitAt w j ≡ false
 bit-none w j z = let q : w / 2 ^ j ≡ 0 = omega (arith, z, shr-le w j) in ap (λ (n : ℕ). eqb (n % 2) 1) q

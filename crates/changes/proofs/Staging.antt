@@ -170,9 +170,6 @@ module _ {f : ℕ → Change} {words bits : List ℕ} where
       → Turned (f n) n words words′ b → w′ ≡ withBit b (n % 64) w → Gathers k (n + 1) f words′ bits w′
   group-turn {k} {n} {w} g here room turned e = rw (turned .made, e, turned .told) (group-change g (f n) refl here room)
 
-  pub group-skip : {k n w : ℕ} (m : ℕ) → Gathers k n f words bits w → n ≤ m → ((i : ℕ) → n ≤ i → i < m → f i ≡ keep) → Gathers k m f words bits w
-  group-skip m g l kept = record { within = g .within; stages = stages-skip m (g .stages) l kept }
-
 -- ---- one word of the head more
 
 pub word-staged : (head next : Head) (w v : ℕ) → head .count < length (head .numbers) → head .count < length (head .values)

@@ -1,20 +1,21 @@
 -- Commit, from its stores to what it means and to what opening finds after every cut of it. Assumes nothing.
 use Prim.Native.Nat.{ℕ, suc, _+_, _-_, _*_, _≤_, _<_, min}
-use mathlib.Core.Bool.{true, false}
+use mathlib.Core.Bool.{true}
 use mathlib.Core.List.{List, []}
 use mathlib.Core.Option.{Option}
 use mathlib.Core.Path.{_≡_, refl, sym, ap, subst, _∙_}
 use native.Mathlib.Omega.{arith}
-use borrow.Author.Tests.{ltb-true, lt-ltb, le-ltb}
+use borrow.Author.Tests.{ltb-true, lt-ltb}
 use lib.Dec.{ltb, eqb}
-use lib.ListN.{length, take, length-take, length-append}
+use lib.ListN.{length, take, length-append}
 use Rattle.words.specs.Layout.{liveAt, handleAt, pairsAt, tableWords, maxPairs, slotsOf, cellsOf, bodiesOf, maxLive, maxCells, maxSlots}
 use Rattle.words.specs.Scan.{count}
-use Rattle.words.specs.Stores.{Store, stores}
+use Rattle.words.specs.Stores.{stores}
 use Rattle.words.specs.Journal.{pending, namesOk, nameOk, journal}
 use Rattle.words.proofs.Scan.{by-bool, count-le}
-use Rattle.words.proofs.Journal.{effective-idle}
-use Rattle.words.proofs.Names.{name-live, name-from}
+use Rattle.words.proofs.Plans.{Each}
+use Rattle.words.proofs.Names.{name-live, name-from, names-below}
+use Rattle.words.proofs.Places.{pendingAt-below}
 use Rattle.table.specs.Entry.{live}
 use Rattle.table.specs.Changes.{isChanged, entryChanges}
 use Rattle.table.specs.Marks.{cellIn, CellsOnce}
@@ -25,21 +26,20 @@ use Rattle.search.proofs.Domain.{depth-small}
 use Rattle.model.specs.State.{State}
 use Rattle.model.specs.Answer.{Report, refused, ended, ask, orElse, view, stepsOf}
 use Rattle.model.specs.Calls.{viewed, change, orRefuse}
-use Rattle.model.specs.Holdings.{named, innerCells, raisedCells, commit, commitChecks, commitEffect}
+use Rattle.model.specs.Holdings.{innerCells, raisedCells, commit, commitChecks, commitEffect}
 use Rattle.store.specs.Outcome.{Buffers, buffers, changePlan, outcome, leaves, perform, unless}
 use Rattle.store.specs.Checks.{storeCheck}
 use Rattle.store.specs.State.{stateIn, stateOf}
 use Rattle.store.specs.Means.{orRefused, callMeans}
-use Rattle.store.proofs.Checks.{ask-yes, orElse-both, orElse-go, store-shape, shape-facts, store-idle, store-table, table-rule}
+use Rattle.store.proofs.Checks.{ask-yes, orElse-both, orElse-go, store-shape, shape-facts}
 use Rattle.store.proofs.Checked.{checked-once, checked-fits}
 use Rattle.store.proofs.Outcome.{refuses}
-use Rattle.store.proofs.Domains.{state-named}
-use Rattle.store.proofs.Means.{seenOf, by-check, t-long, store-rule, store-state, store-standing, live-count}
+use Rattle.store.proofs.Means.{seenOf, by-check, store-standing, live-count}
+use Rattle.store.proofs.Raw.{live-within, raw-rule, raw-state, raw-named, raw-next, raw-after, raw-long}
 use Rattle.store.proofs.Changes.{words-performed, change-seen}
 use Rattle.store.proofs.Pending.{pendingAfter, afterPending, performed-pending, call-pending}
 use Rattle.commit.specs.Commit.{commitCheck, commitChange, commitWords, commitCall, commitMeans}
 use Rattle.commit.specs.Parts.{headWords, endingWords}
-use Rattle.commit.proofs.Taken.{live-taken, named-taken, changes-taken}
 use Rattle.commit.proofs.Merging.{commit-rule, commit-state-is}
 use Rattle.commit.proofs.Counting.{changes-are}
 
@@ -73,53 +73,38 @@ module _ (memory bodies t : List ℕ) (yes : storeCheck (length memory) (length 
   abbrev e : ℕ
   e = slotsOf (length t)
 
-  abbrev head : List ℕ
-  head = take (pairsAt (slotsOf (length t))) t
-
-  right : Rule (cellsOf (length memory)) (slotsOf (length t)) (bodiesOf (length bodies)) head
-  right = store-rule memory bodies t yes
-
-  pub live-small : live t ≤ maxLive
-  live-small = subst (λ (x : ℕ). x ≤ maxLive) (live-taken e t) (right .live)
-
   -- questions 5 and 6 are the model's
-  pub same-depth : (h : ℕ) → named h (stateOf (buffers memory bodies t)) ≡ depthNamed t h
-  same-depth h = ap (named h) (store-state memory bodies t yes) ∙ state-named e head bodies h ∙ named-taken e t h live-small
-
   pub same-checks : (h : ℕ) → ask (ltb 0 (depthNamed t h)) 5 (ask (eqb (depthNamed t h) (live t)) 6 0) ≡ commitChecks h (stateOf (buffers memory bodies t))
-  same-checks h = rw (same-depth h, live-count memory bodies t yes)
+  same-checks h = rw (raw-named memory bodies t yes h, live-count memory bodies t yes)
 
   module _ (some-live : 1 ≤ live t) where
-    long-head : pairsAt (slotsOf (length t)) ≤ length head
-    long-head = rw length-take (omega (arith, t-long memory bodies t yes))
+    names : namesOk (pairsAt (slotsOf (length t))) 0 (commitWords t) ≡ true
+    names = words-names t some-live (live-within (length memory) (length bodies) t yes)
 
-    head-live : 1 ≤ live head
-    head-live = rw (live-taken e t) some-live
+    below : Each (λ s. s .at < pairsAt (slotsOf (length t))) (commitWords t)
+    below = names-below (pairsAt e) 0 (commitWords t) (pendingAt-below e) names
 
-    same-words : endingWords e head (live head) ≡ commitWords t
+    whole-rule : Rule (cellsOf (length memory)) (slotsOf (length t)) (bodiesOf (length bodies)) (stores (commitWords t) t)
     unfolding commitWords
-    same-words = rw (live-taken e t, changes-taken e t (live t))
+    whole-rule = commit-rule (cellsOf (length memory)) e (bodiesOf (length bodies)) t (raw-rule memory bodies t yes) (raw-long memory bodies t yes) some-live
 
     -- the new table is right
     pub new-rule : Rule (cellsOf (length memory)) (slotsOf (length t)) (bodiesOf (length bodies)) (stores (commitWords t) (take (pairsAt (slotsOf (length t))) t))
-    new-rule =
-        subst (λ (ws : List Store). Rule (cellsOf (length memory)) e (bodiesOf (length bodies)) (stores ws head)) same-words
-        (commit-rule (cellsOf (length memory)) e (bodiesOf (length bodies)) head right long-head head-live)
+    new-rule = raw-next memory bodies t yes (commitWords t) below whole-rule
 
     -- and stands for the state without the innermost domain
     pub new-state : stateIn (slotsOf (length t)) (stores (commitWords t) (take (pairsAt (slotsOf (length t))) t)) bodies ≡ commit (stateOf (buffers memory bodies t))
+    unfolding commitWords
     new-state =
-        ap (λ (ws : List Store). stateIn e (stores ws head) bodies) (sym same-words)
-        ∙ commit-state-is (cellsOf (length memory)) e (bodiesOf (length bodies)) head right long-head head-live bodies
-        ∙ ap commit (sym (store-state memory bodies t yes))
+        raw-after memory bodies t yes (commitWords t) below whole-rule bodies
+        ∙ commit-state-is (cellsOf (length memory)) e (bodiesOf (length bodies)) t (raw-rule memory bodies t yes) (raw-long memory bodies t yes) some-live bodies
+        ∙ ap commit (sym (raw-state memory bodies t yes))
 
     -- as many words as the model says
     pub new-count : length (commitWords t)
         ≡ 2 + 2 * (innerCells (cellsOf (length memory)) (stateOf (buffers memory bodies t)) + raisedCells (cellsOf (length memory)) (stateOf (buffers memory bodies t)))
     new-count =
-        ap length (sym same-words)
-        ∙ length-append (headWords (live head)) (entryChanges e (commitChange e head (live head)))
-        ∙ rw (changes-count e (commitChange e head (live head)), changes-are (cellsOf (length memory)) e (bodiesOf (length bodies)) head right head-live bodies, store-state memory bodies t yes)
+        words-count t ∙ rw (changes-are (cellsOf (length memory)) e (bodiesOf (length bodies)) t (raw-rule memory bodies t yes) some-live bodies, raw-state memory bodies t yes)
 
     -- at most 70E + 32 steps
     pub commit-bound :
@@ -132,9 +117,6 @@ module _ (memory bodies t : List ℕ) (yes : storeCheck (length memory) (length 
 
     room : length (commitWords t) ≤ maxPairs (slotsOf (length t))
     room = omega (arith, words-few t)
-
-    names : namesOk (pairsAt (slotsOf (length t))) 0 (commitWords t) ≡ true
-    names = words-names t some-live live-small
 
     commit-seen : (k : ℕ) → seenOf (outcome (perform (changePlan (pairsAt (slotsOf (length t))) [] (commitWords t)) 0) k (buffers memory bodies t))
         ≡ viewed (change 0 (2 + 2 * (innerCells (cellsOf (length memory)) (stateOf (buffers memory bodies t)) + raisedCells (cellsOf (length memory)) (stateOf (buffers memory bodies t)))) 0
@@ -189,13 +171,6 @@ commit-pending h k b good =
 
 -- ---- what the code cites
 
--- a table that passes questions 1 to 4 has at most eight live domains
-pub live-within : (memory bodies : ℕ) (t : List ℕ) → storeCheck memory bodies t ≡ 0 → live t ≤ maxLive
-live-within memory bodies t passed =
-    let rule = table-rule memory bodies t (store-table memory bodies t passed) in
-    let same = effective-idle (pairsAt (slotsOf (length t))) t (store-idle memory bodies t passed) in
-    subst (λ (x : ℕ). x ≤ maxLive) (live-taken (slotsOf (length t)) t) (subst (λ (l : List ℕ). live l ≤ maxLive) same (rule .live))
-
 -- what passed questions tell, e being what the code took for the number of slots
 pub record Ready (memory e : ℕ) (t : List ℕ) : Type 0 where
   pub small : e ≤ maxSlots
@@ -240,10 +215,3 @@ module _ (m b t : List ℕ) (h k : ℕ) where
   commit-performed passed slots need made told =
       let same = ap (λ (x : ℕ). endingWords x t (live t)) slots in
       rw passed (words-performed 0 k (commitWords t) m b t slots same need made told)
-
--- question 5, by a depth that was found
-pub none-named : (r d : ℕ) → r ≡ d → r ≡ 0 → ltb 0 d ≡ false
-none-named r d p q = le-ltb 0 d (omega arith)
-
-pub some-named : (r d : ℕ) → r ≡ d → (r ≡ 0 → ⊥) → ltb 0 d ≡ true
-some-named r d p q = lt-ltb 0 d (omega (arith, q))

@@ -1,46 +1,25 @@
 -- Commit replaces as many words as the model says: two for each cell that the innermost domain holds, and two for each that its parent
 -- holds read-only and it read-write. Assumes nothing.
-use Prim.Native.Nat.{ℕ, zero, suc, _+_, _-_, _≤_, _<_}
-use mathlib.Core.Bool.{Bool, true, false, not, _&&_, _||_}
+use Prim.Native.Nat.{ℕ, _+_, _-_, _≤_}
+use mathlib.Core.Bool.{Bool, true, not, _&&_, _||_, and-true}
 use mathlib.Core.List.{List}
-use mathlib.Core.Path.{_≡_, refl, sym, ap, _∙_}
+use mathlib.Core.Path.{_≡_, sym, ap, _∙_}
 use native.Mathlib.Omega.{arith}
-use borrow.Author.Tests.{eq-eqb, ne-eqb, eqb-true, eqb-false, le-leb, lt-leb}
+use borrow.Author.Tests.{eqb-true, le-leb, lt-leb}
 use lib.Dec.{leb, eqb}
 use lib.ListN.{length}
 use Rattle.words.specs.Scan.{count}
-use Rattle.words.proofs.Scan.{by-bool, by-le, and-split, count-ext}
+use Rattle.words.proofs.Scan.{by-bool, by-le, and-split, count-ext, count-none, count-or}
 use Rattle.table.specs.Entry.{live, word1, depthOf, cellOf, writableOf, parent, findIn, holdsIn, writesIn, parentHas}
 use Rattle.table.specs.Changes.{isChanged}
-use Rattle.table.proofs.Entry.{find-hit, holds-found}
+use Rattle.table.proofs.Entry.{find-hit, holds-found, read-only}
 use Rattle.table.proofs.Rule.{Rule}
 use Rattle.search.proofs.Counts.{count-entries}
 use Rattle.model.specs.State.{State}
 use Rattle.model.specs.Holdings.{holdingAt, isHeld, heldWritable, heldReadOnly, innerCells, raisedCells}
 use Rattle.store.specs.State.{heldIn, stateIn}
-use Rattle.store.proofs.InUse.{count-none}
 use Rattle.store.proofs.Domains.{state-holding, state-zero, domains-count, held-holds, held-writable}
 use Rattle.commit.specs.Commit.{raises, commitChange}
-
--- of two tests that no number passes both
-pub count-either : (n : ℕ) (f g : ℕ → Bool) → ((k : ℕ) → k < n → f k ≡ true → g k ≡ true → ⊥) → count n (λ k. f k || g k) ≡ count n f + count n g
-unfolding count
-count-either zero f g h = refl
-count-either (suc n) f g h =
-    let rest : count n (λ k. f k || g k) ≡ count n f + count n g = count-either n f g (λ k l. h k (omega arith)) in
-    by-bool (f n)
-    (λ p.
-    by-bool (g n)
-    (λ q. absurd (h n (omega arith) p q))
-    (λ q. rw (p, q, rest) (omega arith)))
-    (λ p.
-    by-bool (g n)
-    (λ q. rw (p, q, rest) (omega arith))
-    (λ q. rw (p, q, rest)))
-
-and-true : (a : Bool) → (a && true) ≡ a
-and-true true = refl
-and-true false = refl
 
 module _ (e : ℕ) (t : List ℕ) (d : ℕ) where
   abbrev ofInner : ℕ → Bool
@@ -74,12 +53,6 @@ module _ (m e b : ℕ) (t : List ℕ) (ok : Rule m e b t) (some-live : 1 ≤ liv
       ∙ count-ext m (λ c. holdsIn e t (live t) c && true) (λ c. isHeld (holdingAt (S .domains) (length (S .domains)) c))
       (λ c l. and-true (holdsIn e t (live t) c) ∙ sym (ap isHeld (inner-holding c) ∙ held-holds e t bodies (live t) c))
 
-  bit : (w : ℕ) → not (eqb (writableOf w) 1) ≡ eqb (writableOf w) 0
-  bit w =
-      by-bool (eqb (writableOf w) 1)
-      (λ z. let q = eqb-true (writableOf w) 1 z in rw (z, ne-eqb (writableOf w) 0 (λ y. omega arith)))
-      (λ z. let q = eqb-false (writableOf w) 1 z in rw (z, eq-eqb (writableOf w) 0 (omega (arith, q))))
-
   -- of the parent's cell
   rising-cell : (c : ℕ) → 2 ≤ live t
       → (holdsIn e t (parent (live t)) c && stale e t (live t) (word1 e t (findIn e t (parent (live t)) c)))
@@ -91,7 +64,7 @@ module _ (m e b : ℕ) (t : List ℕ) (ok : Rule m e b t) (some-live : 1 ≤ liv
       (by-bool (holdsIn e t (live t - 1) c)
       (λ p.
       let hit = find-hit e t (live t - 1) c (holds-found e t (live t - 1) c p) in
-      rw (p, bit (word1 e t (findIn e t (live t - 1) c)), hit .1))
+      rw (p, read-only (word1 e t (findIn e t (live t - 1) c)), hit .1))
       (λ p. rw p))
 
   rising-count : count e (rising e t (live t)) ≡ raisedCells m (stateIn e t bodies)
@@ -112,7 +85,7 @@ module _ (m e b : ℕ) (t : List ℕ) (ok : Rule m e b t) (some-live : 1 ≤ liv
   pub changes-are : count e (λ i. isChanged (commitChange e t (live t) i)) ≡ innerCells m (stateIn e t bodies) + raisedCells m (stateIn e t bodies)
   changes-are =
       count-ext e (λ i. isChanged (commitChange e t (live t) i)) (λ i. ofInner e t (live t) i || rising e t (live t) i) (λ i l. changed-is e t (live t) i)
-      ∙ count-either e (ofInner e t (live t)) (rising e t (live t)) (λ i l p q.
+      ∙ count-or e (ofInner e t (live t)) (rising e t (live t)) (λ i l p q.
       let s = and-split (leb 2 (live t)) (eqb (depthOf (word1 e t i)) (parent (live t)) && stale e t (live t) (word1 e t i)) q in
       let r = and-split (eqb (depthOf (word1 e t i)) (parent (live t))) (stale e t (live t) (word1 e t i)) (s .1) in
       let x : depthOf (word1 e t i) ≡ live t = eqb-true _ _ p in

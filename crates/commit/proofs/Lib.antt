@@ -2,5 +2,4 @@
 pub mod Deciding
 pub mod Merging
 pub mod Counting
-pub mod Taken
 pub mod Committed

@@ -17,7 +17,7 @@ use Rattle.table.specs.Changes.{Change, put, newFirst, entryChanges}
 use Rattle.table.proofs.Entry.{names-make, find-hit, holds-true, holds-found}
 use Rattle.table.proofs.Made.{outward-made}
 use Rattle.table.proofs.Rule.{Rule, Used}
-use Rattle.table.proofs.Change.{only-one}
+use Rattle.table.proofs.Single.{only-one}
 use Rattle.table.proofs.Head.{endedWords, ended-low, first-remain}
 use Rattle.model.specs.State.{Label, readOnly, readWrite, Holding}
 use Rattle.model.specs.Holdings.{heldWritable, merged, commit}

@@ -9,9 +9,10 @@ use Rattle.words.specs.Journal.{openPlan}
 use Rattle.words.proofs.Scan.{by-bool, by-le}
 use Rattle.table.proofs.Checks.{lengths-facts}
 use Rattle.table.specs.Checks.{lengthsOk}
-use Rattle.model.specs.Answer.{Status, isDone, isStopped, isRefused, Report, done, refused, ended}
+use Rattle.model.specs.Answer.{isStopped, Report, done, refused, ended}
 use Rattle.model.specs.History.{Request}
 use Rattle.model.specs.Session.{Input, make, call, opening, write}
+use Rattle.model.proofs.Told.{Halted}
 use Rattle.store.specs.Outcome.{Buffers, inTable, Outcome, outcome, Call, refuse, perform}
 use Rattle.store.specs.Checks.{makeCheck, openCheck}
 use Rattle.store.specs.State.{slots}
@@ -26,27 +27,22 @@ use Rattle.demands.proofs.Calls.{facts}
 
 -- ---- by the length of the plan
 
-abbrev Halts : Status → Type 0
-Halts isDone = ⊥
-Halts isStopped = Unit {0}
-Halts isRefused = ⊥
-
 -- the steps made are at most n, and where the budget is n or more the call is not stopped
 pub record Bounded (n k : ℕ) (r : Report) : Type 0 where
   pub few : r .steps ≤ n
   pub whole : n ≤ k → r .status ≡ isStopped → ⊥
 
 no-steps : (n k : ℕ) → Bounded n k (done 0 0)
-no-steps n k = record { few = omega arith; whole = λ l e. subst Halts (sym e) tt }
+no-steps n k = record { few = omega arith; whole = λ l e. subst Halted (sym e) tt }
 
 no-call : (n k q : ℕ) → Bounded n k (refused q)
-no-call n k q = record { few = omega arith; whole = λ l e. subst Halts (sym e) tt }
+no-call n k q = record { few = omega arith; whole = λ l e. subst Halted (sym e) tt }
 
 ended-bounded : (n need h k : ℕ) → need ≤ n → Bounded n k (ended need h k)
 unfolding ended
 ended-bounded n need h k l =
     by-le need k
-    (λ g. rw (le-leb need k g) (record { few = l; whole = λ m e. subst Halts (sym e) tt }))
+    (λ g. rw (le-leb need k g) (record { few = l; whole = λ m e. subst Halted (sym e) tt }))
     (λ g. rw (lt-leb need k g) (record { few = omega arith; whole = λ m e. omega arith }))
 
 bounded : (n : ℕ) (c : Call) (k : ℕ) (b : Buffers) → Needs n c → Bounded n k ((outcome c k b) .report)

@@ -18,6 +18,7 @@ use Rattle.model.specs.Calls.{Effect, refuse, change, makeSteps, listed, viewed
 use Rattle.model.specs.History.{Request}
 use Rattle.model.specs.Session.{effectOf, memoryAfter, memoryAt, viewOf, Mixed}
 use Rattle.model.proofs.Views.{memory-whole, memory-mixed}
+use Rattle.model.proofs.Told.{Halted}
 use Rattle.store.specs.Outcome.{Buffers, buffers, inTable, perform, Outcome, outcome}
 use Rattle.store.specs.Checks.{makeCheck}
 use Rattle.store.specs.State.{stateOf, standing, slots}
@@ -37,7 +38,6 @@ use Rattle.demands.specs.Session.{callOn}
 use Rattle.demands.specs.Demands.{asked, opens, Found, not-made, wholly-made, lengthsRight, madeFrom, Demand2}
 use Rattle.demands.proofs.Seen.{call-means, call-passed}
 use Rattle.demands.proofs.Calls.{facts}
-use Rattle.demands.proofs.Theorem.{Halted}
 use Rattle.demands.proofs.Bounded.{input-bounded}
 use Rattle.demands.proofs.Stepping.{stepped, call-stepped}
 use Rattle.demands.proofs.Ready.{done-clears, done-ready, reached}

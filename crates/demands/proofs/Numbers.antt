@@ -6,10 +6,12 @@ use mathlib.Core.Path.{_≡_, refl, sym, ap, subst}
 use lib.Dec.{leb}
 use Rattle.words.proofs.Scan.{by-bool}
 use Rattle.model.specs.State.{State}
-use Rattle.model.specs.Answer.{Status, isDone, isStopped, isRefused, Report, ended, View, stepsOf}
+use Rattle.model.specs.Answer.{isRefused, Report, ended, View, stepsOf}
 use Rattle.model.specs.Calls.{Effect, refuse, change, viewedWith}
+use Rattle.model.specs.Restore.{viewedWith}
 use Rattle.model.specs.History.{Request}
 use Rattle.model.specs.Session.{Input, make, call, opening, write, effectOf, memoryAt, viewOf}
+use Rattle.model.proofs.Told.{Answered}
 use Rattle.store.specs.Outcome.{Buffers, Outcome}
 use Rattle.store.specs.State.{stateOf}
 use Rattle.store.specs.Means.{orRefused, makeMeans, openMeans, roomOf}
@@ -22,18 +24,13 @@ use Rattle.demands.proofs.Seen.{call-means, call-refusal}
 
 -- ---- reports
 
-abbrev Done : Status → Type 0
-Done isDone = Unit {0}
-Done isStopped = Unit {0}
-Done isRefused = ⊥
-
 -- a report that, if it is a refusal, has a question's number
 abbrev Numbered : Report → Type 0
 Numbered r = r .status ≡ isRefused → isQuestion (r .refusal) ≡ true
 
 ended-numbered : (need h k : ℕ) → Numbered (ended need h k)
 unfolding ended
-ended-numbered need h k = by-bool (leb need k) (λ t. rw t (λ e. absurd (subst Done e tt))) (λ t. rw t (λ e. absurd (subst Done e tt)))
+ended-numbered need h k = by-bool (leb need k) (λ t. rw t (λ e. absurd (subst Answered e tt))) (λ t. rw t (λ e. absurd (subst Answered e tt)))
 
 viewed-numbered : (e : Effect) (k : ℕ) (s : State) (m n : List ℕ) → FineEffect e → Numbered ((viewedWith e k s m n) .report)
 viewed-numbered (refuse q) k s m n f = λ e. f .number q refl
@@ -69,4 +66,4 @@ pub input-numbered : (i : Input) (b : Buffers) → (inputOn i b) .report .status
 input-numbered (make k) b = shown-numbered _ (makeMeans k b) (make-means k b) (make-numbered k b)
 input-numbered (call c k) b = call-numbered c k b
 input-numbered (opening k) b = shown-numbered _ (openMeans k b) (open-means k b) (open-numbered k b)
-input-numbered (write ws) b = λ e. absurd (subst Done e tt)
+input-numbered (write ws) b = λ e. absurd (subst Answered e tt)

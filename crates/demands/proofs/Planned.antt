@@ -11,7 +11,8 @@ use Rattle.words.specs.Stores.{Store, stores}
 use Rattle.table.specs.Entry.{nextHandle}
 use Rattle.search.specs.Domain.{depthNamed}
 use Rattle.search.proofs.Domain.{depth-small}
-use Rattle.model.specs.Answer.{Status, isDone, isStopped, isRefused, Report, done, refused, ended, orElse, stepsOf}
+use Rattle.model.specs.Answer.{isStopped, Report, done, refused, ended, orElse, stepsOf}
+use Rattle.model.proofs.Told.{Halted}
 use Rattle.store.specs.Outcome.{Buffers, Step, Call, refuse, perform, changePlan, unless, Outcome, leaves, outcome}
 use Rattle.store.specs.Checks.{storeCheck, createCheck}
 use Rattle.store.specs.State.{slots}
@@ -48,16 +49,11 @@ needs-unless n (suc q) c f = tt
 pub at-most : {x y n : ℕ} → x ≡ y → y ≤ n → x ≤ n
 at-most e l = omega arith
 
-abbrev Halts : Status → Type 0
-Halts isDone = ⊥
-Halts isStopped = Unit {0}
-Halts isRefused = ⊥
-
 -- a call that is stopped was not refused
 shaped-unless : (q : ℕ) (c : Call) (k : ℕ) (b : Buffers) → Shaped c b → (outcome (unless q c) k b) .report .status ≡ isStopped → Shaped (unless q c) b
 unfolding outcome
 shaped-unless zero c k b s e = s
-shaped-unless (suc q) c k b s e = absurd (subst Halts (sym e) tt)
+shaped-unless (suc q) c k b s e = absurd (subst Halted (sym e) tt)
 
 -- A call that ends at budget k as `at k`: it is a refusal or a plan of at most 70E + 32 stores, and where it is stopped its plan has that shape.
 pub record Planned (at : (k : ℕ) → Outcome) (b : Buffers) : Type 0 where

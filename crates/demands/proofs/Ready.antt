@@ -1,10 +1,10 @@
 -- A call that is done leaves nothing pending, and questions 1 to 4 are answered yes after it; and whatever a call leaves can be opened.
 -- Assumes nothing.
 use Prim.Native.Nat.{ℕ, zero, suc, _+_, _*_}
-use mathlib.Core.Bool.{Bool, true, false, cond, not, _&&_, true≢false, false≢true}
+use mathlib.Core.Bool.{Bool, true, false, not, true≢false, false≢true}
 use mathlib.Core.List.{List, [], _∷_}
 use mathlib.Core.Path.{_≡_, refl, sym, ap, subst, _∙_}
-use borrow.Author.Tests.{le-ltb, eq-eqb, leb-true}
+use borrow.Author.Tests.{le-ltb, eq-eqb, leb-true, le-leb}
 use lib.Dec.{leb, ltb}
 use lib.ListN.{length}
 use Rattle.words.specs.Layout.{cellsOf}
@@ -16,6 +16,7 @@ use Rattle.model.specs.Answer.{Status, isDone, isStopped, isRefused, Report, Vi
 use Rattle.model.specs.Calls.{Effect, refuse, change, fresh, makeSteps, openSteps, viewedWith}
 use Rattle.model.specs.History.{Request}
 use Rattle.model.specs.Session.{Input, make, call, opening, write, effectOf, memoryAt}
+use Rattle.model.proofs.Told.{Finished}
 use Rattle.store.specs.Outcome.{Buffers, buffers, outcome}
 use Rattle.store.specs.Checks.{openCheck, storeCheck}
 use Rattle.store.specs.State.{stateOf, slots}
@@ -25,29 +26,26 @@ use Rattle.store.proofs.Checks.{open-shape, open-table, store-opens}
 use Rattle.store.proofs.Means.{by-check}
 use Rattle.store.proofs.Standing.{standing-opens}
 use Rattle.store.proofs.Pending.{afterPending, leftPending, make-pending, open-pending-after}
+use Rattle.store.proofs.Reopened.{done-enough}
 use Rattle.demands.specs.Session.{callOn, inputOn, buffersAfter, wasStopped}
 use Rattle.demands.specs.Demands.{asked, opens, isCall, madeFrom, MakeDone, isCutMake, noCutMake}
 use Rattle.demands.proofs.Shape.{refused-kept, call-kept}
 use Rattle.demands.proofs.Calls.{facts}
 use Rattle.demands.proofs.Seen.{call-means, call-refusal, call-passed}
-use Rattle.demands.proofs.Steps.{viewed-stands, open-seen, open-refusal, still-opens, unstepped}
-use Rattle.demands.proofs.Theorem.{Told, make-passed, make-enough, make-stands, ended-enough}
+use Rattle.demands.proofs.Steps.{viewed-stands, open-seen, open-refusal, still-opens, unstepped, none-left}
+use Rattle.demands.proofs.Theorem.{make-passed, make-enough, make-stands}
 
 -- ---- nothing pending
 
 done-left : (e : Effect) (k : ℕ) (s : State) (m n : List ℕ) → (viewedWith e k s m n) .report .status ≡ isDone → afterPending e k ≡ 0
 done-left (refuse q) k s m n d = refl
 done-left (change x w h new) k s m n d =
-    let late : ltb k (stepsOf x w) ≡ false = le-ltb k (stepsOf x w) (leb-true (stepsOf x w) k (ended-enough (stepsOf x w) h k d)) in
-    none-left (ltb (x + 2 * w) k) (ltb k (stepsOf x w)) late
-  where
-    none-left : (early late : Bool) → late ≡ false → cond (early && late) w 0 ≡ 0
-    none-left true late z = rw z
-    none-left false late z = refl
+    let late : ltb k (stepsOf x w) ≡ false = le-ltb k (stepsOf x w) (done-enough (stepsOf x w) h k d) in
+    none-left w (ltb (x + 2 * w) k) (ltb k (stepsOf x w)) late
 
 call-clears : (c : Request) (k : ℕ) (b : Buffers) → (callOn c k b) .report .status ≡ isDone → leftPending (callOn c k b) ≡ 0
 call-clears c k b d =
-    let good : asked b ≡ 0 = call-passed c k b (λ r. subst Told (sym d ∙ r) tt) in
+    let good : asked b ≡ 0 = call-passed c k b (λ r. subst Finished (sym d ∙ r) tt) in
     facts c b .pends k good
     ∙ done-left (effectOf (roomOf b) (b .memory) c (stateOf b)) k (stateOf b) (b .memory) (memoryAt k c (stateOf b) (b .memory))
     (ap (λ (v : View). v .report .status) (sym (call-means c k b good)) ∙ d)
@@ -62,9 +60,9 @@ open-passed k b f =
 
 open-clears : (k : ℕ) (b : Buffers) → (outcome (openCall b) k b) .report .status ≡ isDone → leftPending (outcome (openCall b) k b) ≡ 0
 open-clears k b d =
-    let yes : opens b ≡ 0 = open-passed k b (λ r. subst Told (sym d ∙ r) tt) in
+    let yes : opens b ≡ 0 = open-passed k b (λ r. subst Finished (sym d ∙ r) tt) in
     let enough : leb (openSteps (pending (b .table))) k ≡ true =
-    ended-enough (openSteps (pending (b .table))) 0 k (ap (λ (v : View). v .report .status) (sym (open-seen k b yes)) ∙ d) in
+    le-leb _ k (done-enough (openSteps (pending (b .table))) 0 k (ap (λ (v : View). v .report .status) (sym (open-seen k b yes)) ∙ d)) in
     open-pending-after k b yes ∙ rw enough
 
 pub done-clears : (i : Input) (b : Buffers) → isCall i ≡ true → (inputOn i b) .report .status ≡ isDone → pending ((inputOn i b) .buffers .table) ≡ 0
@@ -124,8 +122,8 @@ ready memory bodies t o idle = rw (open-shape memory bodies t o, eq-eqb (pending
 done-opens : (i : Input) (b : Buffers) → isCall i ≡ true → (inputOn i b) .report .status ≡ isDone → opens ((inputOn i b) .buffers) ≡ 0
 done-opens (make k) b c d = standing-opens (madeFrom b k) fresh (make-stands k b d)
 done-opens (call c k) b _ d =
-    call-opens c k b (store-opens (length (b .memory)) (length (b .bodies)) (b .table) (call-passed c k b (λ r. subst Told (sym d ∙ r) tt)))
-done-opens (opening k) b c d = still-opens (cellsOf (length (b .memory))) k b (open-passed k b (λ r. subst Told (sym d ∙ r) tt))
+    call-opens c k b (store-opens (length (b .memory)) (length (b .bodies)) (b .table) (call-passed c k b (λ r. subst Finished (sym d ∙ r) tt)))
+done-opens (opening k) b c d = still-opens (cellsOf (length (b .memory))) k b (open-passed k b (λ r. subst Finished (sym d ∙ r) tt))
 done-opens (write ws) b c d = absurd (false≢true c)
 
 pub done-ready : (i : Input) (b : Buffers) → isCall i ≡ true → (inputOn i b) .report .status ≡ isDone → asked ((inputOn i b) .buffers) ≡ 0

@@ -4,10 +4,12 @@ use mathlib.Core.Bool.{true, false, false≢true}
 use mathlib.Core.Path.{_≡_, ap, subst, _∙_}
 use borrow.Author.Tests.{ne-eqb, eq-eqb}
 use Rattle.words.specs.Journal.{pending}
-use Rattle.model.specs.Answer.{Status, isDone, isStopped, isRefused, Report, refused, View}
+use Rattle.model.specs.Answer.{isRefused, Report, refused, View}
 use Rattle.model.specs.Calls.{Effect, refuse, viewedWith}
+use Rattle.model.specs.Restore.{viewedWith}
 use Rattle.model.specs.History.{add, delete, look, Request, changes, reads}
 use Rattle.model.specs.Session.{Input, make, call, opening, write, effectOf, memoryAt, viewOf}
+use Rattle.model.proofs.Told.{Finished}
 use Rattle.store.specs.Outcome.{Buffers, Outcome, outcome, leaves}
 use Rattle.store.specs.Checks.{shapeCheck, tableCheck, makeCheck, openCheck, storeCheck}
 use Rattle.store.specs.State.{stateOf}
@@ -22,11 +24,6 @@ use Rattle.demands.proofs.Seen.{call-means, call-refusal}
 use Rattle.demands.proofs.Steps.{open-refusal}
 use Rattle.demands.proofs.Numbers.{input-numbered}
 
-abbrev Done : Status → Type 0
-Done isDone = Unit {0}
-Done isStopped = ⊥
-Done isRefused = ⊥
-
 -- ---- a refusal leaves everything as lent
 
 refused-outcome : (o : Outcome) (q : ℕ) (b : Buffers) → o .report ≡ refused q → o .buffers ≡ b → o ≡ leaves (refused q) b
@@ -36,7 +33,7 @@ input-kept : (i : Input) (b : Buffers) → (inputOn i b) .report .status ≡ isR
 input-kept (make k) b e = refused-outcome _ _ b (refused-report _ k b e) (refused-kept _ k b e)
 input-kept (call c k) b e = refused-outcome _ _ b (call-report c k b e) (call-kept c k b e)
 input-kept (opening k) b e = refused-outcome _ _ b (refused-report _ k b e) (refused-kept _ k b e)
-input-kept (write ws) b e = absurd (subst Done e tt)
+input-kept (write ws) b e = absurd (subst Finished e tt)
 
 -- ---- questions 1 to 4
 

@@ -8,6 +8,7 @@ use Rattle.words.specs.Journal.{pending}
 use Rattle.words.proofs.Journal as law
 use Rattle.model.specs.Answer.{isDone, isStopped, View}
 use Rattle.model.specs.History.{Request}
+use Rattle.model.proofs.Told.{Halted}
 use Rattle.store.specs.Outcome.{Buffers, buffers, Outcome, outcome}
 use Rattle.store.specs.State.{standing}
 use Rattle.store.specs.Calls.{openCall, afterOpenings, openingAfter}
@@ -19,7 +20,6 @@ use Rattle.demands.specs.Session.{callOn}
 use Rattle.demands.specs.Demands.{asked, opens, Reopened}
 use Rattle.demands.proofs.Seen.{call-passed}
 use Rattle.demands.proofs.Steps.{open-seen, still-opens}
-use Rattle.demands.proofs.Theorem.{Halted}
 use Rattle.demands.proofs.Calls.{facts}
 use Rattle.demands.proofs.Ready.{call-opens}
 

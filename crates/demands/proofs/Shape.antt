@@ -1,16 +1,16 @@
 -- What holds of every call on every buffers by its plan: the lengths stay, and a refusal leaves everything as it is. Assumes nothing.
 use Prim.Native.Nat.{ℕ}
 use mathlib.Core.List.{List, [], _∷_}
-use mathlib.Core.Option.{Option, none, some}
+use mathlib.Core.Option.{none}
 use mathlib.Core.Path.{_≡_, refl, sym, ap, subst, _∙_}
 use lib.Dec.{leb, eqb·suc-zero}
 use lib.ListN.{length, take, length-set}
 use Rattle.words.proofs.Plans.{length-stores}
 use Rattle.words.proofs.Scan.{by-bool}
-use Rattle.model.specs.Answer.{Status, isDone, isStopped, isRefused, refused, ended}
-use Rattle.model.specs.State.{State}
+use Rattle.model.specs.Answer.{isRefused, refused, ended}
 use Rattle.model.specs.History.{Request}
 use Rattle.model.specs.Session.{Input, make, call, opening, write}
+use Rattle.model.proofs.Told.{Answered}
 use Rattle.store.specs.Outcome.{Buffers, buffers, Step, inMemory, inBodies, inTable, step, steps, Outcome, outcome, Call, refuse, perform}
 use Rattle.store.specs.Checks.{openCheck}
 use Rattle.store.specs.State.{standing}
@@ -56,11 +56,6 @@ input-alike (write ws) b = record { memory = length-stores ws (b .memory); bodie
 
 -- ---- refused: every buffer as lent
 
-abbrev Answered : Status → Type 0
-Answered isDone = Unit {0}
-Answered isStopped = Unit {0}
-Answered isRefused = ⊥
-
 ended-answers : (need h k : ℕ) → Answered ((ended need h k) .status)
 unfolding ended
 ended-answers need h k = by-bool (leb need k) (λ t. rw t tt) (λ t. rw t tt)
@@ -94,7 +89,3 @@ call-report c k b e =
 pub standing-none : (b : Buffers) (n : ℕ) → openCheck (length (b .memory)) (length (b .bodies)) (b .table) ≡ ℕ.suc n → standing b ≡ none
 unfolding standing
 standing-none b n e = rw (e, eqb·suc-zero n)
-
-abbrev pub None : Option State → Type 0
-None none = Unit {0}
-None (some s) = ⊥

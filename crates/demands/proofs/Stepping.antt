@@ -8,12 +8,12 @@ use lib.Seq.{take-nil}
 use Rattle.words.proofs.Scan.{by-le}
 use Rattle.model.specs.Answer.{isDone, isStopped, ended}
 use Rattle.model.specs.History.{Request}
+use Rattle.model.proofs.Told.{Finished, Halted}
 use Rattle.store.specs.Outcome.{Buffers, Step, steps, Outcome, outcome, Call, refuse, perform}
 use Rattle.store.proofs.Outcome.{one-store}
 use Rattle.store.proofs.Reopened.{done-enough}
 use Rattle.demands.specs.Session.{callOn}
 use Rattle.demands.specs.Demands.{Stepped}
-use Rattle.demands.proofs.Theorem.{Told, Halted}
 use Rattle.demands.proofs.Calls.{facts}
 
 done-steps : (need h k : ℕ) → (ended need h k) .status ≡ isDone → ((ended need h k) .steps ≡ need) × (need ≤ k)
@@ -24,7 +24,7 @@ stopped-steps : (need h k : ℕ) → (ended need h k) .status ≡ isStopped → 
 unfolding ended
 stopped-steps need h k e =
     by-le need k
-    (λ l. let d = rw (le-leb need k l) at e in absurd (subst Told d tt))
+    (λ l. let d = rw (le-leb need k l) at e in absurd (subst Finished d tt))
     (λ l. (rw (lt-leb need k l), l))
 
 pub stepped : (c : Call) (b : Buffers) → Stepped (λ k. outcome c k b) b
@@ -32,7 +32,7 @@ unfolding outcome
 stepped (refuse n) b = record {
   plan = [];
   made = λ k. sym (ap (λ (ss : List Step). steps ss b) (take-nil k));
-  done-all = λ k e. absurd (subst Told (sym e) tt);
+  done-all = λ k e. absurd (subst Finished (sym e) tt);
   stopped-short = λ k e. absurd (subst Halted (sym e) tt);
   one-more = λ k. one-store (refuse n) k b;
 }

@@ -28,11 +28,11 @@ use Rattle.store.specs.State.{stateOf, standing, slots}
 use Rattle.store.specs.Calls.{makeCall, openCall}
 use Rattle.store.specs.Means.{makeMeans, openMeans, roomOf}
 use Rattle.store.proofs.Means.{seenOf, by-check, make-means, open-means, store-standing}
-use Rattle.store.proofs.Standing.{is-standing, standing-opens}
+use Rattle.store.proofs.Standing.{is-standing, standing-opens, None}
 use Rattle.store.proofs.Pending.{afterPending, make-pending, open-pending-after}
 use Rattle.demands.specs.Session.{callOn, inputOn, wasStopped, isOpening}
 use Rattle.demands.specs.Demands.{asked, opens}
-use Rattle.demands.proofs.Shape.{Alike, call-alike, input-alike, refused-kept, call-kept, None, standing-none}
+use Rattle.demands.proofs.Shape.{Alike, call-alike, input-alike, refused-kept, call-kept, standing-none}
 use Rattle.demands.proofs.Calls.{facts}
 use Rattle.demands.proofs.Seen.{call-means, call-refusal}
 use Rattle.demands.proofs.Within.{store-within}
@@ -74,13 +74,18 @@ kept {b = b} {c = c} f a p = record {
 
 -- ---- a call
 
+-- nothing is left where the call is not stopped
+pub none-left : (w : ℕ) (early late : Bool) → late ≡ false → cond (early && late) w 0 ≡ 0
+none-left w true late z = rw z
+none-left w false late z = refl
+
 due-pends : (e : Effect) (k : ℕ) (b : Buffers) → pending (b .table) ≡ afterPending e k → opens b ≡ 0 → Pends (dueAfter e k) b
 due-pends (refuse n) k b p o = λ s q. p
 due-pends (change x w h new) k b p o =
     by-bool (leb (stepsOf x w) k)
     (λ t.
     let late : ltb k (stepsOf x w) ≡ false = le-ltb k (stepsOf x w) (leb-true (stepsOf x w) k t) in
-    rw t (λ s q. p ∙ none-left (ltb (x + 2 * w) k) (ltb k (stepsOf x w)) late))
+    rw t (λ s q. p ∙ none-left w (ltb (x + 2 * w) k) (ltb k (stepsOf x w)) late))
     (λ t.
     by-bool (ltb (x + 2 * w) k)
     (λ u.
@@ -88,10 +93,6 @@ due-pends (change x w h new) k b p o =
     rw (t, u) (o, some-left w (p ∙ rw (u, early)) (leb-false (stepsOf x w) k t) (ltb-true (x + 2 * w) k u)))
     (λ u. rw (t, u) (λ s q. p ∙ rw u)))
   where
-    none-left : (a c : Bool) → c ≡ false → cond (a && c) w 0 ≡ 0
-    none-left true c e = rw e
-    none-left false c e = refl
-
     some-left : (n : ℕ) → pending (b .table) ≡ n → k < stepsOf x n → x + 2 * n < k → (j : ℕ) × (pending (b .table) ≡ suc j)
     some-left zero e l m = absurd (omega arith)
     some-left (suc j) e l m = (j, e)

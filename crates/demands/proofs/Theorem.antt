@@ -6,7 +6,7 @@ use mathlib.Core.List.{List, [], _∷_, _++_, append-assoc, append-nil}
 use mathlib.Core.Option.{Option, none, some}
 use mathlib.Core.Path.{_≡_, refl, sym, ap, subst, _∙_}
 use native.Mathlib.Omega.{arith}
-use borrow.Author.Tests.{leb-true}
+use borrow.Author.Tests.{leb-true, le-leb}
 use lib.Dec.{leb, leb·zero, eqb·suc-zero}
 use lib.ListN.{length}
 use Rattle.words.specs.Layout.{cellsOf}
@@ -19,6 +19,7 @@ use Rattle.model.specs.Holdings.{named}
 use Rattle.model.specs.History.{restore, Event, called, opened, Observation, observed, Tracked, History, begun, observe, trackedAt, mismatches, countEvent, counts, historyAfter}
 use Rattle.model.specs.Session.{Input, make, call, opening, shown, effectOf, memoryAt, Due, nothingDue, dropDue, finishDue, world, Move, Session, end, next, afterMake, Agrees, atOpening}
 use Rattle.model.proofs.Demand as abstract
+use Rattle.model.proofs.Told.{Finished, Halted}
 use Rattle.store.specs.Outcome.{Buffers, Outcome, outcome}
 use Rattle.store.specs.Checks.{makeCheck}
 use Rattle.store.specs.State.{stateOf, standing, slots}
@@ -27,6 +28,7 @@ use Rattle.store.specs.Means.{makeMeans, roomOf}
 use Rattle.store.proofs.Means.{seenOf, by-check, make-means, store-standing}
 use Rattle.store.proofs.Standing.{is-standing}
 use Rattle.store.proofs.Pending.{make-pending}
+use Rattle.store.proofs.Reopened.{done-enough}
 use Rattle.demands.specs.Session.{callOn, inputOn, session, buffersAfter, wasStopped, isOpening, openingRule}
 use Rattle.demands.specs.Demands.{lengthsRight, asked, opens, madeFrom, MakeDone, Demand3, historyOf, historyNow, openings, allStopped, countsOf, CountsOne, Counted}
 use Rattle.demands.proofs.Shape.{input-alike, refused-kept}
@@ -35,11 +37,6 @@ use Rattle.demands.proofs.Seen.{call-means, call-passed}
 
 -- ---- from make
 
-abbrev pub Told : Status → Type 0
-Told isDone = Unit {0}
-Told isStopped = ⊥
-Told isRefused = ⊥
-
 -- only a make that passed question 1 and had the budget for all its steps is done
 pub make-passed : (k : ℕ) (b : Buffers) → MakeDone b k → lengthsRight b ≡ true
 unfolding makeMeans makeCheck
@@ -47,24 +44,17 @@ make-passed k b e =
     by-bool (lengthsRight b) (λ t. t)
     (λ t.
     let r : (makeMeans k b) .report .status ≡ isRefused = rw t in
-    absurd (subst Told (sym e ∙ ap (λ (v : View). v .report .status) (make-means k b) ∙ r) tt))
+    absurd (subst Finished (sym e ∙ ap (λ (v : View). v .report .status) (make-means k b) ∙ r) tt))
 
 make-view : (k : ℕ) (b : Buffers) → MakeDone b k → seenOf (outcome (makeCall b) k b) ≡ makeView (slots b) k (standing b) (b .memory)
 unfolding makeMeans makeCheck
 make-view k b e = make-means k b ∙ rw (make-passed k b e)
 
-pub ended-enough : (need h k : ℕ) → (ended need h k) .status ≡ isDone → leb need k ≡ true
-unfolding ended
-ended-enough need h k e = by-bool (leb need k) (λ t. t) (λ t. let r = rw t at e in absurd (subst Told (sym r) tt))
-
 pub make-enough : (k : ℕ) (b : Buffers) → MakeDone b k → leb (makeSteps (slots b)) k ≡ true
-make-enough k b e = ended-enough (makeSteps (slots b)) 0 k (ap (λ (v : View). v .report .status) (sym (make-view k b e)) ∙ e)
+make-enough k b e = le-leb _ k (done-enough (makeSteps (slots b)) 0 k (ap (λ (v : View). v .report .status) (sym (make-view k b e)) ∙ e))
 
 pub make-stands : (k : ℕ) (b : Buffers) → MakeDone b k → standing (madeFrom b k) ≡ some fresh
 make-stands k b e = ap (λ (v : View). v .state) (make-view k b e) ∙ rw (make-enough k b e)
-
-make-memory : (k : ℕ) (b : Buffers) → MakeDone b k → (madeFrom b k) .memory ≡ b .memory
-make-memory k b e = ap (λ (v : View). v .memory) (make-view k b e)
 
 abbrev cellsIn : Buffers → ℕ
 cellsIn b = cellsOf (length (b .memory))
@@ -86,14 +76,9 @@ make-exact k b e = let f = make-fits k b e in exact f ∙ ap (λ (n : ℕ). 64 *
 viewed-done : (e : Effect) (k : ℕ) (s : State) (m n : List ℕ) → (viewedWith e k s m n) .report .status ≡ isDone
     → (x : ℕ) × ((h : ℕ) × ((viewedWith e k s m n) .report ≡ done x h))
 unfolding ended
-viewed-done (refuse q) k s m n e = absurd (subst Told (sym e) tt)
+viewed-done (refuse q) k s m n e = absurd (subst Finished (sym e) tt)
 viewed-done (change b w h new) k s m n e =
-    by-bool (leb (stepsOf b w) k) (λ t. rw t (stepsOf b w, (h, refl))) (λ t. let r = rw t at e in absurd (subst Told (sym r) tt))
-
-abbrev pub Halted : Status → Type 0
-Halted isDone = ⊥
-Halted isStopped = Unit {0}
-Halted isRefused = ⊥
+    by-bool (leb (stepsOf b w) k) (λ t. rw t (stepsOf b w, (h, refl))) (λ t. let r = rw t at e in absurd (subst Finished (sym r) tt))
 
 -- with nothing pending an opening is never stopped, and takes no step
 pub idle-opening : (k : ℕ) (b : Buffers) → ((s : State) → standing b ≡ some s → pending (b .table) ≡ 0)
@@ -268,7 +253,7 @@ module _ (b : Buffers) (k : ℕ) (l : List Input) (h j : ℕ) (e : MakeDone b k)
       → EventCounts h (buffersAfter l (madeFrom b k)) (historyOf (madeFrom b k) l) (called (restore h) j isDone)
       ((callOn (restore h) j (buffersAfter l (madeFrom b k))) .buffers .memory) (historyOf (madeFrom b k) l)
   event-done d =
-      let z = call-passed (restore h) j last (λ r. subst Told (sym d ∙ r) tt) in
+      let z = call-passed (restore h) j last (λ r. subst Finished (sym d ∙ r) tt) in
       let seen-is = call-means (restore h) j last z in
       let v = viewed-done (effectOf (roomOf last) (last .memory) (restore h) (stateOf last)) j (stateOf last) (last .memory) (memoryAt j (restore h) (stateOf last) (last .memory))
       (ap (λ (v : View). v .report .status) (sym seen-is) ∙ d) in

@@ -4,7 +4,7 @@ use mathlib.Core.Bool.{true, false}
 use mathlib.Core.List.{List}
 use mathlib.Core.Path.{_≡_, refl, sym, ap, subst, _∙_}
 use native.Mathlib.Omega.{arith}
-use borrow.Author.Tests.{le-leb, lt-leb, leb-true, lt-ltb, le-ltb, ltb-true}
+use borrow.Author.Tests.{le-leb, lt-leb, leb-true, ltb-true}
 use lib.Dec.{ltb}
 use lib.ListN.{length}
 use Rattle.words.specs.Layout.{cellAt, cellsOf, bodiesOf, slotsOf, pairsAt, maxSlots, maxLive}
@@ -24,7 +24,7 @@ use Rattle.store.specs.Checks.{storeCheck}
 use Rattle.store.specs.State.{stateOf}
 use Rattle.store.proofs.Checks.{ask-yes, ask-rest, orElse-both, store-shape, shape-facts}
 use Rattle.store.proofs.Means.{by-check}
-use Rattle.store.proofs.Raw.{raw-named, check-rule}
+use Rattle.store.proofs.Raw.{raw-named, check-rule, live-within}
 use Rattle.store.proofs.Outermost.{store-bytes}
 use Rattle.look.specs.Look.{lookCheck, placeShown, placeIn, placedBy, lookPlace, placeReport, placePart, placeWithin, shownAt, orLookRefused, lookMeans}
 use Rattle.look.specs.declared.Place.{Place}
@@ -79,17 +79,7 @@ module _ (memory bodies : ℕ) (t : List ℕ) (h c : ℕ) where
         cell = range-below (cellsOf memory) c (ask-yes (rangeOk (cellsOf memory) c 1) 8 0 (omega arith) rest);
       }
 
--- question 5, by a depth that was found
-pub none-named : (r d : ℕ) → r ≡ d → r ≡ 0 → ltb 0 d ≡ false
-none-named r d p q = le-ltb 0 d (omega arith)
-
-pub some-named : (r d : ℕ) → r ≡ d → (r ≡ 0 → ⊥) → ltb 0 d ≡ true
-some-named r d p q = lt-ltb 0 d (omega (arith, q))
-
--- a table that passes questions 1 to 4 has at most eight live domains, and room for its slots
-pub live-within : (memory bodies : ℕ) (t : List ℕ) → storeCheck memory bodies t ≡ 0 → live t ≤ maxLive
-live-within memory bodies t pass = check-rule memory bodies t pass .live
-
+-- a table that passes questions 1 to 4 has room for its slots
 pub store-room : (memory bodies : ℕ) (t : List ℕ) → storeCheck memory bodies t ≡ 0 → (slotsOf (length t) ≤ maxSlots) × (pairsAt (slotsOf (length t)) ≤ length t)
 store-room memory bodies t pass =
     let f = shape-facts memory bodies t (store-shape memory bodies t pass) in

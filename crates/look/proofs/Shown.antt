@@ -1,6 +1,6 @@
 -- What look shows: the 64 bytes that restore of the same handle leaves in that cell, from bodies where a domain from the named one inwards holds
 -- the cell, else from memory. Assumes nothing.
-use Prim.Native.Nat.{ℕ, _+_, _-_, _*_, _≤_, _<_}
+use Prim.Native.Nat.{ℕ, _+_, _*_, _≤_, _<_}
 use mathlib.Core.Bool.{true, cond}
 use mathlib.Core.List.{List}
 use mathlib.Core.Path.{_≡_, refl, sym, ap, subst, _∙_}
@@ -18,10 +18,9 @@ use Rattle.words.proofs.Cells.{cellBytes-length}
 use Rattle.search.specs.Search.{heldFrom, bodyFrom}
 use Rattle.search.specs.Domain.{depthNamed}
 use Rattle.model.specs.State.{State}
-use Rattle.model.specs.Answer.{done, refused}
+use Rattle.model.specs.Answer.{refused}
 use Rattle.model.specs.Holdings.{named, isHeld, isLive, rangeOk}
-use Rattle.model.specs.Restore.{Looked, cellOfByte, placeInCell, outermost, restoredCell, restoredByte, restoredMemory, cellsPutBack, memoryAfterSteps}
-use Rattle.model.proofs.Views.{all-stored}
+use Rattle.model.specs.Restore.{Looked, cellOfByte, placeInCell, outermost, restoredCell, restoredByte, restoredMemory}
 use Rattle.store.specs.Outcome.{Buffers}
 use Rattle.store.specs.Checks.{storeCheck}
 use Rattle.store.specs.State.{slots, stateOf}
@@ -31,19 +30,13 @@ use Rattle.store.proofs.Outermost.{store-held}
 use Rattle.look.specs.Look.{lookCheck, lookPlace, placePart, placeWithin, lookMeans, placeByState}
 use Rattle.look.specs.declared.Place.{Place}
 use Rattle.look.specs.declared.Place.the-variants.{Memory, Bodies}
-use Rattle.look.proofs.Placing.{Passed, check-passed, place-memory, place-bodies, place-shown, look-refused, look-placed, look-means, look-within, answer-refused, answer-done}
+use Rattle.look.proofs.Placing.{Passed, check-passed, place-memory, place-bodies, place-shown, look-refused, look-placed, look-means, look-within}
 
 -- look's number, of its buffers
 abbrev pub checked : (h c : ℕ) → Buffers → ℕ
 checked h c b = lookCheck (length (b .memory)) (length (b .bodies)) (b .table) h c
 
--- ---- the answer and the length of the part
-
-pub look-report : (h c : ℕ) (b : Buffers) → lookMeans h c b .report ≡ cond (eqb (checked h c b) 0) (done 0 0) (refused (checked h c b))
-look-report h c b =
-    by-bool (eqb (checked h c b) 0)
-    (λ z. rw z (sym (answer-done h c b (eqb-true (checked h c b) 0 z))))
-    (λ z. rw z (sym (answer-refused h c (checked h c b) b refl (eqb-false (checked h c b) 0 z))))
+-- ---- the length of the part
 
 shown-part : (h c : ℕ) (b : Buffers) → lookMeans h c b .part ≡ placePart (lookPlace h c b) b
 shown-part h c b = ap (λ (l : Looked). l .part) (sym (look-means h c b))
@@ -100,15 +93,12 @@ module _ (h c : ℕ) (b : Buffers) (pass : checked h c b ≡ 0) where
   passed : Passed (length (b .memory)) (length (b .bodies)) (b .table) h c
   passed = check-passed (length (b .memory)) (length (b .bodies)) (b .table) h c pass
 
-  same-depth : named h (stateOf b) ≡ depthNamed (b .table) h
-  same-depth = raw-named (b .memory) (b .bodies) (b .table) (passed .store) h
-
   part-is : lookMeans h c b .part ≡ restoredCell (named h (stateOf b)) (stateOf b) (b .memory) c
   part-is =
       shown-part h c b
       ∙ ap (λ (p : Place). placePart p b) (look-placed h c b pass)
       ∙ ap (λ (l : Looked). l .part) (place-shown (b .memory) (b .bodies) (b .table) h c (passed .store) (passed .live))
-      ∙ ap (λ (d : ℕ). restoredCell d (stateOf b) (b .memory) c) (sym same-depth)
+      ∙ ap (λ (d : ℕ). restoredCell d (stateOf b) (b .memory) c) (sym (raw-named (b .memory) (b .bodies) (b .table) (passed .store) h))
 
   exact : length (b .memory) ≡ 64 * cellsOf (length (b .memory))
   exact = shape-facts (length (b .memory)) (length (b .bodies)) (b .table) (store-shape (length (b .memory)) (length (b .bodies)) (b .table) (passed .store)) .memory-exact
@@ -118,13 +108,6 @@ module _ (h c : ℕ) (b : Buffers) (pass : checked h c b ≡ 0) where
   look-restores =
       let size : length (restoredCell (named h (stateOf b)) (stateOf b) (b .memory) c) ≡ 64 = ap length (sym part-is) ∙ look-length h c b ∙ rw pass in
       part-is ∙ sym (restored-cell (named h (stateOf b)) c (stateOf b) (b .memory) (omega (arith, exact, passed .cell)) size)
-
-  -- and so of a restore of the same handle with any budget that reaches past its bytes
-  pub look-after-bytes : (k : ℕ) → 64 * cellsPutBack (cellsOf (length (b .memory))) (named h (stateOf b)) (stateOf b) ≤ k
-      → lookMeans h c b .part ≡ cellBytes (memoryAfterSteps k (named h (stateOf b)) (stateOf b) (b .memory)) c
-  look-after-bytes k l =
-      look-restores
-      ∙ ap (λ (s : List ℕ). cellBytes s c) (sym (all-stored (cellsOf (length (b .memory))) k (named h (stateOf b)) (stateOf b) (b .memory) exact l))
 
 -- ---- "a part of the lent bodies, or of the lent memory where nobody from that domain inwards holds the cell": which of them, and at which offset
 

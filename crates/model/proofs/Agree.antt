@@ -5,15 +5,16 @@ use mathlib.Core.List.{List, [], _∷_, _++_}
 use mathlib.Core.Option.{Option, none, some}
 use mathlib.Core.Path.{_≡_, refl, sym, ap, subst, _∙_}
 use native.Mathlib.Omega.{arith}
-use borrow.Author.Tests.{leb-true, ltb-true, eqb-true}
-use lib.Dec.{leb, ltb, eqb}
+use borrow.Author.Tests.{eqb-true}
+use lib.Dec.{eqb}
 use lib.ListN.{length, getD, take}
 use Rattle.words.specs.Cells.{cellBytes, sameCell}
-use Rattle.words.proofs.Scan.{all-at, and-split}
+use Rattle.words.proofs.Scan.{all-at}
 use Rattle.model.specs.State.{Label, readOnly, readWrite, Kind, copy, viaParent, Holding, Domain, State}
 use Rattle.model.specs.Holdings.{deeper, depthIn, named, holdingAt, isHeld, valueOr, onDepth, onInnermost, onCommit, holding, inRange, raised, added, givenValue, addTo, parentSame, advanced, merged}
 use Rattle.model.specs.History.{Kept, Tracked, inner, depthOf, namedBy, turned, atDepth, atInnermost, intoParent, entered, addTracked, deleteAround, renewed, advanceTracked, joined, commitTracked, writeLine, excludeAfter, excludeInside}
 use Rattle.model.specs.Session.{SameCell, SameDomains, none-left, same}
+use Rattle.model.proofs.Ranges.{range-both}
 
 -- ---- handles
 
@@ -77,9 +78,6 @@ not-held : (o : Option Holding) (b : Bool) → (isHeld o || b) ≡ true → o �
 not-held none b t e = t
 not-held (some h) b t e = absurd (let z : _≡_ {A = ℕ} 0 1 = cc in omega arith)
 
-in-range : (first n c : ℕ) → inRange first n c ≡ true → (first ≤ c) × (c < first + n)
-in-range first n c e = let p = and-split (leb first c) (ltb c (first + n)) e in (leb-true first c (p .0), ltb-true c (first + n) (p .1))
-
 bytes-same : (a b : List ℕ) → sameCell a b ≡ true → (i : ℕ) → i < 64 → getD a i 0 ≡ getD b i 0
 unfolding sameCell
 bytes-same a b e i l = eqb-true (getD a i 0) (getD b i 0) (all-at 64 (λ (k : ℕ). eqb (getD a k 0) (getD b k 0)) e i l)
@@ -90,7 +88,7 @@ given-same : (memory : List ℕ) (first n c : ℕ) (k : Kind) (s : State) → (k
     → getD (givenValue k memory (holdingAt (s .domains) (length (s .domains) - 1) c) c) j 0 ≡ getD (cellBytes memory c) j 0
 given-same memory first n c copy s q r e j l = refl
 given-same memory first n c viaParent s q r e j l =
-    let b = in-range first n c r in
+    let b = range-both first n c r in
     let lo : first ≤ c = b .0 in
     let hi : c < first + n = b .1 in
     let at : first + (c - first) ≡ c = omega arith in

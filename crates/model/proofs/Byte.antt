@@ -16,11 +16,6 @@ pub data Hold : Type 0 where
 -- ---- lists, outermost first
 
 module _ {A B : Type 0} (k : A → B) where
-  pub map-take : (i : ℕ) (l : List A) → map k (take i l) ≡ take i (map k l)
-  map-take zero l = refl
-  map-take (suc i) [] = refl
-  map-take (suc i) (a ∷ l) = rw (map-take i l)
-
   pub map-atInnermost : (f : A → A) (g : B → B) → ((a : A) → k (f a) ≡ g (k a)) → (l : List A) → map k (atInnermost f l) ≡ atInnermost g (map k l)
   map-atInnermost f g e [] = refl
   map-atInnermost f g e (a ∷ []) = rw (e a)
@@ -43,11 +38,6 @@ addH true true v free = wr v
 addH true false v (ro w) = ro w
 addH true true v (ro w) = wr w
 addH true l v (wr w) = wr w
-
--- delete
-abbrev pub dropH : Bool → Hold → Hold
-dropH true h = free
-dropH false h = h
 
 -- advance
 abbrev pub advH : ℕ → Hold → Hold

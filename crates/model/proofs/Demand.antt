@@ -1,7 +1,7 @@
 -- DEMAND 3 over abstract states: in every session every count is 0. And against an empty count: the history agrees with the state throughout, and
 -- every restore that is done, of a domain not excluded, is counted. Assumes nothing.
 use Prim.Native.Nat.{ℕ, zero, suc, _*_, _≤_, _<_}
-use mathlib.Core.Bool.{Bool, true, false, cond, _||_, true≢false}
+use mathlib.Core.Bool.{Bool, true, false, cond}
 use mathlib.Core.List.{List, [], _∷_, _++_, map}
 use mathlib.Core.Logic.{_⊎_, inl, inr}
 use mathlib.Core.Option.{Option, none, some}
@@ -13,7 +13,7 @@ use lib.Dec.{leb, eqb, eqb·suc-zero}
 use lib.ListN.{length, getD}
 use lib.Seq.{getD-set-other}
 use Rattle.words.specs.Stores.{Store, store, stores}
-use Rattle.words.proofs.Scan.{by-bool}
+use Rattle.words.proofs.Scan.{by-bool, or-split}
 use Rattle.words.proofs.Plans.{length-stores}
 use Rattle.model.specs.State.{Domain, State}
 use Rattle.model.specs.Answer.{isDone, isStopped, Report, done}
@@ -69,12 +69,8 @@ halted room (reads r) s new m now n b w h e d z = sound-waiting (some (reads r))
 kept-byte : (ws : List Store) (m : List ℕ) (x : ℕ) → isIn x (map (λ w. w .at) ws) ≡ false → getD (stores ws m) x 0 ≡ getD m x 0
 kept-byte [] m x e = refl
 kept-byte (w ∷ ws) m x e =
-    let o = split (eqb x (w .at)) (isIn x (map (λ v. v .at) ws)) e in
+    let o = or-split (eqb x (w .at)) (isIn x (map (λ v. v .at) ws)) e in
     kept-byte ws (store w m) x (o .1) ∙ getD-set-other m (w .at) x (w .val) 0 (eqb-false x (w .at) (o .0))
-  where
-    split : (a b : Bool) → (a || b) ≡ false → (a ≡ false) × (b ≡ false)
-    split true b e = absurd (true≢false e)
-    split false b e = (refl, e)
 
 write-sound : (s : State) (m : List ℕ) (n : History) (ws : List Store) → Sound s m n
     → Sound s (stores ws m) (withDomains (writeLine (map (λ w. w .at) ws) (n .domains)) n)

@@ -1,15 +1,9 @@
 -- What a call that is not refused has passed, and what it leaves. Assumes nothing.
-use Prim.Native.Nat.{ℕ, zero, suc, _<_}
-use mathlib.Core.Bool.{Bool, true, false}
+use Prim.Native.Nat.{ℕ, zero, suc}
 use mathlib.Core.Path.{_≡_, refl}
 use native.Mathlib.Omega.{arith}
 use Rattle.model.specs.State.{State}
-use Rattle.model.specs.Answer.{ask}
 use Rattle.model.specs.Calls.{change, orRefuse}
-
-pub ask-yes : (b : Bool) (n rest : ℕ) → 0 < n → ask b n rest ≡ 0 → (b ≡ true) × (rest ≡ 0)
-ask-yes true n rest l e = (refl, e)
-ask-yes false n rest l e = absurd (omega arith)
 
 -- every question was answered yes, and bytes, words and state are those of the call
 pub record Passed (q b w b′ w′ : ℕ) (t new : State) : Type 0 where

@@ -19,7 +19,7 @@ use Rattle.model.specs.Holdings.{holdingAt, isHeld, isWritable, heldWrit
 use Rattle.model.specs.Holdings.{advance as advanceState}
 use Rattle.model.specs.Restore.{restored, endedDomains, freedEntries, restoreWords}
 use Rattle.model.specs.Session.{Within}
-use Rattle.model.proofs.Effects.{ask-yes}
+use Rattle.model.proofs.Asking.{ask-yes, ask-rest}
 
 -- ---- counts of none
 
@@ -90,9 +90,8 @@ delete-some m h first n s q = go (isLive h s) (leb (first + n) m) _ q
   where
     go : (a b : Bool) (rest : ℕ) → ask a 5 (ask (leb 1 n && b) 8 rest) ≡ 0 → 1 ≤ n
     go a b rest q =
-        let q5 = ask-yes a 5 (ask (leb 1 n && b) 8 rest) (omega arith) q in
-        let q8 = ask-yes (leb 1 n && b) 8 rest (omega arith) (q5 .1) in
-        leb-true 1 n (and-split (leb 1 n) b (q8 .0) .0)
+        let q8 = ask-rest a 5 (ask (leb 1 n && b) 8 rest) (omega arith) q in
+        leb-true 1 n (and-split (leb 1 n) b (ask-yes (leb 1 n && b) 8 rest (omega arith) q8) .0)
 
 -- ---- advance
 

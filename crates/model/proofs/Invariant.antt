@@ -1,29 +1,26 @@
 -- The invariant over a history's domains at one byte x, with m the byte that memory has there, and every line keeps it. Assumes nothing.
 use Prim.Native.Nat.{ℕ, zero, suc, _<_}
-use mathlib.Core.Bool.{Bool, true, false, cond, not, _&&_, _||_, true≢false}
+use mathlib.Core.Bool.{Bool, true, false, cond, not, _&&_, true≢false}
 use mathlib.Core.List.{List, [], _∷_, _++_, map-append}
 use mathlib.Core.Logic.{_⊎_, inl, inr}
 use mathlib.Core.Option.{some}
-use mathlib.Core.Path.{_≡_, refl, ap, _∙_}
-use native.Mathlib.Omega.{arith}
+use mathlib.Core.Path.{_≡_, refl, ap, _∙_, sym}
 use borrow.Author.Tests.{eq-eqb}
 use lib.Dec.{eqb}
 use lib.ListN.{length, getD, take}
 use Rattle.words.specs.Scan.{count}
+use Rattle.words.proofs.Scan.{or-split, count-none}
+use Rattle.words.proofs.Plans.{take-map}
 use Rattle.model.specs.State.{Label}
 use Rattle.model.specs.History.{Tracked, mayWrite, atInnermost, intoParent, newDomain, addTracked, bytesOf, deleteAround, advanceTracked, commitTracked, isIn, anyWritable, writeLine, excludeAfter, differs, mismatches, trackedAt, countOf}
 use Rattle.model.specs.Restore.{cellOfByte}
 use Rattle.model.specs.Session.{AllZero}
-use Rattle.model.proofs.Byte.{Hold, addH, advH, mergeH, backAt, anyWr, Covered, good, map-take, map-atInnermost, map-intoParent, good-back, good-restore, good-mix, good-create, good-write, good-add, good-commit, good-advance, good-own, good-by}
+use Rattle.model.proofs.Byte.{Hold, addH, advH, mergeH, backAt, anyWr, Covered, good, map-atInnermost, map-intoParent, good-back, good-restore, good-mix, good-create, good-write, good-add, good-commit, good-advance, good-own, good-by}
 use Rattle.model.proofs.Bytes.{byteIn, keptAt, add-byte, delete-byte, advance-byte, commit-byte, any-writable}
 
 abbrev pub Inv : ℕ → ℕ → List Tracked → Type 0
 Inv x m [] = Unit {0}
 Inv x m (q ∷ qs) = (q .excluded ≡ false → q .unprotected x ≡ false → good false (getD (q .snapshot) x 0) m (keptAt x (q ∷ qs))) × Inv x m qs
-
-or-false : (b s : Bool) → (b || s) ≡ false → (b ≡ false) × (s ≡ false)
-or-false true s e = absurd (true≢false e)
-or-false false s e = (refl, e)
 
 -- ---- create
 
@@ -65,12 +62,12 @@ pub inv-delete : (x m first n d : ℕ) (qs : List Tracked) → Inv x m qs → In
 inv-delete x m first n d [] v = tt
 inv-delete x m first n zero (q ∷ qs) v = v
 inv-delete x m first n (suc zero) (q ∷ qs) v = (
-  λ e s. let o = or-false (bytesOf first n x) (q .unprotected x) s in
+  λ e s. let o = or-split (bytesOf first n x) (q .unprotected x) s in
       good-by (getD (q .snapshot) x 0) m (kept-delete x first n 1 (q ∷ qs) (o .0)) (v .0 e (o .1)),
   v .1,
 )
 inv-delete x m first n (suc (suc d)) (q ∷ qs) v = (
-  λ e s. let o = or-false (bytesOf first n x) (q .unprotected x) s in
+  λ e s. let o = or-split (bytesOf first n x) (q .unprotected x) s in
       good-by (getD (q .snapshot) x 0) m (kept-delete x first n (suc (suc d)) (q ∷ qs) (o .0)) (v .0 e (o .1)),
   inv-delete x m first n (suc d) qs (v .1),
 )
@@ -118,7 +115,7 @@ pub inv-restore : (x m i : ℕ) (qs : List Tracked) → Inv x m qs → Inv x (ba
 inv-restore x m i [] v = tt
 inv-restore x m zero (q ∷ qs) v = (λ e s. good-restore false (getD (q .snapshot) x 0) m zero (keptAt x (q ∷ qs)) (v .0 e s), tt)
 inv-restore x m (suc i) (q ∷ qs) v = (
-  λ e s. good-by (getD (q .snapshot) x 0) (backAt i m (keptAt x qs)) (map-take (byteIn x) (suc (suc i)) (q ∷ qs))
+  λ e s. good-by (getD (q .snapshot) x 0) (backAt i m (keptAt x qs)) (sym (take-map (byteIn x) (suc (suc i)) (q ∷ qs)))
       (good-restore false (getD (q .snapshot) x 0) m (suc i) (keptAt x (q ∷ qs)) (v .0 e s)),
   inv-restore x m i qs (v .1),
 )
@@ -167,7 +164,7 @@ write-good p m n r w hs a k (inr e) g = good-write false p m n hs (a ∙ e) g
 pub inv-write : (x m n : ℕ) (places : List ℕ) (qs : List Tracked) → (isIn x places ≡ false → n ≡ m) → Inv x m qs → Inv x n (writeLine places qs)
 inv-write x m n places [] k v = tt
 inv-write x m n places (q ∷ qs) k v = (
-  λ e s. let o = or-false (isIn x places && not (anyWritable (cellOfByte x) (q ∷ qs))) (q .unprotected x) s in
+  λ e s. let o = or-split (isIn x places && not (anyWritable (cellOfByte x) (q ∷ qs))) (q .unprotected x) s in
       good-by (getD (q .snapshot) x 0) n (kept-write x places (q ∷ qs))
       (write-good (getD (q .snapshot) x 0) m n (isIn x places) (anyWritable (cellOfByte x) (q ∷ qs)) (keptAt x (q ∷ qs)) (any-writable x (q ∷ qs)) k
       (write-one (isIn x places) (anyWritable (cellOfByte x) (q ∷ qs)) (o .0)) (v .0 e (o .1))),
@@ -175,11 +172,6 @@ inv-write x m n places (q ∷ qs) k v = (
 )
 
 -- ---- the count
-
-count-none : (n : ℕ) (f : ℕ → Bool) → ((x : ℕ) → x < n → f x ≡ false) → count n f ≡ 0
-unfolding count
-count-none zero f e = refl
-count-none (suc n) f e = rw (e n (omega arith)) (count-none n f (λ x l. e x (omega arith)))
 
 differs-one : (s : Bool) (a b : ℕ) → (s ≡ false → a ≡ b) → (not s && not (eqb a b)) ≡ false
 differs-one true a b e = refl

@@ -1,4 +1,7 @@
 -- The laws of the model: demand 3 over abstract states, and that what the calls leave to be seen is what sessions allow.
+pub mod Asking
+pub mod Told
+pub mod Ranges
 pub mod Effects
 pub mod Byte
 pub mod Agree

@@ -21,7 +21,7 @@ use Rattle.model.specs.Session.{Mixed, next, AllZero, SameDomains, none-
 use Rattle.model.proofs.Byte.{backAt}
 use Rattle.model.proofs.Agree.{agree-length, agree-named, agree-create, at-length, agree-add, agree-delete, agree-advance, agree-commit, agree-take, agree-inside}
 use Rattle.model.proofs.Bytes.{keptAt, agree-bytes, restored-byte, covered}
-use Rattle.model.proofs.Effects.{ask-yes}
+use Rattle.model.proofs.Asking.{ask-yes, ask-rest}
 use Rattle.model.proofs.Invariant.{Inv, inv-create, inv-add, inv-delete, inv-advance, inv-commit, inv-restore, inv-stopped, count-restored}
 
 -- ---- what a call that is not refused has passed
@@ -29,18 +29,17 @@ use Rattle.model.proofs.Invariant.{Inv, inv-create, inv-add, inv-delete
 -- questions 6 and 12 of add, 15 of advance
 add-asked : (a b c d e f : Bool) (rest : ℕ) → ask a 5 (ask b 6 (ask c 7 (ask d 8 (ask e 11 (ask f 12 rest))))) ≡ 0 → (b ≡ true) × (f ≡ true)
 add-asked a b c d e f rest q =
-    let q5 = ask-yes a 5 (ask b 6 (ask c 7 (ask d 8 (ask e 11 (ask f 12 rest))))) (omega arith) q in
-    let q6 = ask-yes b 6 (ask c 7 (ask d 8 (ask e 11 (ask f 12 rest)))) (omega arith) (q5 .1) in
-    let q7 = ask-yes c 7 (ask d 8 (ask e 11 (ask f 12 rest))) (omega arith) (q6 .1) in
-    let q8 = ask-yes d 8 (ask e 11 (ask f 12 rest)) (omega arith) (q7 .1) in
-    let q11 = ask-yes e 11 (ask f 12 rest) (omega arith) (q8 .1) in
-    (q6 .0, ask-yes f 12 rest (omega arith) (q11 .1) .0)
+    let q6 = ask-rest a 5 (ask b 6 (ask c 7 (ask d 8 (ask e 11 (ask f 12 rest))))) (omega arith) q in
+    let q7 = ask-rest b 6 (ask c 7 (ask d 8 (ask e 11 (ask f 12 rest)))) (omega arith) q6 in
+    let q8 = ask-rest c 7 (ask d 8 (ask e 11 (ask f 12 rest))) (omega arith) q7 in
+    let q11 = ask-rest d 8 (ask e 11 (ask f 12 rest)) (omega arith) q8 in
+    let q12 = ask-rest e 11 (ask f 12 rest) (omega arith) q11 in
+    (ask-yes b 6 (ask c 7 (ask d 8 (ask e 11 (ask f 12 rest)))) (omega arith) q6, ask-yes f 12 rest (omega arith) q12)
 
 advance-asked : (a b c : Bool) (rest : ℕ) → ask a 5 (ask b 6 (ask c 15 rest)) ≡ 0 → c ≡ true
 advance-asked a b c rest q =
-    let q5 = ask-yes a 5 (ask b 6 (ask c 15 rest)) (omega arith) q in
-    let q6 = ask-yes b 6 (ask c 15 rest) (omega arith) (q5 .1) in
-    ask-yes c 15 rest (omega arith) (q6 .1) .0
+    let q6 = ask-rest a 5 (ask b 6 (ask c 15 rest)) (omega arith) q in
+    ask-yes c 15 rest (omega arith) (ask-rest b 6 (ask c 15 rest) (omega arith) q6)
 
 -- ---- a state, memory and a history that go together
 
@@ -135,8 +134,7 @@ pub record Depth (h : ℕ) (s : State) (qs : List Tracked) : Type 0 where
 
 pub depth : (h : ℕ) (s : State) (qs : List Tracked) → restoreChecks h s ≡ 0 → SameDomains (s .domains) qs → Depth h s qs
 depth h s qs q a =
-    let q5 = ask-yes (isLive h s) 5 0 (omega arith) q in
-    let l : 0 < named h s = ltb-true 0 (named h s) (q5 .0) in
+    let l : 0 < named h s = ltb-true 0 (named h s) (ask-yes (isLive h s) 5 0 (omega arith) q) in
     let e : suc (named h s - 1) ≡ named h s = omega arith in
     record { place = named h s - 1; in-state = e; in-history = e ∙ agree-named h s qs a }
 

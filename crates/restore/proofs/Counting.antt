@@ -1,7 +1,7 @@
 -- Restore stores as many bytes and replaces as many words as the model says: 64 bytes for each cell that the named domain or one inside it
 -- holds; and where domains end, two words for each of their entries, one for each of them, and word 4. Assumes nothing.
 use Prim.Native.Nat.{ℕ, zero, suc, _+_, _-_, _*_, _≤_, _<_}
-use mathlib.Core.Bool.{Bool, true, false, _&&_, _||_}
+use mathlib.Core.Bool.{Bool, true, false, _&&_, _||_, and-true}
 use mathlib.Core.List.{List, [], _∷_}
 use mathlib.Core.Option.{Option, none, some}
 use mathlib.Core.Path.{_≡_, refl, sym, ap, _∙_}
@@ -13,7 +13,7 @@ use lib.ListN.{length, drop, length-append}
 use Rattle.words.specs.Layout.{slotsOf, pairsAt, liveAt, handleAt, maxLive}
 use Rattle.words.specs.Scan.{count}
 use Rattle.words.specs.Stores.{_≔_, tabFrom}
-use Rattle.words.proofs.Scan.{by-bool, count-ext, count-le}
+use Rattle.words.proofs.Scan.{by-bool, count-ext, count-le, count-none}
 use Rattle.words.specs.Journal.{nameOk, namesOk}
 use Rattle.words.proofs.Plans.{Rising, each-tab, each-tabFrom, length-tab}
 use Rattle.words.proofs.Names.{name-live, name-from, names-make}
@@ -28,7 +28,7 @@ use Rattle.model.specs.Restore.{orInner, firstHeld, outermost, cellsPutBack, en
 use Rattle.model.specs.Restore as model
 use Rattle.store.specs.State.{stateIn}
 use Rattle.store.proofs.Domains.{domains-count, held-holds}
-use Rattle.store.proofs.InUse.{count-none, and-true, held-past}
+use Rattle.store.proofs.InUse.{held-past}
 use Rattle.store.proofs.Outermost.{outermost-held}
 use Rattle.restore.specs.Restore.{restoreChange, restoreWords, restoreBytes}
 use Rattle.restore.specs.Parts.{headWords, endingWords}

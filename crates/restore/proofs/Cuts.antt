@@ -1,6 +1,6 @@
 -- What opening finds after every cut of restore, what memory holds then, how many steps the call takes at most, and how many pairs it leaves
 -- pending. Assumes nothing.
-use Prim.Native.Nat.{ℕ, _+_, _-_, _*_, _≤_}
+use Prim.Native.Nat.{ℕ, _+_, _*_, _≤_}
 use mathlib.Core.Bool.{false}
 use mathlib.Core.List.{List}
 use mathlib.Core.Path.{_≡_, sym, ap, subst, _∙_}
@@ -12,9 +12,7 @@ use Rattle.words.specs.Layout.{cellsOf, bodiesOf, slotsOf, pairsAt}
 use Rattle.words.specs.Stores.{Store, stores}
 use Rattle.words.specs.Journal.{pending}
 use Rattle.words.proofs.Scan.{by-bool}
-use Rattle.words.proofs.Plans.{length-stores}
 use Rattle.table.specs.Entry.{live}
-use Rattle.table.proofs.Rule.{Rule}
 use Rattle.search.specs.Domain.{depthNamed}
 use Rattle.search.proofs.Domain.{depth-small}
 use Rattle.model.specs.State.{State}
@@ -35,7 +33,7 @@ use Rattle.restore.specs.Restore.{restoreCheck, restoreBytes, restoreWor
 use Rattle.restore.proofs.Plan.{restore-steps}
 use Rattle.restore.proofs.Counting.{put-few, words-few}
 use Rattle.restore.proofs.Bytes.{kept-byte}
-use Rattle.restore.proofs.Restored.{names, room, whole-cells, new-rule, new-words, new-bytes, new-memory, asked, asked-low}
+use Rattle.restore.proofs.Restored.{names, room, whole-cells, new-words, new-bytes, new-memory, asked, asked-low}
 
 -- ---- a table that passes questions 1 to 4, and a live domain of depth d
 
@@ -64,16 +62,6 @@ module _ (memory bodies t : List ℕ) (yes : storeCheck (length memory) (length 
   -- memory after k stores, which has the same length; so the questions and the rule are the same with it
   abbrev filled : ℕ → List ℕ
   filled k = stores (take k (restoreBytes (cellsOf (length memory)) d bodies t)) memory
-
-  same-length : (k : ℕ) → length memory ≡ length (filled k)
-  same-length k = sym (length-stores (take k bytes) memory)
-
-  yes-then : (k : ℕ) → storeCheck (length (filled k)) (length bodies) t ≡ 0
-  yes-then k = subst (λ (n : ℕ). storeCheck n (length bodies) t ≡ 0) (same-length k) yes
-
-  rule-then : (k : ℕ) → Rule (bodiesOf (length (filled k))) e b (stores ws (take (pairsAt (slotsOf (length t))) t))
-  rule-then k =
-      subst (λ (n : ℕ). Rule (cellsOf n) e b (stores ws (take (pairsAt (slotsOf (length t))) t))) (same-length k) (new-rule memory bodies t yes d low high)
 
   -- "every other call at most 70E + 32"
   pub restore-bound : stepsOf (64 * cellsPutBack (cellsOf (length memory)) d (stateOf (buffers memory bodies t)))

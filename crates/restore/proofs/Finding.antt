@@ -7,7 +7,7 @@ use native.Mathlib.Omega.{arith}
 use borrow.Rule.Slice.PartMut.{putMid, midOf}
 use lib.ListN.{length, getD, take, drop}
 use lib.Seq.{take-all, getD-take, getD-drop}
-use Rattle.words.specs.Layout.{cellAt, cellsOf, bodiesOf, slotsOf, maxLive}
+use Rattle.words.specs.Layout.{cellAt, bodiesOf, slotsOf, maxLive}
 use Rattle.words.specs.Stores.{Store, _≔_, stores, gather}
 use Rattle.words.specs.Cells.{copyPlan, cellPlan}
 use Rattle.words.proofs.Plans.{stores-none, length-cellPlan, tab-below}

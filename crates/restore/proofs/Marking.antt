@@ -11,12 +11,13 @@ use lib.Bits.{bitAnd, bitOr, and-shr, and-step, and-le-l, and-le-r, or-add-and}
 use lib.Dec.{leb, eqb}
 use lib.ListN.{length, getD, take, drop}
 use lib.Seq.{getD-take, getD-drop}
-use lib.Pow.{shr-shr, shr-le}
+use lib.Pow.{shr-le}
 use Rattle.words.specs.Layout.{maxLive}
 use Rattle.words.specs.Scan.{first, all}
-use Rattle.words.proofs.Scan.{by-bool, by-le, true≢, is-false, first-miss, all-at}
+use Rattle.words.proofs.Scan.{by-bool, by-le, true≢, is-false, first-miss, all-at, or-split}
 use Rattle.table.specs.Entry.{live, word1, holdsIn}
 use Rattle.table.specs.Marks.{has, zeros, Blank, Marked}
+use Rattle.table.proofs.Digits.{halved}
 use Rattle.table.proofs.Marks.{zeros-length, blank-zeros, marked-holds}
 use Rattle.table.proofs.Rule.{Rule}
 use Rattle.search.specs.Search.{stepsIn, heldFrom}
@@ -29,10 +30,6 @@ pub lent : (n : ℕ) (s : List ℕ) → s ≡ zeros n → (length s ≡ n) × Bl
 lent n s q = rw q (zeros-length n, blank-zeros n)
 
 -- ---- the digits of a mark
-
--- digit k + 1 is digit k of the half
-halved : (m k : ℕ) → m / 2 ^ suc k ≡ m / 2 / 2 ^ k
-halved m k = ap (λ (j : ℕ). m / 2 ^ j) (omega arith) ∙ sym (shr-shr m 1 k)
 
 some-digit : (n m : ℕ) → 1 ≤ m → m ≤ n → (k : ℕ) × (m / 2 ^ k % 2 ≡ 1)
 some-digit zero m low few = absurd (omega arith)
@@ -98,10 +95,6 @@ inwards-only (suc i) (suc j) low high l few h =
     absurd (true≢ h (not-true (has (suc j) (inwards (suc i))) no)))
 
 -- ---- many marks, asked one after another
-
-pub either-false : (x y : Bool) → (x || y) ≡ false → (x ≡ false) × (y ≡ false)
-either-false true y h = absurd (true≢ refl h)
-either-false false y h = (refl, h)
 
 -- where two numbers have no bit together, neither has one
 none-either : (a b : ℕ) → bitOr a b ≡ 0 → (a ≡ 0) × (b ≡ 0)

@@ -1,17 +1,13 @@
 -- From what restore's parts did to the outcome of the call, and what the questions let the code rely on. Assumes nothing.
 use Prim.Native.Nat.{ℕ, _+_, _-_, _≤_}
-use mathlib.Core.Bool.{true, false}
+use mathlib.Core.Bool.{true}
 use mathlib.Core.List.{List}
 use mathlib.Core.Path.{_≡_, _∙_}
-use native.Mathlib.Omega.{arith}
-use borrow.Author.Tests.{lt-ltb, le-ltb}
-use lib.Dec.{ltb}
 use lib.ListN.{length, take}
 use Rattle.changes.specs.Staged.{Journaled}
-use Rattle.words.specs.Layout.{cellsOf, bodiesOf, slotsOf, pairsAt, maxLive}
+use Rattle.words.specs.Layout.{cellsOf, bodiesOf, slotsOf, pairsAt}
 use Rattle.words.specs.Stores.{stores}
 use Rattle.words.specs.Journal.{journal}
-use Rattle.table.specs.Entry.{live}
 use Rattle.table.specs.Rule.{ruleOk}
 use Rattle.table.proofs.Rule.{ok-make}
 use Rattle.search.specs.Domain.{depthNamed}
@@ -27,19 +23,9 @@ use Rattle.restore.proofs.Restored.{asked, asked-low}
 
 -- ---- the questions
 
--- question 5, by a depth that was found
-pub none-named : (r d : ℕ) → r ≡ d → r ≡ 0 → ltb 0 d ≡ false
-none-named r d p q = le-ltb 0 d (omega arith)
-
-pub some-named : (r d : ℕ) → r ≡ d → (r ≡ 0 → ⊥) → ltb 0 d ≡ true
-some-named r d p q = lt-ltb 0 d (omega (arith, q))
-
 -- the rule of a table that passes questions 1 to 4
 pub rule-passed : (memory bodies : ℕ) (t : List ℕ) → storeCheck memory bodies t ≡ 0 → ruleOk (cellsOf memory) (slotsOf (length t)) (bodiesOf bodies) t ≡ true
 rule-passed memory bodies t passed = ok-make (cellsOf memory) (slotsOf (length t)) (bodiesOf bodies) t (check-rule memory bodies t passed)
-
-pub live-within : (memory bodies : ℕ) (t : List ℕ) → storeCheck memory bodies t ≡ 0 → live t ≤ maxLive
-live-within memory bodies t passed = check-rule memory bodies t passed .live
 
 module _ (memory bodies : ℕ) (t : List ℕ) (h : ℕ) (passed : restoreCheck memory bodies t h ≡ 0) where
   pub restore-store : storeCheck memory bodies t ≡ 0

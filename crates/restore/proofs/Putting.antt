@@ -1,42 +1,20 @@
 -- Bytes stored cell by cell: how many they are, and what each byte is once some of them are stored. Assumes nothing.
 use Prim.Native.Nat.{ℕ, zero, suc, _+_, _-_, _*_, _≤_, _<_, min}
 use mathlib.Core.Bool.{Bool, true, false, cond, _&&_}
-use mathlib.Core.List.{List, [], _∷_}
-use mathlib.Core.Path.{_≡_, refl, sym, ap, _∙_}
+use mathlib.Core.List.{List, []}
+use mathlib.Core.Path.{_≡_, sym, ap, _∙_}
 use native.Mathlib.Omega.{arith}
 use borrow.Author.Tests.{eqb-true, eqb-false, lt-ltb, le-ltb}
 use lib.Dec.{ltb, eqb}
-use lib.ListN.{length, getD, set, take, length-append}
-use lib.Seq.{getD-set-same, getD-set-other}
+use lib.ListN.{length, getD, take}
 use Rattle.words.specs.Layout.{cellAt}
 use Rattle.words.specs.Scan.{count}
 use Rattle.words.specs.Stores.{Store, _≔_, store, stores, tab, gather}
 use Rattle.words.specs.Cells.{cellPlan}
 use Rattle.words.proofs.Scan.{by-bool, by-le}
-use Rattle.words.proofs.Plans.{each-tab, length-tab, length-stores, getD-stores, length-cellPlan, run-append, run-take-append, tab-last, take-tab, take-min, stores-none}
+use Rattle.words.proofs.Plans.{each-tab, length-tab, length-stores, getD-stores, length-cellPlan, run-take-append, take-tab, take-min, stores-none, run-stored}
+use Rattle.words.proofs.Gather.{gather-count}
 use Rattle.model.specs.Restore.{cellOfByte, placeInCell}
-
--- ---- stores in a row
-
-pub run-stored : (base n : ℕ) (h : ℕ → ℕ) (l : List ℕ) (j : ℕ) → base + n ≤ length l
-    → getD (stores (tab n (λ i. base + i ≔ h i)) l) (base + j) 0 ≡ cond (ltb j n) (h j) (getD l (base + j) 0)
-run-stored base zero h l j fits = rw (le-ltb j 0 (omega arith))
-run-stored base (suc n) h l j fits =
-    let f : ℕ → Store = λ i. base + i ≔ h i in
-    let whole : stores (tab (suc n) f) l ≡ set (stores (tab n f) l) (base + n) (h n) =
-    ap (λ (ps : List Store). stores ps l) (tab-last f n) ∙ run-append store (tab n f) (f n ∷ []) l in
-    ap (λ (x : List ℕ). getD x (base + j) 0) whole
-    ∙ by-bool (eqb j n)
-    (λ z.
-    let q = eqb-true j n z in
-    rw (q, lt-ltb n (suc n) (omega arith)) (getD-set-same (stores (tab n f) l) (base + n) (h n) 0 (rw (length-stores (tab n f) l) (omega arith))))
-    (λ z.
-    let ne = eqb-false j n z in
-    getD-set-other (stores (tab n f) l) (base + n) (base + j) (h n) 0 (λ q. ne (omega arith))
-    ∙ run-stored base n h l j (omega arith)
-    ∙ by-le n j
-    (λ le. rw (le-ltb j n le, le-ltb j (suc n) (omega (arith, ne))))
-    (λ lt. rw (lt-ltb j n lt, lt-ltb j (suc n) (omega arith))))
 
 -- ---- one cell, of which the first k bytes are stored
 
@@ -75,12 +53,7 @@ module _ (s : List ℕ) (held : ℕ → Bool) (body : ℕ → ℕ) where
   plan c = cond (held c) (cellPlan s (body c) c) []
 
   pub cells-length : (n : ℕ) → length (gather n plan) ≡ 64 * count n held
-  unfolding count
-  cells-length zero = refl
-  cells-length (suc n) =
-      length-append (gather n plan) (plan n)
-      ∙ rw (cells-length n)
-      (by-bool (held n) (λ z. rw (z, length-cellPlan s (body n) n) (omega arith)) (λ z. rw z (omega arith)))
+  cells-length n = gather-count 64 n held plan (λ c. by-bool (held c) (λ z. rw (z, length-cellPlan s (body c) c)) (λ z. rw z))
 
   -- the byte at x is stored once the held cells below its own, and the bytes of its own cell up to it, are
   abbrev pub reached : (k n x : ℕ) → Bool

@@ -31,9 +31,9 @@ use Rattle.store.specs.Checks.{storeCheck}
 use Rattle.store.specs.State.{stateIn, stateOf, standing}
 use Rattle.store.specs.Means.{orRefused}
 use Rattle.store.proofs.Checks.{ask-yes, store-shape, shape-facts}
-use Rattle.store.proofs.Means.{seenOf, by-check, t-long, store-standing}
+use Rattle.store.proofs.Means.{seenOf, by-check, store-standing}
 use Rattle.store.proofs.Changes.{change-standing}
-use Rattle.store.proofs.Raw.{raw-rule, raw-state, raw-named, raw-next, raw-after}
+use Rattle.store.proofs.Raw.{raw-rule, raw-state, raw-named, raw-next, raw-after, raw-long}
 use Rattle.restore.specs.Restore.{restoreCheck, restoreBytes, restoreWords, restorePlan, restoreCall, restoreMeans}
 use Rattle.restore.proofs.Plan.{restore-length, restore-steps}
 use Rattle.restore.proofs.Ending.{end-rule, end-state, none-ended}
@@ -69,9 +69,6 @@ module _ (memory bodies t : List ℕ) (yes : storeCheck (length memory) (length 
   ok : Rule m e b t
   ok = raw-rule memory bodies t yes
 
-  long : pairsAt e ≤ length t
-  long = omega (arith, t-long memory bodies t yes)
-
   few : live t ≤ maxLive
   few = ok .live
 
@@ -93,13 +90,13 @@ module _ (memory bodies t : List ℕ) (yes : storeCheck (length memory) (length 
   whole-rule =
       by-bool (eqb (live t) d)
       (λ z. rw (words-none t d (eqb-true (live t) d z)) ok)
-      (λ z. rw (words-some t d (eqb-false (live t) d z)) (end-rule m e b t ok long d low high))
+      (λ z. rw (words-some t d (eqb-false (live t) d z)) (end-rule m e b t ok (raw-long memory bodies t yes) d low high))
 
   whole-state : stateIn e (stores ws t) bodies ≡ restored d (stateIn e t bodies)
   whole-state =
       by-bool (eqb (live t) d)
       (λ z. rw (words-none t d (eqb-true (live t) d z)) (none-ended e t bodies d (eqb-true (live t) d z)))
-      (λ z. rw (words-some t d (eqb-false (live t) d z)) (end-state m e b t ok long d low high bodies))
+      (λ z. rw (words-some t d (eqb-false (live t) d z)) (end-state m e b t ok (raw-long memory bodies t yes) d low high bodies))
 
   -- the new table is right
   pub new-rule : Rule (cellsOf (length memory)) (slotsOf (length t)) (bodiesOf (length bodies)) (stores (restoreWords d t) (take (pairsAt (slotsOf (length t))) t))

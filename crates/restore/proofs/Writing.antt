@@ -10,13 +10,12 @@ use lib.ListN.{length}
 use Rattle.changes.specs.Staged.{Journaled}
 use Rattle.words.specs.Layout.{liveAt, handleAt, slotsOf}
 use Rattle.words.specs.Stores.{Store, _≔_, tab}
-use Rattle.words.proofs.Scan.{by-le}
+use Rattle.words.proofs.Scan.{by-le, or-split}
 use Rattle.words.proofs.Plans.{stores-none, tab-last}
 use Rattle.table.specs.Entry.{live, word1, depthOf}
 use Rattle.table.specs.Changes.{keep}
 use Rattle.restore.specs.Restore.{restoreChange, restoreWords}
 use Rattle.restore.specs.Parts.{headWords, endingWords}
-use Rattle.restore.proofs.Marking.{either-false}
 use Rattle.restore.proofs.Counting.{words-none, words-some}
 
 -- ---- the head
@@ -44,7 +43,7 @@ head-turn d k w hs more l word q r =
 pub deeper-more : (e : ℕ) (t : List ℕ) (d from i : ℕ) (x : Bool) (n : ℕ) → (x ≡ false → (k : ℕ) → from ≤ k → k < i → depthOf (word1 e t k) ≤ d)
     → n ≡ depthOf (word1 e t i) → (x || ltb d n) ≡ false → (k : ℕ) → from ≤ k → k < i + 1 → depthOf (word1 e t k) ≤ d
 deeper-more e t d from i x n so-far q h k a b =
-    let both = either-false x (ltb d n) h in
+    let both = or-split x (ltb d n) h in
     by-le i k (λ l. let z : k ≡ i = omega arith in rw z (omega (arith, q, ltb-false d n (both .1)))) (λ l. so-far (both .0) k a l)
 
 -- an entry that is not deeper is kept

@@ -16,11 +16,8 @@ use Rattle.search.specs.Search.{stepsIn, heldFrom, holderIn, sourceIn, b
 use Rattle.search.specs.declared.Holder.the-variants.{At, Nobody}
 use Rattle.search.specs.declared.Held.{Held}
 use Rattle.search.specs.declared.Held.the-variants.{Nowhere, InBody}
-use Rattle.search.proofs.Holders.{HolderFacts, holder-facts}
+use Rattle.search.proofs.Holders.{HolderFacts, holder-facts, zero-one}
 use Rattle.search.proofs.Value.{Copy, ends-in-copy, body-fits, source-none-at, source-copy-at, source-via-at, source-zero}
-
-zero-one : _≡_ {A = ℕ} 0 1 → ⊥
-zero-one z = omega arith
 
 module _ (e : ℕ) (t : List ℕ) (d c : ℕ) where
   -- the first holder is one of the live domains, and it holds the cell

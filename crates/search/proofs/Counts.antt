@@ -13,7 +13,7 @@ use Rattle.words.proofs.Image.{meets, meets-make, meets-none, Distinctly, count
 use Rattle.table.specs.Entry.{word1, depthOf, cellOf, findIn, holdsIn}
 use Rattle.table.proofs.Entry.{names-make, find-hit, find-some, holds-true, holds-found}
 use Rattle.table.proofs.Rule.{Rule}
-use Rattle.table.proofs.Change.{only-one}
+use Rattle.table.proofs.Single.{only-one}
 
 module _ (m e b : ℕ) (t : List ℕ) (ok : Rule m e b t) (d : ℕ) (low : 1 ≤ d) (P : ℕ → Bool) where
   abbrev passes : ℕ → Bool

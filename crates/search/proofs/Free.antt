@@ -2,13 +2,13 @@
 use Prim.Native.Nat.{ℕ, _+_, _≤_, _<_}
 use mathlib.Core.Bool.{Bool, true, not}
 use mathlib.Core.List.{List}
-use mathlib.Core.Path.{_≡_, sym, ap}
+use mathlib.Core.Path.{_≡_, ap}
 use native.Mathlib.Omega.{arith}
 use borrow.Author.Tests.{eq-eqb, ne-eqb, eqb-true, eqb-false, not-true}
 use lib.Dec.{eqb}
 use Rattle.words.specs.Scan.{count, nth}
-use Rattle.words.proofs.Scan.{by-le, and-split, and-join, true≢, count-not}
-use Rattle.words.proofs.Nth.{count-below, nth-below, nth-holds, nth-apart}
+use Rattle.words.proofs.Scan.{and-split, and-join, true≢, count-not}
+use Rattle.words.proofs.Nth.{count-below, nth-below, nth-holds, nth-apart, same-rank}
 use Rattle.words.proofs.Image.{meets, meets-make, meets-some, count-image}
 use Rattle.table.specs.Entry.{word1, word2, viaOf}
 use Rattle.table.specs.Marks.{IsCopy}
@@ -57,16 +57,6 @@ bodies-all m e b t ok =
     omega (arith, own, count-not b (bodyUsed e t))
 
 -- ---- the lowest free places
-
--- two numbers that pass and have as many below them are one
-pub same-rank : (f : ℕ → Bool) (i j : ℕ) → f i ≡ true → f j ≡ true → count i f ≡ count j f → i ≡ j
-same-rank f i j p q h =
-    by-le i j
-    (λ l. by-le j i (λ r. omega arith) (λ r. absurd (never (count-below f i j r p) h)))
-    (λ l. absurd (never (count-below f j i l q) (sym h)))
-  where
-    never : {a b : ℕ} → a < b → a ≡ b → ⊥
-    never l e = omega arith
 
 -- where there are enough, the r-th that wants one takes the r-th that is free
 pub lowest-free : (n : ℕ) (wants : ℕ → Bool) (high : ℕ) (free : ℕ → Bool) → count n wants ≤ count high free

@@ -7,7 +7,7 @@ use native.Mathlib.Omega.{arith}
 use borrow.Author.Tests.{lt-ltb, le-ltb, ltb-true, ltb-false}
 use lib.Dec.{ltb}
 use Rattle.words.specs.Scan.{first}
-use Rattle.words.proofs.Scan.{first-at, first-hit, first-miss, first-ext, by-bool, not-lt}
+use Rattle.words.proofs.Scan.{first-at, first-hit, first-miss, by-bool, not-lt}
 use Rattle.table.specs.Entry.{live, findIn, holdsIn}
 use Rattle.table.proofs.Entry.{holds-true, holds-false, holds-found}
 use Rattle.search.specs.Search.{stepsIn, holderIn}
@@ -17,7 +17,7 @@ use Rattle.search.specs.declared.Holder.the-variants.{At, Nobody}
 abbrev pub Lacking : ℕ → List ℕ → ℕ → ℕ → ℕ → Type 0
 Lacking e t from c n = (k : ℕ) → k < n → holdsIn e t (from + k) c ≡ false
 
-zero-one : _≡_ {A = ℕ} 0 1 → ⊥
+pub zero-one : _≡_ {A = ℕ} 0 1 → ⊥
 zero-one z = omega arith
 
 module _ (e : ℕ) (t : List ℕ) (from c : ℕ) where
@@ -49,7 +49,6 @@ module _ (e : ℕ) (t : List ℕ) (from c : ℕ) where
 
   -- what an answer says
   pub record HolderFacts (d i : ℕ) : Type 0 where
-    pub inwards : from ≤ d
     pub live : d ≤ live t
     pub entry : findIn e t d c ≡ i
     pub slot : i < e
@@ -68,36 +67,9 @@ module _ (e : ℕ) (t : List ℕ) (from c : ℕ) where
       let lt = ltb-true (first n f) n p in
       let hit = holds-found e t (from + first n f) c (first-hit n f lt) in
       record {
-        inwards = omega arith;
         live = omega arith;
         entry = subst (λ (x : ℕ). findIn e t x c ≡ i) qd qi;
         slot = subst (λ (x : ℕ). x < e) qi hit;
         before = λ k l. first-miss n f k (omega arith);
       })
       (λ p. let q = rw p at h in let z : _≡_ {A = ℕ} 0 1 = cc in absurd (zero-one z))
-
-  pub nobody-facts : holderIn e t from c ≡ Nobody → Lacking e t from c (suc (live t) - from)
-  unfolding holderIn stepsIn
-  nobody-facts h k l =
-      let n = suc (live t) - from in
-      let f : ℕ → Bool = λ k. holdsIn e t (from + k) c in
-      by-bool (ltb (first n f) n)
-      (λ p. let q = rw p at h in let z : _≡_ {A = ℕ} 0 1 = cc in absurd (zero-one z))
-      (λ p. first-miss n f k (omega (arith, ltb-false (first n f) n p)))
-
--- tables with as many live domains and the same look-ups of the cell from a depth inwards have the same first holder from there
-module _ (e : ℕ) (t u : List ℕ) (from c : ℕ) (live-same : live u ≡ live t)
-    (finds : (d : ℕ) → from ≤ d → d ≤ live t → findIn e u d c ≡ findIn e t d c) where
-  steps-ext : stepsIn e u from c ≡ stepsIn e t from c
-  unfolding stepsIn holdsIn
-  steps-ext = rw live-same (first-ext (suc (live t) - from) _ _ (λ k l. rw (finds (from + k) (omega arith) (omega arith))))
-
-  pub holder-ext : holderIn e u from c ≡ holderIn e t from c
-  unfolding holderIn
-  holder-ext =
-      rw (steps-ext, live-same)
-      (by-bool (ltb (stepsIn e t from c) (suc (live t) - from))
-      (λ p.
-      let l = ltb-true (stepsIn e t from c) (suc (live t) - from) p in
-      rw (p, finds (from + stepsIn e t from c) (omega arith) (omega arith)))
-      (λ p. rw p))

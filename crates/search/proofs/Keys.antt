@@ -2,13 +2,13 @@
 use Prim.Native.Nat.{ℕ, _+_, _/_, _%_, _^_, _≤_, _<_}
 use mathlib.Core.Bool.{Bool, true, false, _&&_, _||_}
 use mathlib.Core.List.{List}
-use mathlib.Core.Path.{_≡_, refl, sym, ap, _∙_}
+use mathlib.Core.Path.{_≡_, sym, ap, _∙_}
 use native.Mathlib.Omega.{arith}
 use borrow.Author.Tests.{eq-eqb, eqb-true, eqb-false, leb-true, leb-false}
 use lib.ListN.{getD}
 use lib.Dec.{leb, eqb}
 use Rattle.words.specs.Layout.{maxCells}
-use Rattle.words.proofs.Scan.{by-bool, and-split, and-join, is-false, true≢}
+use Rattle.words.proofs.Scan.{by-bool, and-split, and-join, is-false, true≢, or-split}
 use Rattle.table.specs.Entry.{word1, depthOf, cellOf, names, findIn}
 use Rattle.table.proofs.Entry.{find-at, find-none}
 use Rattle.search.specs.Search.{Bare, IsKey, namedBy, Unnamed}
@@ -53,9 +53,6 @@ module _ (key w apart : ℕ) (bare : Bare key) (known : key < 2 ^ 32) (small : a
       ∙ sym y)
 
 -- ---- entries that are passed over
-or-false : (a b : Bool) → (a || b) ≡ false → (a ≡ false) × (b ≡ false)
-or-false true b h = absurd (true≢ refl h)
-or-false false b h = (refl, h)
 
 module _ (f : ℕ → Bool) (i : ℕ) where
   four-failing : f i ≡ false → f (i + 1) ≡ false → f (i + 2) ≡ false → f (i + 3) ≡ false → Failing f i (i + 4)
@@ -68,14 +65,14 @@ module _ (f : ℕ → Bool) (i : ℕ) where
 
   pub none-of-four : (a b c d : Bool) → a ≡ f i → b ≡ f (i + 1) → c ≡ f (i + 2) → d ≡ f (i + 3) → ((a || b) || (c || d)) ≡ false → Failing f i (i + 4)
   none-of-four a b c d p q r s h =
-      let two = or-false (a || b) (c || d) h in
-      let x = or-false a b (two .0) in
-      let y = or-false c d (two .1) in
+      let two = or-split (a || b) (c || d) h in
+      let x = or-split a b (two .0) in
+      let y = or-split c d (two .1) in
       four-failing (sym p ∙ x .0) (sym q ∙ x .1) (sym r ∙ y .0) (sym s ∙ y .1)
 
   pub none-of-eight : (a b : Bool) → Failing f 0 i → (a ≡ false → Failing f i (i + 4)) → (b ≡ false → Failing f (i + 4) (i + 4 + 4)) → (a || b) ≡ false → Failing f 0 (i + 8)
   none-of-eight a b h p q z =
-      let two = or-false a b z in
+      let two = or-split a b z in
       failing-join f 0 i (i + 8) h (failing-join f i (i + 4) (i + 8) (p (two .0)) (λ k l s. q (two .1) k l (omega arith)))
 
 -- ---- what is found by a key
@@ -109,4 +106,4 @@ module _ (e : ℕ) (t : List ℕ) (d c : ℕ) where
       (λ p. none-wide (leb-true maxCells c (rw p at h)))
 
 pub within : (d c : ℕ) → (leb 16 d || leb maxCells c) ≡ false → (d < 16) × (c < maxCells)
-within d c h = let s = or-false (leb 16 d) (leb maxCells c) h in (leb-false 16 d (s .0), leb-false maxCells c (s .1))
+within d c h = let s = or-split (leb 16 d) (leb maxCells c) h in (leb-false 16 d (s .0), leb-false maxCells c (s .1))

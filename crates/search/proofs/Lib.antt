@@ -4,7 +4,6 @@ pub mod Keys
 pub mod Holders
 pub mod Value
 pub mod Behind
-pub mod Change
 pub mod Free
 pub mod Domain
 pub mod Counts

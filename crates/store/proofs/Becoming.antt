@@ -1,8 +1,8 @@
 -- One law for every call that stages stores of the head and a change of each entry: what the call says of each slot by itself gives that the
 -- new table is right and what it stands for. Assumes nothing.
-use Prim.Native.Nat.{ℕ, zero, suc, _+_, _≤_, _<_}
+use Prim.Native.Nat.{ℕ, zero, suc, _≤_, _<_}
 use mathlib.Core.Bool.{true, false}
-use mathlib.Core.List.{List, [], _++_}
+use mathlib.Core.List.{List, _++_}
 use mathlib.Core.Logic.{_⊎_, inl, inr, ⊎-elim}
 use mathlib.Core.Option.{Option, none, some}
 use mathlib.Core.Path.{_≡_, refl, sym, ap, subst, _∙_}
@@ -10,8 +10,8 @@ use native.Mathlib.Nat.{not-suc-le-zero}
 use native.Mathlib.Omega.{arith}
 use borrow.Author.Tests.{eqb-true, eqb-false}
 use lib.Dec.{eqb}
-use lib.ListN.{length, drop}
-use Rattle.words.specs.Layout.{pairsAt, handleAt, maxLive, cellAt}
+use lib.ListN.{length}
+use Rattle.words.specs.Layout.{pairsAt, handleAt, maxLive}
 use Rattle.words.specs.Stores.{Store, stores, tab}
 use Rattle.words.specs.Cells.{cellBytes}
 use Rattle.words.proofs.Scan.{by-bool, by-le, true≢}
@@ -21,7 +21,7 @@ use Rattle.table.specs.Changes.{Change, keep, put, newFirst, newSecond, entryCh
 use Rattle.table.proofs.Entry.{names-make, find-hit, find-miss, find-some, holds-true, holds-found, holds-none}
 use Rattle.table.proofs.Made.{Made, same-made, writable-made}
 use Rattle.table.proofs.Rule.{Rule, Used, Apart}
-use Rattle.table.proofs.Change.{only-one, find-self}
+use Rattle.table.proofs.Single.{only-one, find-self}
 use Rattle.table.proofs.Entries.{first-staged, second-staged}
 use Rattle.table.proofs.Head.{Remain, remain-handles}
 use Rattle.search.specs.Search.{valueIn}
@@ -51,14 +51,6 @@ atParent e t g i = g (parent (depthOf (word1 e t i))) (cellOf (word1 e t i))
 abbrev pub told : ℕ → (t bodies : List ℕ) → ℕ → Label → Option Holding
 told e t bodies i l =
     some (record { label = l; kind = kindOf (word1 e t i); value = valueIn e t bodies (depthOf (word1 e t i)) (cellOf (word1 e t i)) })
-
--- the rule reads no bytes: for it alone a call may take all bodies and memory to be empty
-pub no-bytes : (x y : ℕ) → cellBytes [] x ≡ cellBytes [] y
-no-bytes x y = rw (drop-nil (cellAt x), drop-nil (cellAt y))
-  where
-    drop-nil : (k : ℕ) → drop {A = ℕ} k [] ≡ []
-    drop-nil zero = refl
-    drop-nil (suc k) = refl
 
 -- no slot
 abbrev pub Never : ℕ → ℕ → Type 0

@@ -4,21 +4,21 @@
 use Prim.Native.Nat.{ℕ, _+_, _-_, _*_, _≤_, _<_}
 use mathlib.Core.Bool.{true, cond}
 use mathlib.Core.List.{List, [], _∷_, map}
-use mathlib.Core.Logic.{_⊎_, ⊎-elim}
 use mathlib.Core.Option.{some}
 use mathlib.Core.Path.{_≡_, refl, sym, ap, ap₂, _∙_}
 use native.Mathlib.Nat.{zero-add}
 use native.Mathlib.Omega.{arith}
 use borrow.Author.Tests.{eq-eqb, ne-eqb, lt-ltb, le-ltb}
 use lib.Dec.{ltb}
-use lib.ListN.{length, take, drop, length-append, length-map, length-take, length-drop}
-use lib.Seq.{take-all, ext-getD, getD-take, getD-drop}
-use Rattle.words.specs.Layout.{cellAt, cellsOf, bodiesOf, slotsOf, pairsAt, maxPairs, tableWords}
+use lib.ListN.{length, take, length-append, length-map}
+use lib.Seq.{take-all}
+use Rattle.words.specs.Layout.{cellsOf, bodiesOf, slotsOf, pairsAt, maxPairs}
 use Rattle.words.specs.Stores.{Store, store, stores}
 use Rattle.words.specs.Journal.{pending, namesOk, effective, journal}
 use Rattle.words.specs.Cells.{cellBytes}
 use Rattle.words.proofs.Scan.{by-le}
-use Rattle.words.proofs.Plans.{Each, each-take, length-stores, stores-none, getD-stores, each-map, run-take-append, take-map}
+use Rattle.words.proofs.Plans.{Each, each-take, length-stores, stores-none, each-map, run-take-append, take-map}
+use Rattle.words.proofs.Cells.{Outside, cell-kept}
 use Rattle.words.proofs.Pairs.{length-journal, journal-some, journal-none}
 use Rattle.words.proofs.Journal as law
 use Rattle.table.specs.Entry.{word2}
@@ -30,11 +30,11 @@ use Rattle.model.specs.Calls.{viewed, change}
 use Rattle.store.specs.Outcome.{buffers, inBodies, inTable, step, steps, outcome, leaves, perform, changePlan}
 use Rattle.store.specs.Checks.{shapeCheck, openCheck, storeCheck}
 use Rattle.store.specs.State.{stateIn, stateOf, standing}
-use Rattle.store.proofs.Checks.{store-shape, store-idle, store-opens, shape-lengths}
+use Rattle.store.proofs.Checks.{store-shape, store-idle, store-opens}
 use Rattle.store.proofs.Outcome.{steps-inTable}
 use Rattle.store.proofs.State.{state-kept}
 use Rattle.store.proofs.Cuts.{stands-open, cut, cut-effective, cut-opens}
-use Rattle.store.proofs.Means.{seenOf, long, store-effective, store-rule, store-state}
+use Rattle.store.proofs.Means.{seenOf, store-effective, store-rule, store-state, t-long}
 
 -- ---- bytes, then words, under one budget
 
@@ -84,22 +84,11 @@ words-performed h k ws m b t {e} {need} {ws₀} {t′} {r} slots same steps made
 
 -- a byte outside every body that a copy has
 abbrev pub Spares : (e : ℕ) (t : List ℕ) → Store → Type 0
-Spares e t s = (i : ℕ) → Copy e t i → (s .at < cellAt (word2 e t i)) ⊎ (cellAt (word2 e t i) + 64 ≤ s .at)
+Spares e t s = (i : ℕ) → Copy e t i → Outside (word2 e t i) s
 
 pub spared : (e : ℕ) (t : List ℕ) (bytes : List Store) (bodies : List ℕ) → Each (Spares e t) bytes → (i : ℕ) → Copy e t i
     → cellBytes (stores bytes bodies) (word2 e t i) ≡ cellBytes bodies (word2 e t i)
-spared e t bytes bodies free i c =
-    let w : ℕ = word2 e t i in
-    ext-getD 0 (cellBytes (stores bytes bodies) w) (cellBytes bodies w)
-    (simp (length-take, length-drop, length-stores))
-    (λ j l.
-    let small : j < 64 = short (stores bytes bodies) w j l in
-    rw (getD-take 64 (drop (cellAt w) (stores bytes bodies)) j 0 small, getD-take 64 (drop (cellAt w) bodies) j 0 small, getD-drop (cellAt w) (stores bytes bodies) j 0, getD-drop (cellAt w) bodies j 0)
-    (getD-stores bytes bodies (cellAt w + j)
-    (each-map (Spares e t) (λ s. cellAt w + j ≡ s .at → ⊥) bytes (λ s f q. ⊎-elim (λ a. omega arith) (λ a. omega arith) (f i c)) free)))
-  where
-    short : (l : List ℕ) (w j : ℕ) → j < length (cellBytes l w) → j < 64
-    short l w j h = let z = rw length-take at h in omega arith
+spared e t bytes bodies free i c = cell-kept bytes bodies (word2 e t i) (each-map (Spares e t) (Outside (word2 e t i)) bytes (λ s f. f i c) free)
 
 -- ---- the call at every budget
 
@@ -118,9 +107,6 @@ module _ (memory bodies t : List ℕ) (yes : storeCheck (length memory) (length 
 
   idle : pending t ≡ 0
   idle = store-idle (length memory) (length bodies) t yes
-
-  t-long : length t ≡ tableWords (slotsOf (length t))
-  t-long = long (length memory) (length bodies) t (shape-lengths (length memory) (length bodies) t (store-shape (length memory) (length bodies) t yes))
 
   right : Rule (cellsOf (length memory)) (slotsOf (length t)) (bodiesOf (length bodies)) head
   right = store-rule memory bodies t yes
@@ -148,14 +134,14 @@ module _ (memory bodies t : List ℕ) (yes : storeCheck (length memory) (length 
     shape : shapeCheck (length memory) (length bodies) t ≡ 0
     shape = store-shape (length memory) (length bodies) t yes
 
-    cut-is : (j : ℕ) → worded j ≡ cut (length memory) (length bodies) t ws shape t-long idle some-change few names right next j
+    cut-is : (j : ℕ) → worded j ≡ cut (length memory) (length bodies) t ws shape (t-long memory bodies t yes) idle some-change few names right next j
     cut-is j = rw (← journal-some first ws some-change)
 
     pub worded-opens : (j : ℕ) → openCheck (length memory) (length bodies) (worded j) ≡ 0
-    worded-opens j = rw (cut-is j) (cut-opens (length memory) (length bodies) t ws shape t-long idle some-change few names right next j)
+    worded-opens j = rw (cut-is j) (cut-opens (length memory) (length bodies) t ws shape (t-long memory bodies t yes) idle some-change few names right next j)
 
     pub worded-effective : (j : ℕ) → effective (pairsAt (slotsOf (length t))) (worded j) ≡ cond (ltb (2 * length ws) j) (stores ws (take (pairsAt (slotsOf (length t))) t)) (take (pairsAt (slotsOf (length t))) t)
-    worded-effective j = rw (cut-is j) (cut-effective (length memory) (length bodies) t ws shape t-long idle some-change few names right next j)
+    worded-effective j = rw (cut-is j) (cut-effective (length memory) (length bodies) t ws shape (t-long memory bodies t yes) idle some-change few names right next j)
 
   worded-length : (j : ℕ) → length (worded j) ≡ length t
   worded-length j = length-stores (take j (journal first ws)) t

@@ -1,11 +1,11 @@
 -- Laws of the questions: what a passed question tells, and that the questions on the shape read no word that a pair may name.
 -- Assumes nothing.
-use Prim.Native.Nat.{ℕ, zero, suc, _-_, _≤_, _<_}
-use mathlib.Core.Bool.{Bool, true, false}
+use Prim.Native.Nat.{ℕ, _≤_, _<_}
+use mathlib.Core.Bool.{true, false}
 use mathlib.Core.List.{List}
-use mathlib.Core.Path.{_≡_, refl, sym}
+use mathlib.Core.Path.{_≡_}
 use native.Mathlib.Omega.{arith}
-use borrow.Author.Tests.{eqb-true, eqb-false, ltb-true}
+use borrow.Author.Tests.{eqb-true, ltb-true, lt-ltb, le-ltb}
 use lib.Dec.{eqb, ltb}
 use lib.ListN.{length, getD}
 use Rattle.words.specs.Layout.{cellsOf, bodiesOf, slotsOf, maxLive, magicAt, cellsAt, slotsAt, bodiesAt, zeroAt, pairsAt}
@@ -17,44 +17,10 @@ use Rattle.table.specs.Rule.{pairsOk, tableOk}
 use Rattle.table.proofs.Rule.{Rule, ok-facts, ok-make}
 use Rattle.table.proofs.Checks.{Lengths, lengths-facts}
 use Rattle.model.specs.Answer.{ask, orElse}
+use Rattle.model.proofs.Asking.{orElse-ask}
 use Rattle.store.specs.Checks.{shapeCheck, tableCheck, openCheck, idleCheck, storeCheck, createCheck}
-
--- ---- one question after another
-
-pub ask-yes : (b : Bool) (n rest : ℕ) → 0 < n → ask b n rest ≡ 0 → b ≡ true
-ask-yes true n rest h e = refl
-ask-yes false n rest h e = absurd (omega arith)
-
-pub ask-go : (b : Bool) (n rest : ℕ) → b ≡ true → ask b n rest ≡ rest
-ask-go true n rest e = refl
-ask-go false n rest e = absurd (eqb-false 0 0 (sym e) refl)
-
-pub ask-stop : (b : Bool) (n rest : ℕ) → b ≡ false → ask b n rest ≡ n
-ask-stop true n rest e = absurd (eqb-false 0 0 e refl)
-ask-stop false n rest e = refl
-
--- the rest of a chain of questions whose first was answered by yes
-pub ask-rest : (b : Bool) (n rest : ℕ) → 0 < n → ask b n rest ≡ 0 → rest ≡ 0
-ask-rest true n rest h e = e
-ask-rest false n rest h e = absurd (omega arith)
-
-pub orElse-go : (m n : ℕ) → m ≡ 0 → orElse m n ≡ n
-orElse-go zero n e = refl
-orElse-go (suc m) n e = absurd (omega arith)
-
-pub orElse-stop : (m n : ℕ) → (m ≡ 0 → ⊥) → orElse m n ≡ m
-orElse-stop zero n e = absurd (e refl)
-orElse-stop (suc m) n e = refl
-
-orElse-ask : (m : ℕ) (b : Bool) (n rest : ℕ) → 0 < n → orElse m (ask b n rest) ≡ orElse (orElse m (ask b n 0)) rest
-orElse-ask zero true n rest h = refl
-orElse-ask zero false zero rest h = absurd (omega arith)
-orElse-ask zero false (suc n) rest h = refl
-orElse-ask (suc m) b n rest h = refl
-
-pub orElse-both : (m n : ℕ) → orElse m n ≡ 0 → (m ≡ 0) × (n ≡ 0)
-orElse-both zero n e = (refl, e)
-orElse-both (suc m) n e = absurd (omega arith)
+-- what a call cites beside the laws below
+pub use Rattle.model.proofs.Asking.{ask-yes, ask-go, ask-stop, ask-rest, orElse-go, orElse-stop, orElse-both}
 
 -- ---- what passed questions tell
 
@@ -65,12 +31,6 @@ module _ (memory bodies : ℕ) (t : List ℕ) where
 
   pub shape-facts : shapeCheck memory bodies t ≡ 0 → Lengths memory bodies (length t)
   shape-facts e = lengths-facts memory bodies (length t) (shape-lengths e)
-
-  pub shape-header : shapeCheck memory bodies t ≡ 0 → headerOk memory bodies t ≡ true
-  unfolding shapeCheck
-  shape-header e =
-      ask-yes (headerOk memory bodies t) 2 0 (omega arith)
-      (ask-rest (lengthsOk memory bodies (length t)) 1 (ask (headerOk memory bodies t) 2 0) (omega arith) e)
 
   pub shape-make : lengthsOk memory bodies (length t) ≡ true → headerOk memory bodies t ≡ true → shapeCheck memory bodies t ≡ 0
   unfolding shapeCheck
@@ -161,3 +121,11 @@ pub shape-kept : (memory bodies : ℕ) (t u : List ℕ) → length u ≡ length 
 unfolding shapeCheck headerOk
 shape-kept memory bodies t u l h z =
     rw (l, h magicAt (omega arith), h cellsAt (omega arith), h slotsAt (omega arith), h bodiesAt (omega arith), z)
+
+-- ---- question 5, by a depth that was found
+
+pub none-named : (r d : ℕ) → r ≡ d → r ≡ 0 → ltb 0 d ≡ false
+none-named r d p q = le-ltb 0 d (omega arith)
+
+pub some-named : (r d : ℕ) → r ≡ d → (r ≡ 0 → ⊥) → ltb 0 d ≡ true
+some-named r d p q = lt-ltb 0 d (omega (arith, q))

@@ -1,5 +1,5 @@
 -- Create, from its stores to what it means and to what opening finds after every cut of it. Assumes nothing.
-use Prim.Native.Nat.{ℕ, suc, _≤_, _<_}
+use Prim.Native.Nat.{ℕ, suc, _<_}
 use mathlib.Core.Bool.{true}
 use mathlib.Core.List.{List, []}
 use mathlib.Core.Option.{Option}
@@ -7,11 +7,13 @@ use mathlib.Core.Path.{_≡_, refl, sym, ap, subst, _∙_}
 use native.Mathlib.Omega.{arith}
 use borrow.Author.Tests.{ltb-true}
 use lib.Dec.{ltb}
-use lib.ListN.{length, take, length-take}
-use lib.Seq.{getD-take}
-use Rattle.words.specs.Layout.{liveAt, nextAt, pairsAt, slotsOf, cellsOf, bodiesOf, maxLive}
+use lib.ListN.{length, take}
+use Rattle.words.specs.Layout.{pairsAt, slotsOf, cellsOf, bodiesOf, maxLive}
 use Rattle.words.specs.Stores.{stores}
 use Rattle.words.specs.Journal.{pending, namesOk, journal}
+use Rattle.words.proofs.Plans.{Each}
+use Rattle.words.proofs.Names.{names-below}
+use Rattle.words.proofs.Places.{pendingAt-below}
 use Rattle.table.specs.Entry.{live, nextHandle}
 use Rattle.table.proofs.Rule.{Rule}
 use Rattle.model.specs.State.{State}
@@ -24,7 +26,8 @@ use Rattle.store.specs.Calls.{createWords, createCall}
 use Rattle.store.specs.Means.{orRefused, callMeans, createMeans}
 use Rattle.store.proofs.Checks.{ask-yes, orElse-go}
 use Rattle.store.proofs.Outcome.{refuses}
-use Rattle.store.proofs.Means.{seenOf, by-check, t-long, store-rule, store-state, store-standing, live-count, next-is}
+use Rattle.store.proofs.Means.{seenOf, by-check, store-standing, live-count, next-is}
+use Rattle.store.proofs.Raw.{raw-rule, raw-state, raw-next, raw-after, raw-long}
 use Rattle.store.proofs.Creating.{create-rule, create-state, create-names}
 use Rattle.store.proofs.Changes.{words-performed, change-seen}
 use Rattle.store.proofs.Pending.{pendingAfter, afterPending, performed-pending, call-pending}
@@ -37,31 +40,28 @@ module _ (memory bodies t : List ℕ) (yes : storeCheck (length memory) (length 
   abbrev first : ℕ
   first = pairsAt (slotsOf (length t))
 
-  same-live : live (take first t) ≡ live t
-  same-live = getD-take first t liveAt 0 (omega arith)
+  new-names : namesOk (pairsAt (slotsOf (length t))) 0 (createWords t) ≡ true
+  unfolding createWords
+  new-names = create-names first (live t) (nextHandle t) few (omega arith)
 
-  same-next : nextHandle (take first t) ≡ nextHandle t
-  same-next = getD-take first t nextAt 0 (omega arith)
+  below : Each (λ s. s .at < pairsAt (slotsOf (length t))) (createWords t)
+  below = names-below first 0 (createWords t) (pendingAt-below (slotsOf (length t))) new-names
 
-  long-head : pairsAt (slotsOf (length t)) ≤ length (take first t)
-  long-head = rw length-take (omega (arith, t-long memory bodies t yes))
+  whole-rule : Rule (cellsOf (length memory)) (slotsOf (length t)) (bodiesOf (length bodies)) (stores (createWords t) t)
+  unfolding createWords
+  whole-rule = create-rule (cellsOf (length memory)) (slotsOf (length t)) (bodiesOf (length bodies)) t (raw-rule memory bodies t yes) (raw-long memory bodies t yes) few
 
   -- the new table is right
   pub new-rule : Rule (cellsOf (length memory)) (slotsOf (length t)) (bodiesOf (length bodies)) (stores (createWords t) (take (pairsAt (slotsOf (length t))) t))
-  unfolding createWords
-  new-rule =
-      rw (same-live, same-next) at (create-rule (cellsOf (length memory)) (slotsOf (length t)) (bodiesOf (length bodies)) (take first t) (store-rule memory bodies t yes) long-head (rw same-live few))
+  new-rule = raw-next memory bodies t yes (createWords t) below whole-rule
 
   -- and stands for the state with one domain more
   pub new-state : stateIn (slotsOf (length t)) (stores (createWords t) (take (pairsAt (slotsOf (length t))) t)) bodies ≡ created (stateOf (buffers memory bodies t))
   unfolding createWords
   new-state =
-      (rw (same-live, same-next) at (create-state (cellsOf (length memory)) (slotsOf (length t)) (bodiesOf (length bodies)) (take first t) (store-rule memory bodies t yes) long-head (rw same-live few) bodies))
-      ∙ ap created (sym (store-state memory bodies t yes))
-
-  new-names : namesOk (pairsAt (slotsOf (length t))) 0 (createWords t) ≡ true
-  unfolding createWords
-  new-names = create-names first (live t) (nextHandle t) few (omega arith)
+      raw-after memory bodies t yes (createWords t) below whole-rule bodies
+      ∙ create-state (cellsOf (length memory)) (slotsOf (length t)) (bodiesOf (length bodies)) t (raw-rule memory bodies t yes) (raw-long memory bodies t yes) few bodies
+      ∙ ap created (sym (raw-state memory bodies t yes))
 
   create-seen : (k : ℕ) → seenOf (outcome (perform (changePlan first [] (createWords t)) (nextHandle t)) k (buffers memory bodies t))
       ≡ viewed (change 0 3 (nextHandle t) (created (stateOf (buffers memory bodies t)))) k (stateOf (buffers memory bodies t)) memory

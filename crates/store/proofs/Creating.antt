@@ -1,32 +1,29 @@
 -- Create: the table that it leaves is right, and stands for the state with one domain more. Assumes nothing.
-use Prim.Native.Nat.{ℕ, zero, suc, _+_, _-_, _*_, _≤_, _<_}
-use mathlib.Core.Bool.{Bool, true, false, cond}
+use Prim.Native.Nat.{ℕ, suc, _+_, _-_, _≤_, _<_}
+use mathlib.Core.Bool.{true}
 use mathlib.Core.List.{List, [], _∷_, _++_}
-use mathlib.Core.Option.{Option, none, some}
+use mathlib.Core.Option.{none}
 use mathlib.Core.Path.{_≡_, refl, sym, ap, subst, _∙_}
-use native.Mathlib.Nat.{zero-add, suc-add}
 use native.Mathlib.Numerals.{add-one}
 use native.Mathlib.Omega.{arith}
-use borrow.Author.Tests.{eqb-true, eqb-false, eq-eqb, ne-eqb, lt-ltb, le-ltb, ltb-true, ltb-false}
-use lib.Dec.{ltb, eqb}
-use lib.ListN.{length, getD, set, take, length-set, length-take}
-use lib.Seq.{getD-set-same, getD-set-other, getD-take}
+use borrow.Author.Tests.{eqb-true, eqb-false, lt-ltb}
+use lib.Dec.{eqb}
+use lib.ListN.{length, getD, set, length-set}
+use lib.Seq.{getD-set-same, getD-set-other}
 use Rattle.words.specs.Layout.{liveAt, nextAt, handleAt, pairsAt, maxLive, firstAt, secondAt}
-use Rattle.words.specs.Stores.{Store, _≔_, stores, tab, tabFrom}
+use Rattle.words.specs.Stores.{stores, tab}
 use Rattle.words.specs.Journal.{namesOk, nameOk}
-use Rattle.words.proofs.Scan.{by-bool, and-join}
+use Rattle.words.proofs.Scan.{by-bool}
 use Rattle.words.proofs.Plans.{tab-below, tab-last}
 use Rattle.words.proofs.Names.{name-live, name-next, name-from}
-use Rattle.table.specs.Entry.{live, nextHandle, handle, word1, word2, depthOf, viaOf, cellOf, names, findIn, holdsIn}
+use Rattle.table.specs.Entry.{live, nextHandle, handle, word1, word2, depthOf, findIn}
 use Rattle.table.specs.Rule.{handleBefore, handleOk}
 use Rattle.table.proofs.Entry.{find-none, holds-false}
 use Rattle.table.proofs.Rule.{Rule}
 use Rattle.table.proofs.Head.{handle-live, handle-unused, handle-make, head-changed}
-use Rattle.search.proofs.Value.{Copy}
-use Rattle.model.specs.State.{Domain, State}
 use Rattle.model.specs.Calls.{created}
 use Rattle.store.specs.State.{heldIn, domainIn, stateIn}
-use Rattle.store.specs.Calls.{domainWords, createWords}
+use Rattle.store.specs.Calls.{domainWords}
 use Rattle.store.proofs.State.{held-kept}
 
 -- create over a right table t of at least its head and its entries, with room for one domain more

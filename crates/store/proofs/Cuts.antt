@@ -1,6 +1,6 @@
 -- What a cut of any call's journal leaves, and what opening then finds. Every changing call gets its own law of cuts from this one.
 -- Assumes nothing.
-use Prim.Native.Nat.{ℕ, zero, suc, _+_, _-_, _*_, _≤_, _<_}
+use Prim.Native.Nat.{ℕ, zero, suc, _+_, _*_, _≤_, _<_}
 use mathlib.Core.Bool.{true, false, cond}
 use mathlib.Core.List.{List, [], _∷_}
 use mathlib.Core.Option.{none, some}
@@ -173,15 +173,3 @@ openings-open memory bodies (k ∷ ks) t long opens =
     let n : length u ≡ length t = opening-length memory bodies t long opens k in
     subst (λ (x : ℕ). openCheck memory bodies (openings (pairsAt (slotsOf x)) ks u) ≡ 0) n
     (openings-open memory bodies ks u (n ∙ long ∙ ap (λ (x : ℕ). tableWords (slotsOf x)) (sym n)) (opening-opens memory bodies t long opens k))
-
--- all of them stopped: as many pairs are pending as before
-pub openings-pending : (memory bodies p : ℕ) (ks : List ℕ) (t : List ℕ) → length t ≡ tableWords (slotsOf (length t)) → openCheck memory bodies t ≡ 0
-    → pending t ≡ p → Each (λ k. k ≤ p) ks → pending (openings (pairsAt (slotsOf (length t))) ks t) ≡ p
-openings-pending memory bodies p [] t long opens same all = same
-openings-pending memory bodies p (k ∷ ks) t long opens same all =
-    let u : List ℕ = opening memory bodies t long opens k in
-    let n : length u ≡ length t = opening-length memory bodies t long opens k in
-    let l : k ≤ pending t = omega (arith, all .0) in
-    subst (λ (x : ℕ). pending (openings (pairsAt (slotsOf x)) ks u) ≡ p) n
-    (openings-pending memory bodies p ks u (n ∙ long ∙ ap (λ (x : ℕ). tableWords (slotsOf x)) (sym n)) (opening-opens memory bodies t long opens k)
-    (opening-stopped memory bodies t long opens k l ∙ same) (all .1))

@@ -1,28 +1,27 @@
 -- List: the words that it gives are the handles of the state. Assumes nothing.
 use Prim.Native.Nat.{ℕ, zero, suc, _+_, _-_, _≤_, _<_}
-use mathlib.Core.Bool.{Bool, true, false}
-use mathlib.Core.List.{List, [], _∷_, _++_, map}
+use mathlib.Core.List.{List, _∷_, _++_, map}
 use mathlib.Core.Path.{_≡_, refl, sym, ap, subst, _∙_}
-use native.Mathlib.Nat.{zero-add, not-suc-le-zero}
 use native.Mathlib.Omega.{arith}
 use borrow.Author.Tests.{eqb-true, eqb-false}
 use lib.Dec.{eqb}
-use lib.ListN.{length, getD, set, take, replicate}
-use lib.Seq.{getD-take, getD-set-same, getD-set-other, ext-getD}
-use Rattle.words.specs.Layout.{maxLive, handleAt, pairsAt, slotsOf}
+use lib.ListN.{length, getD, set, replicate}
+use lib.Seq.{getD-set-same, getD-set-other, ext-getD}
+use Rattle.words.specs.Layout.{maxLive, slotsOf}
 use Rattle.words.specs.Stores.{tab, tabFrom}
 use Rattle.words.proofs.Scan.{by-bool}
-use Rattle.words.proofs.Plans.{map-tabFrom, tab-below, getD-tab}
+use Rattle.words.proofs.Plans.{map-tabFrom, getD-tab}
 use Rattle.table.specs.Entry.{live, handle}
 use Rattle.table.proofs.Head.{handle-unused}
 use Rattle.model.specs.State.{Domain, State}
-use Rattle.model.specs.Answer.{done, refused}
-use Rattle.model.specs.Calls.{Listed, listed, listRefused}
+use Rattle.model.specs.Answer.{done}
+use Rattle.model.specs.Calls.{listed, listRefused}
 use Rattle.store.specs.Outcome.{Buffers, buffers}
 use Rattle.store.specs.Checks.{storeCheck}
 use Rattle.store.specs.State.{domainIn, stateIn, stateOf}
 use Rattle.store.specs.Means.{orListRefused, listMeans}
-use Rattle.store.proofs.Means.{live-count, store-rule, store-state}
+use Rattle.store.proofs.Means.{live-count}
+use Rattle.store.proofs.Raw.{live-within, raw-rule, raw-state}
 
 -- a list by a rule that gives 0 from some place on
 all-zero : (f : ℕ → ℕ) (at r : ℕ) → ((j : ℕ) → j < r → f (at + j) ≡ 0) → tabFrom f at r ≡ replicate r 0
@@ -46,33 +45,19 @@ unfolding stateIn
 state-handles e t bodies = map-tabFrom (λ (d : Domain). d .handle) (domainIn e t bodies) 0 (live t)
 
 module _ (memory bodies t : List ℕ) (yes : storeCheck (length memory) (length bodies) t ≡ 0) where
-  abbrev first : ℕ
-  first = pairsAt (slotsOf (length t))
-
-  same-handle : (k : ℕ) → k < maxLive → handle (take first t) k ≡ handle t k
-  same-handle k l = getD-take first t (handleAt k) 0 (omega arith)
-
-  same-live : live (take first t) ≡ live t
-  same-live = getD-take first t 4 0 (omega arith)
-
   few : live t ≤ maxLive
-  few = subst (λ (n : ℕ). n ≤ maxLive) same-live (store-rule memory bodies t yes .live)
+  few = live-within (length memory) (length bodies) t yes
 
   handles-of : map (λ d. d .handle) (stateOf (buffers memory bodies t) .domains) ≡ tab (live t) (handle t)
   handles-of =
-      ap (λ (s : State). map (λ d. d .handle) (s .domains)) (store-state memory bodies t yes)
-      ∙ state-handles (slotsOf (length t)) (take first t) bodies
-      ∙ ap (λ (n : ℕ). tab n (handle (take first t))) same-live
-      ∙ tab-below (handle (take first t)) (handle t) (live t) (λ k l. same-handle k (let f = few in omega arith))
+      ap (λ (s : State). map (λ d. d .handle) (s .domains)) (raw-state memory bodies t yes)
+      ∙ state-handles (slotsOf (length t)) t bodies
 
   unused : (j : ℕ) → j < maxLive - live t → handle t (0 + live t + j) ≡ 0
   unused j l =
-      let k : ℕ = live t + j in
       let f = few in
       let z : 0 + live t + j ≡ live t + j = omega arith in
-      let lt : live t + j < maxLive = omega arith in
-      let le : live (take first t) ≤ live t + j = rw same-live (omega arith) in
-      ap (handle t) z ∙ sym (same-handle (live t + j) lt) ∙ handle-unused (take first t) (live t + j) (store-rule memory bodies t yes .handles (live t + j) lt) le
+      ap (handle t) z ∙ handle-unused t (live t + j) (raw-rule memory bodies t yes .handles (live t + j) (omega arith)) (omega arith)
 
   pub handles-listed : tab maxLive (handle t)
       ≡ map (λ d. d .handle) (stateOf (buffers memory bodies t) .domains) ++ replicate (8 - length (stateOf (buffers memory bodies t) .domains)) 0

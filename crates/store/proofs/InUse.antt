@@ -1,39 +1,26 @@
 -- Live entries and copies in use: as many in the words of a right table as in the state that it stands for. Assumes nothing.
 use Prim.Native.Nat.{ℕ, zero, suc, _+_, _-_, _≤_, _<_}
-use mathlib.Core.Bool.{Bool, true, false, not, _&&_, _||_}
+use mathlib.Core.Bool.{Bool, true, not, _&&_, _||_, and-true}
 use mathlib.Core.List.{List}
 use mathlib.Core.Option.{Option}
 use mathlib.Core.Path.{_≡_, refl, sym, ap, _∙_}
 use native.Mathlib.Omega.{arith}
 use borrow.Author.Tests.{eq-eqb, ne-eqb, eqb-true, eqb-false, lt-ltb, le-ltb}
 use lib.Dec.{ltb, eqb}
-use lib.ListN.{length, drop}
-use Rattle.words.specs.Layout.{cellsOf, bodiesOf}
+use lib.ListN.{drop}
 use Rattle.words.specs.Scan.{count}
 use Rattle.words.specs.Stores.{tabFrom}
-use Rattle.words.proofs.Scan.{by-bool, by-le, count-ext}
+use Rattle.words.proofs.Scan.{by-bool, by-le, count-ext, count-none}
 use Rattle.table.specs.Entry.{live, word1, depthOf, viaOf, findIn, holdsIn}
 use Rattle.table.proofs.Rule.{Rule}
 use Rattle.search.specs.Free.{slotFree, usedSlots, copies}
 use Rattle.search.proofs.Counts.{count-entries}
 use Rattle.model.specs.State.{Holding}
 use Rattle.model.specs.Holdings.{isHeld, hasBody, heldInBody, countHeld, liveEntries, copiesInUse}
-use Rattle.store.specs.Outcome.{Buffers}
-use Rattle.store.specs.Checks.{storeCheck}
-use Rattle.store.specs.State.{kindOf, heldIn, domainIn, stateIn, stateOf, slots}
+use Rattle.store.specs.State.{kindOf, heldIn, domainIn, stateIn}
 use Rattle.store.proofs.Domains.{held-holds}
-use Rattle.store.proofs.Raw.{raw-rule, raw-state}
 
 -- ---- counts
-
-pub count-none : (n : ℕ) (f : ℕ → Bool) → ((k : ℕ) → k < n → f k ≡ false) → count n f ≡ 0
-unfolding count
-count-none zero f h = refl
-count-none (suc n) f h = rw (h n (omega arith), count-none n f (λ k l. h k (omega arith)))
-
-pub and-true : (a : Bool) → (a && true) ≡ a
-and-true true = refl
-and-true false = refl
 
 -- numbers above x: the next one, and those above it
 above : (x y : ℕ) → ltb x y ≡ (eqb y (suc x) || ltb (suc x) y)
@@ -143,15 +130,3 @@ module _ (m e b : ℕ) (t : List ℕ) (ok : Rule m e b t) (bodies : List ℕ) wh
   pub copies-in-use : copiesInUse m (stateIn e t bodies) ≡ copies e t
   unfolding copies
   copies-in-use = held-all (λ w. eqb (viaOf w) 0) heldInBody in-body
-
--- of lent buffers that pass questions 1 to 4: what the code counts in the table is what the state has
-module _ (b : Buffers) (yes : storeCheck (length (b .memory)) (length (b .bodies)) (b .table) ≡ 0) where
-  pub store-entries : liveEntries (cellsOf (length (b .memory))) (stateOf b) ≡ usedSlots (slots b) (b .table)
-  store-entries =
-      ap (liveEntries (cellsOf (length (b .memory)))) (raw-state (b .memory) (b .bodies) (b .table) yes)
-      ∙ entries-in-use (cellsOf (length (b .memory))) (slots b) (bodiesOf (length (b .bodies))) (b .table) (raw-rule (b .memory) (b .bodies) (b .table) yes) (b .bodies)
-
-  pub store-copies : copiesInUse (cellsOf (length (b .memory))) (stateOf b) ≡ copies (slots b) (b .table)
-  store-copies =
-      ap (copiesInUse (cellsOf (length (b .memory)))) (raw-state (b .memory) (b .bodies) (b .table) yes)
-      ∙ copies-in-use (cellsOf (length (b .memory))) (slots b) (bodiesOf (length (b .bodies))) (b .table) (raw-rule (b .memory) (b .bodies) (b .table) yes) (b .bodies)

@@ -79,9 +79,6 @@ module _ (m e b : ℕ) (t : List ℕ) (long : length t ≡ tableWords e) where
   unfolding makePlan
   make-length = simp (length-append, length-tab) (omega arith)
 
-  pub after-make : (k : ℕ) → List ℕ
-  after-make k = stores (take k (makePlan m e b)) t
-
   -- from the first store to the last, word 0 is cleared
   pub make-gone : (k : ℕ) → 0 < k → k < pairsAt e + 1 → getD (stores (take k (makePlan m e b)) t) magicAt 0 ≡ 0
   unfolding makePlan

@@ -1,5 +1,5 @@
 -- The outcome of each call, as the plan of its stores gives it, is what the call means. Assumes nothing.
-use Prim.Native.Nat.{ℕ, zero, suc, _+_, _*_, _<_}
+use Prim.Native.Nat.{ℕ, zero, suc, _+_, _<_}
 use mathlib.Core.Bool.{true, false}
 use mathlib.Core.List.{List, [], map}
 use mathlib.Core.Option.{some}
@@ -12,7 +12,6 @@ use Rattle.words.specs.Layout.{liveAt, nextAt, pairsAt, slotsOf, cellsOf, bodie
 use Rattle.words.specs.Stores.{Store, stores}
 use Rattle.words.specs.Journal.{pending, effective, openPlan, applyPlan}
 use Rattle.words.proofs.Scan.{by-bool, by-le}
-use Rattle.words.proofs.Plans.{length-tab}
 use Rattle.words.proofs.Pairs.{open-idle, open-pending, length-applyPlan}
 use Rattle.words.proofs.Journal.{effective-idle}
 use Rattle.table.specs.Entry.{live, nextHandle}
@@ -24,11 +23,12 @@ use Rattle.model.specs.Answer.{Report, refused, done, ended, view}
 use Rattle.model.specs.Calls.{makeSteps, makeState, openSteps}
 use Rattle.store.specs.Outcome.{Buffers, buffers, inTable, outcome, leaves, perform, unless}
 use Rattle.store.specs.Checks.{makeCheck, openCheck, storeCheck}
-use Rattle.store.specs.State.{domainIn, stateIn, stateOf, standing}
+use Rattle.store.specs.State.{stateIn, stateOf, standing}
 use Rattle.store.specs.Calls.{makePlan, makeCall, openCall}
 pub use Rattle.store.specs.Means.{seenOf}
 use Rattle.store.specs.Means.{orRefused, makeMeans, openMeans}
 use Rattle.store.proofs.Checks.{shape-lengths, open-shape, store-shape, store-idle, store-table, store-opens, table-rule}
+use Rattle.store.proofs.Domains.{domains-count}
 use Rattle.store.proofs.Outcome.{table-after, performed, refuses, ended-done}
 use Rattle.store.proofs.Cuts.{stands-open, opening, opening-length, opening-effective, opening-opens}
 use Rattle.store.proofs.Making.{make-length, make-none, make-fresh}
@@ -102,10 +102,6 @@ open-means k b =
 
 -- ---- a table that passes questions 1 to 4
 
-state-count : (e : ℕ) (t bodies : List ℕ) → length (stateIn e t bodies .domains) ≡ live t
-unfolding stateIn
-state-count e t bodies = length-tab (domainIn e t bodies) (live t)
-
 state-next : (e : ℕ) (t bodies : List ℕ) → stateIn e t bodies .next ≡ nextHandle t
 unfolding stateIn
 state-next e t bodies = refl
@@ -139,7 +135,7 @@ module _ (memory bodies t : List ℕ) (yes : storeCheck (length memory) (length 
   pub live-count : length (stateOf (buffers memory bodies t) .domains) ≡ live t
   live-count =
       ap (λ (s : State). length (s .domains)) store-state
-      ∙ state-count (slotsOf (length t)) (take first t) bodies
+      ∙ domains-count (slotsOf (length t)) (take first t) bodies
       ∙ getD-take first t liveAt 0 (omega arith)
 
   pub next-is : stateOf (buffers memory bodies t) .next ≡ nextHandle t

@@ -1,20 +1,18 @@
--- What holds of every call by its shape: a refusal changes nothing, a step is one store, and stopped is exactly what needs more than the
--- budget. Assumes nothing.
-use Prim.Native.Nat.{ℕ, zero, suc, _+_, _-_, _*_, _≤_, _<_}
-use mathlib.Core.Bool.{Bool, true, false, cond}
-use mathlib.Core.List.{List, [], _∷_, _++_, map}
+-- What holds of every call by its shape: a refusal changes nothing, and one more of the budget makes at most one store more.
+-- Assumes nothing.
+use Prim.Native.Nat.{ℕ, zero, suc, _≤_}
+use mathlib.Core.List.{List, [], _∷_, map}
 use mathlib.Core.Logic.{_⊎_, inl, inr}
-use mathlib.Core.Path.{_≡_, refl, sym, ap, subst, _∙_}
+use mathlib.Core.Path.{_≡_, refl, sym}
 use native.Mathlib.Omega.{arith}
-use borrow.Author.Tests.{le-leb, lt-leb}
-use lib.Dec.{leb}
-use lib.ListN.{length, getD, take, length-map, length-take}
+use borrow.Author.Tests.{le-leb}
+use lib.ListN.{length, getD, take, length-map}
 use lib.Seq.{take-all}
-use Rattle.words.specs.Stores.{Store, _≔_, store, stores, run}
+use Rattle.words.specs.Stores.{Store, _≔_, store, stores}
 use Rattle.words.proofs.Scan.{by-le}
 use Rattle.words.proofs.Plans.{run-take-suc, take-map}
-use Rattle.model.specs.Answer.{Report, done, stopped, refused, ended}
-use Rattle.store.specs.Outcome.{Buffers, buffers, Step, inMemory, inBodies, inTable, step, steps, Call, refuse, perform, unless, Outcome, leaves, outcome}
+use Rattle.model.specs.Answer.{Report, done, refused, ended}
+use Rattle.store.specs.Outcome.{Buffers, buffers, Step, inTable, step, steps, Call, refuse, perform, unless, leaves, outcome}
 
 -- ---- a refusal has its number, zero steps, no handle and every buffer as lent, whatever the budget
 
@@ -27,32 +25,11 @@ unfolding outcome
 refuses q zero c k b e h = absurd (h e)
 refuses q (suc n) c k b e h = rw e
 
-pub goes-on : (q : ℕ) (c : Call) (k : ℕ) (b : Buffers) → q ≡ 0 → outcome (unless q c) k b ≡ outcome c k b
-goes-on zero c k b h = refl
-goes-on (suc q) c k b h = absurd (omega arith)
-
--- ---- done, or stopped exactly if more is needed
+-- ---- done, where the budget suffices
 
 pub ended-done : (need h k : ℕ) → need ≤ k → ended need h k ≡ done need h
 unfolding ended
 ended-done need h k l = rw (le-leb need k l)
-
-pub ended-stopped : (need h k : ℕ) → k < need → ended need h k ≡ stopped k
-unfolding ended
-ended-stopped need h k l = rw (lt-leb need k l)
-
-module _ (plan : List Step) (h k : ℕ) (b : Buffers) where
-  pub is-done : length plan ≤ k → outcome (perform plan h) k b ≡ leaves (done (length plan) h) (steps plan b)
-  unfolding outcome
-  is-done l = rw (ended-done (length plan) h k l, take-all k plan l)
-
-  -- with the budget's steps made
-  pub is-stopped : k < length plan → outcome (perform plan h) k b ≡ leaves (stopped k) (steps (take k plan) b)
-  unfolding outcome
-  is-stopped l = rw (ended-stopped (length plan) h k l)
-
-  pub made : k ≤ length plan → length (take k plan) ≡ k
-  made l = length-take k plan ∙ omega arith
 
 -- ---- one more of the budget makes at most one store more, in one word or byte
 

@@ -7,13 +7,13 @@ use mathlib.Core.Option.{none}
 use mathlib.Core.Path.{_≡_, sym, ap, _∙_}
 use native.Mathlib.Omega.{arith}
 use lib.ListN.{length}
-use Rattle.words.specs.Layout.{cellAt, cellsOf, bodiesOf, slotsOf}
+use Rattle.words.specs.Layout.{slotsOf}
 use Rattle.words.specs.Scan.{first}
 use Rattle.words.specs.Cells.{cellBytes}
 use Rattle.words.proofs.Scan.{by-bool, first-ext}
 use Rattle.table.specs.Entry.{live, word2, holdsIn}
 use Rattle.search.specs.Search.{stepsIn, heldFrom, sourceIn, valueIn, bodyFrom}
-use Rattle.search.proofs.Behind.{steps-within, steps-past, steps-hold, from-slot, from-fits}
+use Rattle.search.proofs.Behind.{steps-within, steps-past, steps-hold}
 use Rattle.model.specs.State.{State}
 use Rattle.model.specs.Holdings.{holdingAt, isHeld, valueOr}
 use Rattle.model.specs.Restore.{outermost}
@@ -21,9 +21,8 @@ use Rattle.model.proofs.Views.{outermost-search}
 use Rattle.store.specs.Outcome.{buffers}
 use Rattle.store.specs.Checks.{storeCheck}
 use Rattle.store.specs.State.{heldIn, stateIn, stateOf}
-use Rattle.store.proofs.Checks.{store-shape, shape-facts}
 use Rattle.store.proofs.Domains.{domains-count, state-holding, state-past, held-holds}
-use Rattle.store.proofs.Raw.{raw-rule, raw-state}
+use Rattle.store.proofs.Raw.{raw-state}
 
 -- ---- of the words of any table
 
@@ -51,9 +50,6 @@ module _ (e : ℕ) (t : List ℕ) (d c : ℕ) where
     pub outermost-none : heldFrom e t d c ≡ false → outermost d c (stateIn e t bodies) ≡ none
     outermost-none h = outermost-at ∙ state-past e t bodies (d + stepsIn e t d c) c (steps-past e t d c h)
 
-    pub outermost-is : outermost d c (stateIn e t bodies) ≡ cond (heldFrom e t d c) (heldIn e t bodies (d + stepsIn e t d c) c) none
-    outermost-is = by-bool (heldFrom e t d c) (λ h. rw h (outermost-found h)) (λ h. rw h (outermost-none h))
-
     -- is there one?
     pub outermost-held : isHeld (outermost d c (stateIn e t bodies)) ≡ heldFrom e t d c
     outermost-held =
@@ -78,30 +74,9 @@ module _ (e : ℕ) (t : List ℕ) (d c : ℕ) where
 -- ---- of lent buffers that pass questions 1 to 4, by the words of the table as it is lent
 
 module _ (memory bodies t : List ℕ) (yes : storeCheck (length memory) (length bodies) t ≡ 0) (d c : ℕ) (low : 1 ≤ d) where
-  pub store-outermost : outermost d c (stateOf (buffers memory bodies t))
-      ≡ cond (heldFrom (slotsOf (length t)) t d c) (heldIn (slotsOf (length t)) t bodies (d + stepsIn (slotsOf (length t)) t d c) c) none
-  store-outermost = ap (outermost d c) (raw-state memory bodies t yes) ∙ outermost-is (slotsOf (length t)) t d c bodies low
-
   pub store-held : isHeld (outermost d c (stateOf (buffers memory bodies t))) ≡ heldFrom (slotsOf (length t)) t d c
   store-held = ap (λ (s : State). isHeld (outermost d c s)) (raw-state memory bodies t yes) ∙ outermost-held (slotsOf (length t)) t d c bodies low
 
   pub store-bytes : (v : List ℕ) → valueOr v (outermost d c (stateOf (buffers memory bodies t)))
       ≡ cond (heldFrom (slotsOf (length t)) t d c) (cellBytes bodies (bodyFrom (slotsOf (length t)) t d c)) v
   store-bytes v = ap (λ (s : State). valueOr v (outermost d c s)) (raw-state memory bodies t yes) ∙ outermost-bytes (slotsOf (length t)) t d c bodies low v
-
-  -- where somebody holds it
-  module _ (h : heldFrom (slotsOf (length t)) t d c ≡ true) where
-    pub store-value : (v : List ℕ) → valueOr v (outermost d c (stateOf (buffers memory bodies t))) ≡ cellBytes bodies (bodyFrom (slotsOf (length t)) t d c)
-    store-value v = ap (λ (s : State). valueOr v (outermost d c s)) (raw-state memory bodies t yes) ∙ outermost-value (slotsOf (length t)) t d c bodies low v h
-
-    pub store-slot : sourceIn (slotsOf (length t)) t (d + stepsIn (slotsOf (length t)) t d c) c < slotsOf (length t)
-    store-slot = from-slot (cellsOf (length memory)) (slotsOf (length t)) (bodiesOf (length bodies)) t (raw-rule memory bodies t yes) d c low h
-
-    pub store-fits : bodyFrom (slotsOf (length t)) t d c < bodiesOf (length bodies)
-    store-fits = from-fits (cellsOf (length memory)) (slotsOf (length t)) (bodiesOf (length bodies)) t (raw-rule memory bodies t yes) d c low h
-
-    -- the body lies in the bodies
-    pub store-within : cellAt (bodyFrom (slotsOf (length t)) t d c) + 64 ≤ length bodies
-    store-within =
-        let f = shape-facts (length memory) (length bodies) t (store-shape (length memory) (length bodies) t yes) in
-        omega (arith, f .bodies-exact, store-fits)

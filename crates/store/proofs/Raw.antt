@@ -1,11 +1,11 @@
 -- A table that passes questions 1 to 4, read as it is lent: its pairs do not matter. Assumes nothing.
-use Prim.Native.Nat.{ℕ, _<_}
+use Prim.Native.Nat.{ℕ, _<_, _≤_}
 use mathlib.Core.List.{List}
 use mathlib.Core.Path.{_≡_, refl, sym, ap, subst, _∙_}
 use native.Mathlib.Omega.{arith}
 use lib.ListN.{length, take}
 use lib.Seq.{getD-take}
-use Rattle.words.specs.Layout.{cellsOf, bodiesOf, slotsOf, pairsAt, liveAt, nextAt, handleAt, firstAt, secondAt}
+use Rattle.words.specs.Layout.{cellsOf, bodiesOf, slotsOf, pairsAt, liveAt, nextAt, handleAt, firstAt, secondAt, maxLive}
 use Rattle.words.specs.Stores.{Store, stores}
 use Rattle.words.proofs.Plans.{Each, take-stores}
 use Rattle.words.proofs.Journal.{effective-idle}
@@ -20,7 +20,7 @@ use Rattle.store.specs.Checks.{storeCheck}
 use Rattle.store.specs.State.{stateIn, stateOf}
 use Rattle.store.proofs.Checks.{store-idle, store-table, table-rule}
 use Rattle.store.proofs.Domains.{state-named}
-use Rattle.store.proofs.Means.{store-state}
+use Rattle.store.proofs.Means.{store-state, t-long}
 use Rattle.store.proofs.State.{state-kept}
 
 -- ---- the words in front of the pairs are all that the rule and the state read
@@ -60,9 +60,17 @@ check-rule memory bodies t pass =
     (effective-idle (pairsAt (slotsOf (length t))) t (store-idle memory bodies t pass))
     (table-rule memory bodies t (store-table memory bodies t pass)))
 
+-- there are at most eight live domains
+pub live-within : (memory bodies : ℕ) (t : List ℕ) → storeCheck memory bodies t ≡ 0 → live t ≤ maxLive
+live-within memory bodies t pass = check-rule memory bodies t pass .live
+
 module _ (memory bodies t : List ℕ) (yes : storeCheck (length memory) (length bodies) t ≡ 0) where
   pub raw-rule : Rule (cellsOf (length memory)) (slotsOf (length t)) (bodiesOf (length bodies)) t
   raw-rule = check-rule (length memory) (length bodies) t yes
+
+  -- the table has its head and its entries
+  pub raw-long : pairsAt (slotsOf (length t)) ≤ length t
+  raw-long = omega (arith, t-long memory bodies t yes)
 
   pub raw-state : stateOf (buffers memory bodies t) ≡ stateIn (slotsOf (length t)) t bodies
   raw-state = store-state memory bodies t yes ∙ front-state (cellsOf (length memory)) (slotsOf (length t)) (bodiesOf (length bodies)) t bodies raw-rule

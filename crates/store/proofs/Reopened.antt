@@ -20,7 +20,8 @@ use Rattle.words.proofs.Pairs.{length-pairPlans, length-journaled, journal-some
 use Rattle.words.proofs.Journal as law
 use Rattle.table.specs.Rule.{pairsOk}
 use Rattle.table.proofs.Pairs.{pairs-few, pairs-names}
-use Rattle.model.specs.Answer.{Status, isDone, isStopped, isRefused, done, ended, stepsOf}
+use Rattle.model.specs.Answer.{isDone, done, ended, stepsOf}
+use Rattle.model.proofs.Told.{Finished}
 use Rattle.store.specs.Outcome.{Buffers, buffers, Call, perform, unless, changePlan, Outcome, outcome, leaves}
 use Rattle.store.specs.Checks.{openCheck, storeCheck}
 use Rattle.store.specs.State.{slots}
@@ -32,11 +33,6 @@ use Rattle.store.proofs.Cuts.{opening-opens}
 use Rattle.store.proofs.Means.{by-check, long, t-long, open-none}
 use Rattle.store.proofs.Standing.{Opens}
 use Rattle.store.proofs.Changes.{change-length, change-steps}
-
-abbrev Finished : Status → Type 0
-Finished isDone = Unit {0}
-Finished isStopped = ⊥
-Finished isRefused = ⊥
 
 -- what is done had the budget that it needs
 pub done-enough : (n h k : ℕ) → (ended n h k) .status ≡ isDone → n ≤ k
@@ -122,9 +118,6 @@ module _ (c : Call) (b : Buffers) (s : Shaped c b) (good : storeCheck (length (b
     (every : (k : ℕ) → Opens ((outcome c k b) .buffers)) where
   abbrev first : ℕ
   first = pairsAt (slotsOf (length (b .table)))
-
-  abbrev p : ℕ
-  p = length (s .ws)
 
   idle : pending (b .table) ≡ 0
   idle = store-idle (length (b .memory)) (length (b .bodies)) (b .table) good

@@ -1,5 +1,5 @@
 -- Demand 2 on states: a table that opening accepts stands for exactly one state, and what does not matter to it. Assumes nothing.
-use Prim.Native.Nat.{ℕ, _-_}
+use Prim.Native.Nat.{ℕ}
 use mathlib.Core.List.{List}
 use mathlib.Core.Option.{Option, none, some}
 use mathlib.Core.Path.{_≡_, refl, subst}
@@ -25,7 +25,7 @@ use Rattle.store.proofs.Cuts.{stands-open}
 abbrev pub Opens : Buffers → Type 0
 Opens b = openCheck (length (b .memory)) (length (b .bodies)) (b .table) ≡ 0
 
-abbrev None : Option State → Type 0
+abbrev pub None : Option State → Type 0
 None none = Unit {0}
 None (some s) = ⊥
 

@@ -1,27 +1,27 @@
 -- A right table stands for exactly one state, and the function `stateIn` gives it. Assumes nothing.
-use Prim.Native.Nat.{ℕ, zero, suc, _+_, _-_, _≤_, _<_}
-use mathlib.Core.Bool.{Bool, true, false, cond}
-use mathlib.Core.List.{List, [], _∷_, _++_}
-use mathlib.Core.Option.{Option, none, some}
+use Prim.Native.Nat.{ℕ, zero, suc, _-_, _≤_, _<_}
+use mathlib.Core.Bool.{true}
+use mathlib.Core.List.{List}
+use mathlib.Core.Option.{Option}
 use mathlib.Core.Path.{_≡_, refl, sym, ap, subst, _∙_}
 use native.Mathlib.Nat.{not-suc-le-zero}
 use native.Mathlib.Omega.{arith}
 use borrow.Author.Tests.{eqb-true, eqb-false}
 use lib.Dec.{eqb}
-use lib.ListN.{length, getD}
+use lib.ListN.{getD}
 use lib.Seq.{ext-getD}
 use Rattle.words.specs.Stores.{tab}
 use Rattle.words.specs.Cells.{cellBytes}
 use Rattle.words.proofs.Scan.{by-bool}
 use Rattle.words.proofs.Plans.{length-tab, getD-tab, tab-below}
-use Rattle.table.specs.Entry.{live, nextHandle, handle, word1, word2, depthOf, viaOf, cellOf, parent, names, findIn, holdsIn}
+use Rattle.table.specs.Entry.{live, nextHandle, handle, word1, word2, depthOf, viaOf, parent, names, findIn, holdsIn}
 use Rattle.table.proofs.Entry.{names-both, names-make, find-hit, find-miss, find-some, find-at, find-ext, holds-true, holds-false, holds-found, holds-none}
 use Rattle.table.proofs.Rule.{Rule}
-use Rattle.table.proofs.Change.{only-one}
+use Rattle.table.proofs.Single.{only-one}
 use Rattle.search.specs.Search.{valueIn}
 use Rattle.search.proofs.Value.{Copy, value-copy, value-via, value-kept}
 use Rattle.model.specs.State.{Holding, Domain, State}
-use Rattle.store.specs.State.{labelOf, kindOf, ValueIs, ofCopy, ofParent, HoldingIs, nothing, entry, DomainIs, noDomain, StandsFor, heldIn, domainIn, stateIn}
+use Rattle.store.specs.State.{ValueIs, ofCopy, ofParent, HoldingIs, nothing, entry, DomainIs, noDomain, StandsFor, heldIn, domainIn, stateIn}
 
 pub bit : (w : ℕ) → (viaOf w ≡ 0 → ⊥) → viaOf w ≡ 1
 bit w h = omega (arith, h)

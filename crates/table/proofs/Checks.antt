@@ -1,9 +1,9 @@
--- Questions 1 and 2 as facts, and that the computed tests and the facts say the same. Assumes nothing.
+-- Questions 1 and 2 as facts: what a yes to question 1 tells, and what makes a yes to question 2. Assumes nothing.
 use Prim.Native.Nat.{ℕ, _≤_}
 use mathlib.Core.Bool.{true, false, _&&_}
 use mathlib.Core.List.{List}
 use mathlib.Core.Path.{_≡_}
-use borrow.Author.Tests.{le-leb, eq-eqb, leb-true, eqb-true}
+use borrow.Author.Tests.{eq-eqb, leb-true, eqb-true}
 use lib.Dec.{leb, eqb}
 use lib.ListN.{length, getD}
 use Rattle.words.specs.Layout.{cellAt, cellsOf, bodiesOf, maxCells, maxBodies, maxSlots, tableWords, slotsOf, magic, magicAt, cellsAt, slotsAt, bodiesAt, zeroAt}
@@ -29,9 +29,6 @@ within n most len exact h =
     let b = and-split (leb 1 n) (leb n most) (s .0) in
     (leb-true 1 n (b .0), leb-true n most (b .1), eqb-true len exact (s .1))
 
-within-make : (n most len exact : ℕ) → 1 ≤ n → n ≤ most → len ≡ exact → (between1 n most && eqb len exact) ≡ true
-within-make n most len exact a b c = and-join _ _ (and-join _ _ (le-leb 1 n a) (le-leb n most b)) (eq-eqb len exact c)
-
 module _ (m b t : ℕ) where
   pub lengths-facts : lengthsOk m b t ≡ true → Lengths m b t
   unfolding lengthsOk
@@ -53,13 +50,6 @@ module _ (m b t : ℕ) where
         table-exact = z .2;
       }
 
-  pub lengths-make : Lengths m b t → lengthsOk m b t ≡ true
-  unfolding lengthsOk
-  lengths-make h =
-      and-join _ _ (within-make (cellsOf m) maxCells m (cellAt (cellsOf m)) (h .cells-low) (h .cells-high) (h .memory-exact))
-      (and-join _ _ (within-make (cellsOf b) maxBodies b (cellAt (cellsOf b)) (h .bodies-low) (h .bodies-high) (h .bodies-exact))
-      (within-make (slotsOf t) maxSlots t (tableWords (slotsOf t)) (h .slots-low) (h .slots-high) (h .table-exact)))
-
 -- ---- question 2, for buffers of m and b bytes
 pub record Header (m b : ℕ) (t : List ℕ) : Type 0 where
   pub magic : getD t magicAt 0 ≡ magic
@@ -69,21 +59,6 @@ pub record Header (m b : ℕ) (t : List ℕ) : Type 0 where
   pub zero : getD t zeroAt 0 ≡ 0
 
 module _ (m b : ℕ) (t : List ℕ) where
-  pub header-facts : headerOk m b t ≡ true → Header m b t
-  unfolding headerOk
-  header-facts h =
-      let s1 = and-split _ _ h in
-      let s2 = and-split _ _ (s1 .1) in
-      let s3 = and-split _ _ (s2 .1) in
-      let s4 = and-split _ _ (s3 .1) in
-      record {
-        magic = eqb-true _ _ (s1 .0);
-        cells = eqb-true _ _ (s2 .0);
-        slots = eqb-true _ _ (s3 .0);
-        bodies = eqb-true _ _ (s4 .0);
-        zero = eqb-true _ _ (s4 .1);
-      }
-
   pub header-make : Header m b t → headerOk m b t ≡ true
   unfolding headerOk
   header-make h =

@@ -14,7 +14,7 @@ twice : (k : ℕ) → 2 ^ suc k ≡ 2 * 2 ^ k
 twice k = omega arith
 
 -- digit k + 1 is digit k of the half
-halved : (m k : ℕ) → m / 2 ^ suc k ≡ m / 2 / 2 ^ k
+pub halved : (m k : ℕ) → m / 2 ^ suc k ≡ m / 2 / 2 ^ k
 halved m k = ap (λ (j : ℕ). m / 2 ^ j) (omega arith) ∙ sym (shr-shr m 1 k)
 
 digit-set : (m j : ℕ) → m / 2 ^ j % 2 ≡ 0 → (m + 2 ^ j) / 2 ^ j % 2 ≡ 1

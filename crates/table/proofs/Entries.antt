@@ -17,7 +17,7 @@ use Rattle.words.proofs.Scan.{by-bool}
 use Rattle.words.proofs.Plans.{Each, each-map, each-append, length-stores, getD-stores, run-append}
 use Rattle.words.proofs.Names.{name-from, names-make, names-each, names-above, names-rising}
 use Rattle.words.proofs.Plans.{Rising}
-use Rattle.words.proofs.Gather.{each-gather}
+use Rattle.words.proofs.Gather.{each-gather, gather-count}
 use Rattle.table.specs.Entry.{word1, word2}
 use Rattle.table.specs.Changes.{Change, keep, put, isChanged, newFirst, newSecond, entryStores, entryChanges}
 
@@ -139,16 +139,8 @@ module _ (e : ℕ) (f : ℕ → Change) where
   stores-length i keep = refl
   stores-length i (put w v) = refl
 
-  counted : (n : ℕ) → length (gather n (λ i. entryStores e i (f i))) ≡ 2 * count n (λ i. isChanged (f i))
-  unfolding count
-  counted zero = refl
-  counted (suc n) =
-      length-append (gather n (λ i. entryStores e i (f i))) (entryStores e n (f n))
-      ∙ rw (counted n, stores-length n (f n))
-      (by-bool (isChanged (f n)) (λ z. rw z (omega arith)) (λ z. rw z (omega arith)))
-
   pub changes-count : length (entryChanges e f) ≡ 2 * count e (λ i. isChanged (f i))
-  changes-count = counted e
+  changes-count = gather-count 2 e (λ i. isChanged (f i)) (λ i. entryStores e i (f i)) (λ i. stores-length i (f i))
 
   rising-one : (i : ℕ) (c : Change) → Rising (entryStores e i c)
   rising-one i keep = tt

@@ -1,15 +1,14 @@
 -- Laws of the search for an entry. Assumes nothing.
-use Prim.Native.Nat.{ℕ, suc, _+_, _*_, _/_, _%_, _≤_, _<_}
-use mathlib.Core.Path.{_≡_, refl, sym, ap, subst, _∙_}
+use Prim.Native.Nat.{ℕ, _≤_, _<_}
+use mathlib.Core.Path.{_≡_}
 use native.Mathlib.Omega.{arith}
-use borrow.Author.Tests.{eq-eqb, ne-eqb, eqb-true, eqb-false, lt-ltb, le-ltb, ltb-true, ltb-false}
-use mathlib.Core.Bool.{Bool, true, false, not, _&&_}
+use borrow.Author.Tests.{eq-eqb, eqb-true, eqb-false, lt-ltb, le-ltb, ltb-true, ltb-false, ne-eqb}
+use mathlib.Core.Bool.{true, false, not}
 use mathlib.Core.List.{List}
-use lib.ListN.{getD}
-use lib.Dec.{ltb, leb, eqb}
+use lib.Dec.{eqb}
 use Rattle.words.specs.Scan.{first}
-use Rattle.words.proofs.Scan.{first-at, first-le, first-hit, first-miss, first-ext, and-split, and-join, is-false, true≢, not-lt, not-above}
-use Rattle.table.specs.Entry.{word1, depthOf, viaOf, writableOf, cellOf, isVia, isWritable, names, findIn, holdsIn}
+use Rattle.words.proofs.Scan.{first-at, first-hit, first-miss, first-ext, and-split, and-join, is-false, true≢, not-lt, not-above, by-bool}
+use Rattle.table.specs.Entry.{word1, depthOf, viaOf, cellOf, isVia, names, findIn, holdsIn, writableOf}
 
 -- ---- the fields of a first word, as truths and as numbers
 pub via-one : (w : ℕ) → isVia w ≡ true → viaOf w ≡ 1
@@ -21,11 +20,11 @@ via-zero w p = let q = eqb-false (viaOf w) 1 p in omega (arith, q)
 pub via-some : (w : ℕ) → isVia w ≡ true → viaOf w ≡ 0 → ⊥
 via-some w p z = omega (arith, z, via-one w p)
 
-pub label-one : (w : ℕ) → isWritable w ≡ true → writableOf w ≡ 1
-label-one w p = eqb-true (writableOf w) 1 p
-
-pub label-zero : (w : ℕ) → isWritable w ≡ false → writableOf w ≡ 0
-label-zero w p = let q = eqb-false (writableOf w) 1 p in omega (arith, q)
+pub read-only : (w : ℕ) → not (eqb (writableOf w) 1) ≡ eqb (writableOf w) 0
+read-only w =
+    by-bool (eqb (writableOf w) 1)
+    (λ z. let q = eqb-true (writableOf w) 1 z in rw (z, ne-eqb (writableOf w) 0 (λ y. omega arith)))
+    (λ z. let q = eqb-false (writableOf w) 1 z in rw (z, eq-eqb (writableOf w) 0 (omega (arith, q))))
 
 module _ (e : ℕ) (t : List ℕ) (d c : ℕ) where
   pub names-both : (w : ℕ) → names d c w ≡ true → (depthOf w ≡ d) × (cellOf w ≡ c)
@@ -33,10 +32,6 @@ module _ (e : ℕ) (t : List ℕ) (d c : ℕ) where
 
   pub names-make : (w : ℕ) → depthOf w ≡ d → cellOf w ≡ c → names d c w ≡ true
   names-make w p q = and-join _ _ (eq-eqb _ _ p) (eq-eqb _ _ q)
-
-  pub find-le : findIn e t d c ≤ e
-  unfolding findIn
-  find-le = first-le e _
 
   pub find-hit : findIn e t d c < e → (depthOf (word1 e t (findIn e t d c)) ≡ d) × (cellOf (word1 e t (findIn e t d c)) ≡ c)
   unfolding findIn

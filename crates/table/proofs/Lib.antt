@@ -3,8 +3,7 @@ pub mod Entry
 pub mod Made
 pub mod Rule
 pub mod Agree
-pub mod Change
-pub mod Keep
+pub mod Single
 pub mod Digits
 pub mod Marks
 pub mod Parts

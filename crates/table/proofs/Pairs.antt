@@ -1,7 +1,7 @@
 -- Pending pairs: the check of the words that they name, and the table that they mean. Assumes nothing.
 use mathlib.Core.Path.{_≡_, refl, sym, ap, subst, _∙_}
 use mathlib.Core.Bool.{Bool, true, false, _&&_}
-use mathlib.Core.List.{List, [], _∷_}
+use mathlib.Core.List.{List}
 use Prim.Native.Nat.{ℕ, _+_, _*_, _<_, _≤_}
 use native.Mathlib.Omega.{arith}
 use borrow.Author.Tests.{le-leb, leb-true}
@@ -15,9 +15,8 @@ use Rattle.words.proofs.Scan.{and-split, and-join}
 use Rattle.words.proofs.Plans.{getD-tab, take-tab, each-at, length-stores, run-take-tab}
 use Rattle.words.proofs.Names.{name-fine, names-each}
 use Rattle.words.proofs.Pairs.{length-pairs}
-use Rattle.table.specs.Rule.{pairsOk, ruleOk, tableOk}
-use Rattle.table.proofs.Rule.{Rule, ok-facts, ok-make}
-use Rattle.table.proofs.Agree.{Agree, agree-set, Same, rule-same}
+use Rattle.table.specs.Rule.{pairsOk}
+use Rattle.table.proofs.Agree.{Agree, agree-set, Same}
 
 pub and-yes : (a b : Bool) → a ≡ true → (a && b) ≡ b
 and-yes a b e = rw e
@@ -80,18 +79,3 @@ effective-same first t k l z =
 pub idle-same : (first : ℕ) (t : List ℕ) → pending t ≡ 0 → Same first (effective first t) t
 idle-same first t idle k l z =
     effective-same first t k l z ∙ ap (λ (p : ℕ). getD (stores (pairs t first p) t) k 0) idle ∙ ap (λ (x : List ℕ). getD x k 0) (put-none t first t)
-
-module _ (m e b : ℕ) (t : List ℕ) (idle : pending t ≡ 0) where
-  idle-pairs : pairsOk e t ≡ true
-  unfolding pairsOk namesOk pairs
-  idle-pairs = rw (idle, le-leb 0 (maxPairs e) (omega arith))
-
-  pub idle-table : tableOk m e b t ≡ ruleOk m e b t
-  unfolding tableOk
-  idle-table = rw idle-pairs (rule-same m e b (effective (pairsAt e) t) t (idle-same (pairsAt e) t idle))
-
-  pub idle-facts : tableOk m e b t ≡ true → Rule m e b t
-  idle-facts h = ok-facts m e b t (sym idle-table ∙ h)
-
-  pub idle-make : Rule m e b t → tableOk m e b t ≡ true
-  idle-make h = idle-table ∙ ok-make m e b t h

@@ -1,5 +1,5 @@
 -- The table's rule part by part, as the passes over the entries show it. Assumes nothing.
-use Prim.Native.Nat.{ℕ, _≤_, _<_}
+use Prim.Native.Nat.{ℕ, _≤_}
 use mathlib.Core.Bool.{Bool, true, false}
 use mathlib.Core.List.{List}
 use mathlib.Core.Path.{_≡_, refl, sym}
@@ -35,10 +35,6 @@ module _ (m e b : ℕ) (t : List ℕ) where
 
   pub no-single : (Distinct (IsCopy e t) (word2 e t) e → ⊥) → ruleOk m e b t ≡ false
   no-single h = ok-not m e b t (λ ok. h (rule-bodies ok))
-
-  -- a copy's body is one that there is
-  pub rule-body : Rule m e b t → (i : ℕ) → i < e → IsCopy e t i → word2 e t i < b
-  rule-body ok i l u = ok .used i l (u .0) .copy (u .1)
 
   -- ---- what the earlier parts tell the later ones
   pub live-small : headOk t ≡ true → live t ≤ maxLive

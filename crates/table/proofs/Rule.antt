@@ -6,12 +6,11 @@ use mathlib.Core.Path.{_≡_, refl, sym, _∙_}
 use native.Mathlib.Omega.{arith}
 use lib.Dec.{ltb, leb, eqb}
 use borrow.Author.Tests.{lt-ltb, le-ltb, le-leb, eq-eqb, ne-eqb, ltb-true, leb-true, eqb-true, eqb-false}
-use Rattle.words.specs.Layout.{maxLive, maxCells, pairsAt}
-use Rattle.words.specs.Journal.{effective}
+use Rattle.words.specs.Layout.{maxLive, maxCells}
 use Rattle.words.specs.Scan.{all}
 use Rattle.words.proofs.Scan.{all-at, all-make, and-split, and-join, by-bool, by-le, is-false, true≢}
 use Rattle.table.specs.Entry.{live, nextHandle, word1, word2, depthOf, viaOf, cellOf, unusedOf, parent, findIn, holdsIn}
-use Rattle.table.specs.Rule.{handleOk, headOk, kindOk, entryOk, parentOk, apart, apartBefore, ruleOk, pairsOk, tableOk}
+use Rattle.table.specs.Rule.{handleOk, headOk, kindOk, entryOk, parentOk, apart, apartBefore, ruleOk}
 
 -- ---- the facts
 pub record Used (m e b : ℕ) (t : List ℕ) (i : ℕ) : Type 0 where
@@ -119,13 +118,6 @@ module _ (m e b : ℕ) (t : List ℕ) where
   or-false : (x y : Bool) → x ≡ false → y ≡ false → (x || y) ≡ false
   or-false x y p q = rw (p, q)
 
-  or-true-l : (x y : Bool) → x ≡ true → (x || y) ≡ true
-  or-true-l x y p = rw p
-
-  or-true-r : (x y : Bool) → y ≡ true → (x || y) ≡ true
-  or-true-r true y p = refl
-  or-true-r false y p = p
-
   pub apart-facts : (i j : ℕ) → apart e t j i ≡ true → (word1 e t i ≡ 0 → ⊥) → (word1 e t j ≡ 0 → ⊥) → Apart e t j i
   unfolding apart
   apart-facts i j h ui uj =
@@ -199,27 +191,6 @@ module _ (m e b : ℕ) (t : List ℕ) where
       let s3 = and-split _ _ (s2 .1) in
       (s1 .0, s2 .0, s3 .0, s3 .1)
 
-  pub no-entry : (i : ℕ) → i < e → entryOk m e b t i ≡ false → ruleOk m e b t ≡ false
-  no-entry i l h = is-false (ruleOk m e b t) (λ p. true≢ (all-at e (entryOk m e b t) (parts p .1) i l) h)
-
-  pub no-outer : (i : ℕ) → i < e → parentOk e t i ≡ false → ruleOk m e b t ≡ false
-  no-outer i l h = is-false (ruleOk m e b t) (λ p. true≢ (all-at e (parentOk e t) (parts p .2) i l) h)
-
-  pub no-apart : (i : ℕ) → i < e → apartBefore e t i ≡ false → ruleOk m e b t ≡ false
-  no-apart i l h = is-false (ruleOk m e b t) (λ p. true≢ (all-at e (apartBefore e t) (parts p .3) i l) h)
-
   -- an entry that passes by itself and is via parent is not outermost
   pub via-inner : (i : ℕ) → entryOk m e b t i ≡ true → (viaOf (word1 e t i) ≡ 0 → ⊥) → 2 ≤ depthOf (word1 e t i)
   via-inner i h v = entry-used i h (λ z. v (rw z)) .inner v
-
--- ---- question 4
-module _ (m e b : ℕ) (t : List ℕ) where
-  pub table-facts : tableOk m e b t ≡ true → (pairsOk e t ≡ true) × Rule m e b (effective (pairsAt e) t)
-  unfolding tableOk
-  table-facts h =
-      let s = and-split (pairsOk e t) (ruleOk m e b (effective (pairsAt e) t)) h in
-      (s .0, ok-facts m e b (effective (pairsAt e) t) (s .1))
-
-  pub table-make : pairsOk e t ≡ true → Rule m e b (effective (pairsAt e) t) → tableOk m e b t ≡ true
-  unfolding tableOk
-  table-make p h = and-join _ _ p (ok-make m e b (effective (pairsAt e) t) h)

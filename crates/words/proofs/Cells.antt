@@ -1,10 +1,11 @@
--- Laws of cells and bodies: what a comparison tells, and a copy by way of two parts. Assumes nothing.
+-- Laws of cells and bodies: what a comparison tells, stores beside a cell, and a copy by way of two parts. Assumes nothing.
 use Prim.Native.Nat.{ℕ, _+_, _-_, _*_, _≤_, _<_}
 use mathlib.Core.Bool.{true}
 use mathlib.Core.List.{List, map}
+use mathlib.Core.Logic.{_⊎_, ⊎-elim}
 use mathlib.Core.Path.{_≡_, sym, ap, _∙_}
 use native.Mathlib.Omega.{arith}
-use borrow.Author.Tests.{eq-eqb, eqb-true}
+use borrow.Author.Tests.{eqb-true}
 use borrow.Rule.Slice.PartMut.{putMid, midOf}
 use lib.Dec.{eqb}
 use lib.ListN.{length, getD, take, drop, length-take, length-drop}
@@ -12,12 +13,30 @@ use lib.Seq.{ext-getD, getD-take, getD-drop}
 use Rattle.words.specs.Layout.{cellAt}
 use Rattle.words.specs.Stores.{tab, Store, _≔_, stores}
 use Rattle.words.specs.Cells.{cellBytes, sameCell, copyPlan, cellPlan}
-use Rattle.words.proofs.Scan.{all-at, all-make}
-use Rattle.words.proofs.Plans.{shift, stores-part, each-take, each-tab, take-map, map-tabFrom, tab-below}
+use Rattle.words.proofs.Scan.{all-at}
+use Rattle.words.proofs.Plans.{shift, stores-part, each-take, each-tab, take-map, map-tabFrom, tab-below, Each, each-map, length-stores, getD-stores}
 
 -- a cell that lies in its buffer has 64 bytes
 pub cellBytes-length : (s : List ℕ) (c : ℕ) → cellAt c + 64 ≤ length s → length (cellBytes s c) ≡ 64
 cellBytes-length s c h = simp (length-take, length-drop) (omega arith)
+
+-- outside cell c
+abbrev pub Outside : ℕ → Store → Type 0
+Outside c s = (s .at < cellAt c) ⊎ (cellAt c + 64 ≤ s .at)
+
+-- stores there keep its bytes
+pub cell-kept : (ps : List Store) (l : List ℕ) (c : ℕ) → Each (Outside c) ps → cellBytes (stores ps l) c ≡ cellBytes l c
+cell-kept ps l c out =
+    ext-getD 0 (cellBytes (stores ps l) c) (cellBytes l c)
+    (simp (length-take, length-drop, length-stores))
+    (λ j h.
+    let small : j < 64 = short (stores ps l) j h in
+    rw (getD-take 64 (drop (cellAt c) (stores ps l)) j 0 small, getD-take 64 (drop (cellAt c) l) j 0 small, getD-drop (cellAt c) (stores ps l) j 0, getD-drop (cellAt c) l j 0)
+    (getD-stores ps l (cellAt c + j)
+    (each-map (Outside c) (λ s. cellAt c + j ≡ s .at → ⊥) ps (λ s f q. ⊎-elim (λ a. omega arith) (λ a. omega arith) f) out)))
+  where
+    short : (l : List ℕ) (j : ℕ) → j < length (cellBytes l c) → j < 64
+    short l j h = let z = rw length-take at h in omega arith
 
 -- a part from k to k + 64, as the code has it
 pub part-from : (s : List ℕ) (k : ℕ) → take (k + 64 - k) (drop k s) ≡ take 64 (drop k s)
@@ -30,10 +49,6 @@ pub same-cell-is : (a b : List ℕ) → length a ≡ 64 → length b ≡ 64 → 
 unfolding sameCell
 same-cell-is a b la lb h =
     ext-getD 0 a b (la ∙ sym lb) (λ i l. eqb-true _ _ (all-at 64 (λ (k : ℕ). eqb (getD a k 0) (getD b k 0)) h i (omega arith)))
-
-pub is-same-cell : (a b : List ℕ) → a ≡ b → sameCell a b ≡ true
-unfolding sameCell
-is-same-cell a b e = all-make 64 (λ (k : ℕ). eqb (getD a k 0) (getD b k 0)) (λ k l. eq-eqb _ _ (ap (λ (s : List ℕ). getD s k 0) e))
 
 -- a cell copied by way of the two parts, `&s[64 * from..64 * from + 64]` and `&mut d[64 * to..64 * to + 64]`
 pub copy-part : (s d y : List ℕ) (from to k : ℕ)

@@ -1,17 +1,19 @@
 -- Laws of lists gathered one after another, and of pairs written so. Assumes nothing.
 use mathlib.Core.Path.{_≡_, refl, sym, ap, _∙_}
+use mathlib.Core.Bool.{Bool, cond}
 use mathlib.Core.List.{List, [], _∷_, _++_, append-assoc, append-nil}
 use mathlib.Core.Logic.{⊎-elim}
 use Prim.Native.Nat.{ℕ, zero, suc, _+_, _-_, _*_, _<_, _≤_}
-use native.Mathlib.Nat.{not-suc-le-zero, le-of-suc-le-suc, eq-or-lt-of-le}
+use native.Mathlib.Nat.{not-suc-le-zero, le-of-suc-le-suc, eq-or-lt-of-le, mul-zero, mul-suc}
 use native.Mathlib.Numerals.{add-one}
 use native.Mathlib.Omega.{arith}
-use lib.ListN.{length, getD, take, length-append}
+use lib.ListN.{length, take, length-append}
+use Rattle.words.specs.Scan.{count}
 use Rattle.words.specs.Stores.{gather, run, Store, _≔_, store, stores}
 use Rattle.words.specs.Journal.{pairPlans}
-use Rattle.words.proofs.Scan.{by-le}
-use Rattle.words.proofs.Plans.{Each, each-take, each-append, run-take-append, getD-front}
-use Rattle.words.proofs.Pairs.{length-pairPlans, pairPlans-from}
+use Rattle.words.proofs.Scan.{by-le, by-bool}
+use Rattle.words.proofs.Plans.{Each, each-append, run-take-append}
+use Rattle.words.proofs.Pairs.{length-pairPlans}
 
 module _ {A : Type 0} (f : ℕ → List A) where
   pub gather-more : (i : ℕ) → gather (i + 1) f ≡ gather i f ++ f i
@@ -45,6 +47,15 @@ module _ {A : Type 0} where
 
   pub gather-none : (n : ℕ) (f : ℕ → List A) → ((i : ℕ) → i < n → f i ≡ []) → gather n f ≡ []
   gather-none n f h = gather-skip f 0 n (omega arith) (λ i l b. h i b)
+
+  -- k for each element of which p holds
+  pub gather-count : (k n : ℕ) (p : ℕ → Bool) (f : ℕ → List A) → ((i : ℕ) → length (f i) ≡ cond (p i) k 0) → length (gather n f) ≡ k * count n p
+  unfolding count
+  gather-count k zero p f h = sym (mul-zero k)
+  gather-count k (suc n) p f h =
+      length-append (gather n f) (f n)
+      ∙ rw (gather-count k n p f h, h n)
+      (by-bool (p n) (λ z. rw z (sym (mul-suc k (count n p)))) (λ z. rw z (omega arith)))
 
   -- in two parts
   pub gather-split : (f : ℕ → List A) (a b : ℕ) → gather (a + b) f ≡ gather a f ++ gather b (λ j. f (a + j))
@@ -86,24 +97,3 @@ pub pairs-more : (first k n : ℕ) (ws vs : List Store) (t t₁ t₂ : List ℕ)
 pairs-more first k n ws vs t t₁ t₂ m e₁ e₂ =
     e₂ ∙ rw (e₁, m, pairPlans-append)
     (sym (run-take-append store k (pairPlans first ws) (pairPlans (first + 2 * length ws) vs) t ∙ rw length-pairPlans))
-
--- a turn of a loop that writes the pairs of element i after those of a head and of the elements before it
-pub pairs-turn : (f : ℕ → List Store) (hs : List Store) (first k i n : ℕ) (t t₁ t₂ : List ℕ) → n ≡ length (hs ++ gather i f)
-    → t₁ ≡ stores (take k (pairPlans first (hs ++ gather i f))) t
-    → t₂ ≡ stores (take (k - 2 * n) (pairPlans (first + 2 * n) (f i))) t₁ → t₂ ≡ stores (take k (pairPlans first (hs ++ gather (i + 1) f))) t
-pairs-turn f hs first k i n t t₁ t₂ m e₁ e₂ =
-    pairs-more first k n (hs ++ gather i f) (f i) t t₁ t₂ m e₁ e₂
-    ∙ ap (λ (ws : List Store). stores (take k (pairPlans first ws)) t) (append-assoc hs (gather i f) (f i) ∙ ap (λ (l : List Store). hs ++ l) (sym (gather-more f i)))
-
-pub pairs-count : (f : ℕ → List Store) (hs : List Store) (i n r : ℕ) → n ≡ length (hs ++ gather i f) → r ≡ length (f i) → n + r ≡ length (hs ++ gather (i + 1) f)
-pairs-count f hs i n r m e =
-    let a : length (hs ++ gather i f) ≡ length hs + length (gather i f) = length-append hs (gather i f) in
-    let b : length (hs ++ gather (i + 1) f) ≡ length hs + length (gather (i + 1) f) = length-append hs (gather (i + 1) f) in
-    let c : length (gather i f) + r ≡ length (gather (i + 1) f) = gather-length f i (length (gather i f)) r refl e in
-    omega arith
-
--- the words in front of the pairs are as they were
-pub getD-written : (first k i : ℕ) (ws : List Store) (t t₁ : List ℕ) → i < first → t₁ ≡ stores (take k (pairPlans first ws)) t → getD t₁ i 0 ≡ getD t i 0
-getD-written first k i ws t t₁ h e =
-    ap (λ (l : List ℕ). getD l i 0) e
-    ∙ getD-front (take k (pairPlans first ws)) t first i (each-take (λ s. first ≤ s .at) k (pairPlans first ws) (pairPlans-from first ws)) h

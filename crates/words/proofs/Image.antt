@@ -1,14 +1,14 @@
 -- Counting by an image: where a map takes the counted numbers below n to different numbers below m, as many are counted as are met.
 -- Assumes nothing.
-use Prim.Native.Nat.{ℕ, zero, suc, _+_, _≤_, _<_}
-use mathlib.Core.Bool.{Bool, true, false, cond, _&&_}
-use mathlib.Core.Path.{_≡_, refl, sym, ap, subst, _∙_}
+use Prim.Native.Nat.{ℕ, zero, suc, _<_}
+use mathlib.Core.Bool.{Bool, true, false, _&&_}
+use mathlib.Core.Path.{_≡_, refl, sym, ap, _∙_}
 use native.Mathlib.Nat.{not-suc-le-zero}
 use native.Mathlib.Omega.{arith}
-use borrow.Author.Tests.{eq-eqb, eqb-true, lt-ltb, le-ltb, ltb-true, ltb-false}
+use borrow.Author.Tests.{eq-eqb, eqb-true, lt-ltb, ltb-true}
 use lib.Dec.{ltb, eqb}
 use Rattle.words.specs.Scan.{first, count}
-use Rattle.words.proofs.Scan.{by-bool, by-le, and-split, and-join, is-false, is-true, true≢, not-lt, first-at, first-le, first-hit, first-miss, count-ext, count-flip}
+use Rattle.words.proofs.Scan.{by-bool, by-le, and-split, and-join, is-false, true≢, first-hit, first-miss, count-ext, count-flip, count-none}
 
 module _ (counted : ℕ → Bool) (key : ℕ → ℕ) where
   -- is c the key of a counted number below n?
@@ -60,14 +60,9 @@ module _ (counted : ℕ → Bool) (key : ℕ → ℕ) where
         (λ h. let q : i ≡ n = omega arith in ne (sym k ∙ ap key q))
         (λ h. true≢ (meets-make n c i h u k) p)) ∙ sym p)
 
-    none-met : (k : ℕ) → count k (meets 0) ≡ 0
-    unfolding count
-    none-met zero = refl
-    none-met (suc k) = rw (meets-none 0 k (λ i l. absurd (not-suc-le-zero l)), none-met k)
-
     pub count-image : (n : ℕ) → Distinctly n → count n counted ≡ count m (meets n)
     unfolding count
-    count-image zero d = sym (none-met m)
+    count-image zero d = sym (count-none m (meets 0) (λ k l. meets-none 0 k (λ i b. absurd (not-suc-le-zero b))))
     count-image (suc n) d =
         by-bool (counted n)
         (λ u.

@@ -16,10 +16,9 @@ use Rattle.words.proofs.Plans.{Each, each-take, each-append, each-map, 
 use Rattle.words.proofs.Pairs.{pairs-same, pairPlans-from, read-back}
 use Rattle.words.proofs.Phases.{journal-cut}
 -- what a call cites beside the laws below
-pub use Rattle.words.proofs.Pairs.{length-journal, length-journaled, length-pairPlans, length-applyPlan, length-openPlan, open-idle, open-pending, journal-some, journal-none}
-pub use Rattle.words.proofs.Names.{name-fine, name-live, name-next, name-from, names-each, names-above, names-rising, names-fine, names-below, names-make, names-none, names-step, names-end, pairs-below}
-pub use Rattle.words.proofs.Phases.{pair-more, journal-ready, journal-steps, journal-whole, steps-none, steps-some, steps-small}
-pub use Rattle.words.proofs.Opening.{effective-open, effective-idle, opening, opening-effective, opening-again, opening-names, opening-count, opening-stopped, opening-done, opening-kept, opening-length, openings-idle, openings-length, openings-effective, openings-again, openings-names, openings-count, openings-kept}
+pub use Rattle.words.proofs.Pairs.{length-pairPlans, open-pending}
+pub use Rattle.words.proofs.Names.{names-fine, names-below, names-none}
+pub use Rattle.words.proofs.Opening.{effective-open, effective-idle, opening, opening-effective, opening-again, opening-names, opening-count, opening-stopped, opening-done, opening-kept, opening-length, openings-length, openings-again}
 
 -- ---- the journal of some changes over an idle table
 
@@ -155,9 +154,6 @@ module _ (first : ℕ) (ws : List Store) (t : List ℕ) (front : pendingAt < fir
       (subst (λ (n : ℕ). pending (stores (take (k - (2 * length ws + 1)) (openPlan first (published first ws t))) (published first ws t)) ≤ n) published-pending
       (opening-count first (published first ws t) front published-room published-names (k - (2 * length ws + 1)))))
 
-  pub cut-room : (k : ℕ) → first + 2 * pending (cut k) ≤ length (cut k)
-  cut-room k = omega (arith, cut-count k, cut-length k)
-
   -- a word in front of the pairs, other than word 6, that no change names keeps its value
   pub cut-kept : (k i : ℕ) → i < first → (i ≡ pendingAt → ⊥) → Each (λ s. i ≡ s .at → ⊥) ws → getD (cut k) i 0 ≡ getD t i 0
   unfolding journaled
@@ -170,9 +166,6 @@ module _ (first : ℕ) (ws : List Store) (t : List ℕ) (front : pendingAt < fir
 
   -- ---- after any number of stopped openings
 
-  pub cut-openings-idle : (k : ℕ) (ks : List ℕ) → k ≤ 2 * length ws → openings first ks (cut k) ≡ cut k
-  cut-openings-idle k ks h = openings-idle first ks (cut k) (cut-idle k h)
-
   pub cut-openings-again : (k : ℕ) (ks : List ℕ) → 2 * length ws < k
       → stores (openPlan first (openings first ks (cut k))) (openings first ks (cut k)) ≡ stores (journaled first ws) t
   cut-openings-again k ks h =
@@ -181,10 +174,3 @@ module _ (first : ℕ) (ws : List Store) (t : List ℕ) (front : pendingAt < fir
 
   pub cut-openings : (k : ℕ) (ks : List ℕ) → 2 * length ws < k → effective first (openings first ks (cut k)) ≡ stores ws (take first t)
   cut-openings k ks h = effective-open first (openings first ks (cut k)) ∙ ap (take first) (cut-openings-again k ks h) ∙ whole-new
-
-  pub cut-openings-names : (k : ℕ) (ks : List ℕ)
-      → namesOk first 0 (pairs (openings first ks (cut k)) first (pending (openings first ks (cut k)))) ≡ true
-  cut-openings-names k ks = openings-names first (cut k) front (cut-room k) (cut-names k) ks
-
-  pub cut-openings-count : (k : ℕ) (ks : List ℕ) → pending (openings first ks (cut k)) ≤ length ws
-  cut-openings-count k ks = omega (arith, openings-count first (cut k) front (cut-room k) (cut-names k) ks, cut-count k)

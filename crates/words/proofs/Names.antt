@@ -1,5 +1,5 @@
 -- Laws of the check of names: what passed names tell, how they come to pass, and the check pair by pair. Assumes nothing.
-use mathlib.Core.Path.{_≡_, refl, subst}
+use mathlib.Core.Path.{_≡_, refl}
 use mathlib.Core.Bool.{true, _&&_, _||_}
 use mathlib.Core.List.{List, [], _∷_}
 use Prim.Native.Nat.{ℕ, _+_, _*_, _<_, _≤_}
@@ -13,7 +13,7 @@ use Rattle.words.specs.Layout.{pendingAt, liveAt, nextAt, handleAt}
 use Rattle.words.specs.Stores.{Store, _≔_}
 use Rattle.words.specs.Journal.{pairs, pairAt, pending, nameOk, namesOk}
 use Rattle.words.proofs.Scan.{by-bool, and-split, and-join}
-use Rattle.words.proofs.Plans.{Each, Rising, each-map, each-at, getD-tab}
+use Rattle.words.proofs.Plans.{Each, Rising, each-map, getD-tab}
 use Rattle.words.proofs.Pairs.{length-pairs}
 
 -- ---- one name
@@ -94,13 +94,6 @@ names-make first last (w ∷ ws) h l r =
     (and-join (ltb last (w .at)) (namesOk first (w .at) ws) (lt-ltb last (w .at) (l .0)) (names-make first (w .at) ws (h .1) (r .0) (r .1)))
 
 -- ---- the names of pairs
-
-pub pairs-below : (t : List ℕ) (first p : ℕ) → pendingAt < first → namesOk first 0 (pairs t first p) ≡ true
-    → (j : ℕ) → j < p → getD t (first + 2 * j) 0 < first
-unfolding pairs
-pairs-below t first p front e j h =
-    let f = each-at (λ s. s .at < first) (pairs t first p) j (0 ≔ 0) (names-below first 0 (pairs t first p) front e) (rw length-pairs h) in
-    subst (λ (s : Store). s .at < first) (getD-tab (pairAt t first) p j (0 ≔ 0) h) f
 
 -- where no pair is pending the pairs are as they should be
 pub names-none : (first : ℕ) (t : List ℕ) → pending t ≡ 0 → namesOk first 0 (pairs t first (pending t)) ≡ true

@@ -32,6 +32,16 @@ module _ (f : ℕ → Bool) where
   pub count-below : (k n : ℕ) → k < n → f k ≡ true → count k f < count n f
   count-below k n l h = omega (arith, count-suc k h, count-mono (suc k) n l)
 
+  -- two numbers that pass and have as many below them are one
+  pub same-rank : (i j : ℕ) → f i ≡ true → f j ≡ true → count i f ≡ count j f → i ≡ j
+  same-rank i j p q h =
+      by-le i j
+      (λ l. by-le j i (λ r. omega arith) (λ r. absurd (never (count-below i j r p) h)))
+      (λ l. absurd (never (count-below j i l q) (sym h)))
+    where
+      never : {a b : ℕ} → a < b → a ≡ b → ⊥
+      never l e = omega arith
+
   -- where none from `at` on and below n passes
   count-flat : (at n : ℕ) → at ≤ n → ((k : ℕ) → at ≤ k → k < n → f k ≡ false) → count n f ≡ count at f
   count-flat at zero l h = let z : 0 ≡ at = omega arith in ap (λ (x : ℕ). count x f) z
@@ -54,10 +64,6 @@ module _ (f : ℕ → Bool) where
 
 -- ---- the r-th
 module _ (n : ℕ) (f : ℕ → Bool) where
-  pub nth-le : (r : ℕ) → nth n f r ≤ n
-  unfolding nth
-  nth-le r = first-le n (λ k. f k && eqb (count k f) r)
-
   pub nth-of : (k : ℕ) → k < n → f k ≡ true → nth n f (count k f) ≡ k
   unfolding nth
   nth-of k l h =
@@ -83,15 +89,6 @@ module _ (n : ℕ) (f : ℕ → Bool) where
 
   pub nth-apart : (r s : ℕ) → r < count n f → s < count n f → nth n f r ≡ nth n f s → r ≡ s
   nth-apart r s lr ls q = sym (nth-rank r lr) ∙ ap (λ (x : ℕ). count x f) q ∙ nth-rank s ls
-
-  pub nth-rising : (r s : ℕ) → r < s → s < count n f → nth n f r < nth n f s
-  nth-rising r s l ls =
-      by-le (nth n f s) (nth n f r)
-      (λ q. absurd (never (count-mono f (nth n f s) (nth n f r) q) (nth-rank r (omega arith)) (nth-rank s ls) l))
-      (λ q. q)
-    where
-      never : {a b r s : ℕ} → a ≤ b → b ≡ r → a ≡ s → r < s → ⊥
-      never p q t l = omega arith
 
   -- a walk that has passed r of them finds the r-th from there on
   pub nth-from : (r at : ℕ) → count at f ≡ r → at ≤ n → nth n f r ≡ at + first (n - at) (λ k. f (at + k))

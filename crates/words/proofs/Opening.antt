@@ -11,7 +11,7 @@ use Rattle.words.specs.Layout.{pendingAt}
 use Rattle.words.specs.Stores.{Store, _≔_, store, stores}
 use Rattle.words.specs.Journal.{pairs, pending, nameOk, namesOk, effective, applyPlan, openPlan, openings}
 use Rattle.words.proofs.Scan.{by-le, true≢}
-use Rattle.words.proofs.Plans.{Each, each-take, each-append, each-map, length-stores, stores-none, getD-stores, replay, run-append}
+use Rattle.words.proofs.Plans.{Each, each-take, each-append, each-map, length-stores, getD-stores, replay, run-append}
 use Rattle.words.proofs.Pairs.{length-pairs, length-openPlan, pairs-none, pairs-same, open-idle, open-pending}
 use Rattle.words.proofs.Names.{names-each, names-fine, names-below, names-rising, names-none}
 
@@ -179,58 +179,18 @@ module _ (first : ℕ) (t : List ℕ) (front : pendingAt < first) (room : first 
 
 -- ---- openings that are stopped, one after another
 
-pub openings-idle : (first : ℕ) (ks : List ℕ) (t : List ℕ) → pending t ≡ 0 → openings first ks t ≡ t
-openings-idle first [] t e = refl
-openings-idle first (k ∷ ks) t e =
-    let same : stores (take k (openPlan first t)) t ≡ t = rw (open-idle first t e) (sym (stores-none k t)) in
-    rw same (openings-idle first ks t e)
-
 pub openings-length : (first : ℕ) (ks : List ℕ) (t : List ℕ) → length (openings first ks t) ≡ length t
 openings-length first [] t = refl
 openings-length first (k ∷ ks) t = openings-length first ks (stores (take k (openPlan first t)) t) ∙ length-stores (take k (openPlan first t)) t
 
--- all that a stopped opening keeps, so that the next may be asked the same
-record Opened (first : ℕ) (t u : List ℕ) : Type 0 where
-  same : effective first u ≡ effective first t
-  again : stores (openPlan first u) u ≡ stores (openPlan first t) t
-  named : namesOk first 0 (pairs u first (pending u)) ≡ true
-  fewer : pending u ≤ pending t
-  kept : (i : ℕ) → i < first → (i ≡ pendingAt → ⊥) → nameOk first i ≡ false → getD u i 0 ≡ getD t i 0
-
-openings-kept-all : (first : ℕ) (t : List ℕ) → pendingAt < first → first + 2 * pending t ≤ length t
-    → namesOk first 0 (pairs t first (pending t)) ≡ true → (ks : List ℕ) → Opened first t (openings first ks t)
-openings-kept-all first t front room names [] =
-    record { same = refl; again = refl; named = names; fewer = omega arith; kept = λ i l n e. refl }
-openings-kept-all first t front room names (k ∷ ks) =
+-- the next opening leaves what the first would have left
+pub openings-again : (first : ℕ) (t : List ℕ) → pendingAt < first → first + 2 * pending t ≤ length t
+    → namesOk first 0 (pairs t first (pending t)) ≡ true → (ks : List ℕ)
+    → stores (openPlan first (openings first ks t)) (openings first ks t) ≡ stores (openPlan first t) t
+openings-again first t front room names [] = refl
+openings-again first t front room names (k ∷ ks) =
     let u : List ℕ = stores (take k (openPlan first t)) t in
     let n : pending u ≤ pending t = opening-count first t front room names k in
     let l : length u ≡ length t = opening-length first t front room names k in
     let r : first + 2 * pending u ≤ length u = omega arith in
-    let o : Opened first u (openings first ks u) = openings-kept-all first u front r (opening-names first t front room names k) ks in
-    record {
-      same = o .same ∙ opening-effective first t front room names k;
-      again = o .again ∙ opening-again first t front room names k;
-      named = o .named;
-      fewer = omega (arith, o .fewer);
-      kept = λ i b m e. o .kept i b m e ∙ opening-kept first t front room names k i b m e;
-    }
-
-module _ (first : ℕ) (t : List ℕ) (front : pendingAt < first) (room : first + 2 * pending t ≤ length t)
-    (names : namesOk first 0 (pairs t first (pending t)) ≡ true) (ks : List ℕ) where
-  opened : Opened first t (openings first ks t)
-  opened = openings-kept-all first t front room names ks
-
-  pub openings-effective : effective first (openings first ks t) ≡ effective first t
-  openings-effective = opened .same
-
-  pub openings-again : stores (openPlan first (openings first ks t)) (openings first ks t) ≡ stores (openPlan first t) t
-  openings-again = opened .again
-
-  pub openings-names : namesOk first 0 (pairs (openings first ks t) first (pending (openings first ks t))) ≡ true
-  openings-names = opened .named
-
-  pub openings-count : pending (openings first ks t) ≤ pending t
-  openings-count = opened .fewer
-
-  pub openings-kept : (i : ℕ) → i < first → (i ≡ pendingAt → ⊥) → nameOk first i ≡ false → getD (openings first ks t) i 0 ≡ getD t i 0
-  openings-kept = opened .kept
+    openings-again first u front r (opening-names first t front room names k) ks ∙ opening-again first t front room names k

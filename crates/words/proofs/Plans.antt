@@ -1,16 +1,20 @@
 -- Laws of plans: how a plan cut at a budget is carried out, and stores in a part of a list said of the whole. They hold of any plan, so
 -- that every phase of every call is answered by the same few of them. Assumes nothing.
 use mathlib.Core.Path.{_≡_, refl, sym, ap, _∙_, subst}
+use mathlib.Core.Bool.{cond}
 use mathlib.Core.List.{List, [], _∷_, _++_, map}
 use Prim.Native.Nat.{ℕ, zero, suc, _+_, _-_, _*_, _<_, _≤_, min}
 use native.Mathlib.Nat.{zero-add, add-zero, not-suc-le-zero, le-of-suc-le-suc, zero-sub, suc-sub-suc, sub-zero}
 use native.Mathlib.Numerals.{add-one}
 use native.Mathlib.Omega.{arith}
+use borrow.Author.Tests.{eqb-true, eqb-false, lt-ltb, le-ltb}
 use borrow.Rule.Slice.PartMut.{putMid, midOf, postOf, put-same}
+use lib.Dec.{ltb, eqb}
 use lib.ListN.{length, getD, take, drop, set, length-set}
 use lib.Seq.{take-nil, getD-set-other, getD-set-same, set-getD, set-comm, take-set-le, take-set-lt, drop-set-add, drop-set-lt}
 use Rattle.words.specs.Stores.{tab, tabFrom, run, Store, _≔_, store, stores}
 use Rattle.words.specs.Cells.{copyPlan, cellPlan, Copied}
+use Rattle.words.proofs.Scan.{by-bool, by-le}
 
 -- ---- lists made by a rule
 
@@ -254,3 +258,25 @@ pub quarter-turn : (s d₀ quarter d : List ℕ) (at j : ℕ) → at + 16 ≤ 64
 quarter-turn s d₀ quarter d at j fits l same h =
     let next : at + j + 1 ≡ at + (j + 1) = omega arith in
     ap (set d (at + j)) (same l) ∙ copy-turn s d₀ d (at + j) (omega arith) h ∙ ap (λ (n : ℕ). stores (take n (copyPlan s)) d₀) next
+
+-- ---- stores in a row
+
+pub run-stored : (base n : ℕ) (h : ℕ → ℕ) (l : List ℕ) (j : ℕ) → base + n ≤ length l
+    → getD (stores (tab n (λ i. base + i ≔ h i)) l) (base + j) 0 ≡ cond (ltb j n) (h j) (getD l (base + j) 0)
+run-stored base zero h l j fits = rw (le-ltb j 0 (omega arith))
+run-stored base (suc n) h l j fits =
+    let f : ℕ → Store = λ i. base + i ≔ h i in
+    let whole : stores (tab (suc n) f) l ≡ set (stores (tab n f) l) (base + n) (h n) =
+    ap (λ (ps : List Store). stores ps l) (tab-last f n) ∙ run-append store (tab n f) (f n ∷ []) l in
+    ap (λ (x : List ℕ). getD x (base + j) 0) whole
+    ∙ by-bool (eqb j n)
+    (λ z.
+    let q = eqb-true j n z in
+    rw (q, lt-ltb n (suc n) (omega arith)) (getD-set-same (stores (tab n f) l) (base + n) (h n) 0 (rw (length-stores (tab n f) l) (omega arith))))
+    (λ z.
+    let ne = eqb-false j n z in
+    getD-set-other (stores (tab n f) l) (base + n) (base + j) (h n) 0 (λ q. ne (omega arith))
+    ∙ run-stored base n h l j (omega arith)
+    ∙ by-le n j
+    (λ le. rw (le-ltb j n le, le-ltb j (suc n) (omega (arith, ne))))
+    (λ lt. rw (lt-ltb j n lt, lt-ltb j (suc n) (omega arith))))

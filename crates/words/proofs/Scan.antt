@@ -1,7 +1,7 @@
 -- Laws of scans over the numbers below a bound, and of the Bools that tests give. A proof of code goes from one scan's law to the next
 -- and never opens a scan. Assumes nothing.
 use Prim.Native.Nat.{ℕ, zero, suc, _+_, _≤_, _<_, suc-le-suc}
-use mathlib.Core.Bool.{Bool, true, false, cond, not, _&&_, true≢false, false≢true}
+use mathlib.Core.Bool.{Bool, true, false, cond, not, _&&_, _||_, true≢false, false≢true}
 use mathlib.Core.Path.{_≡_, refl, sym, ap, subst, _∙_}
 use mathlib.Core.Logic.{⊎-elim}
 use native.Mathlib.Nat.{le-of-suc-le-suc, not-suc-le-zero, eq-or-lt-of-le}
@@ -22,6 +22,10 @@ and-split false b e = absurd (false≢true e)
 
 pub and-join : (a b : Bool) → a ≡ true → b ≡ true → (a && b) ≡ true
 and-join a b p q = rw (p, q)
+
+pub or-split : (a b : Bool) → (a || b) ≡ false → (a ≡ false) × (b ≡ false)
+or-split true b e = absurd (true≢false e)
+or-split false b e = (refl, e)
 
 pub true≢ : {b : Bool} → b ≡ true → b ≡ false → ⊥
 true≢ p q = true≢false (sym p ∙ q)
@@ -74,9 +78,6 @@ all-ext (suc n) f g h = rw (all-ext n f g (λ k l. h k (omega arith)), h n (omeg
 pub all-next : (j : ℕ) (f : ℕ → Bool) → (all j f && f j) ≡ all (j + 1) f
 unfolding all
 all-next j f = rw add-one
-
-pub all-more : (j : ℕ) (f : ℕ → Bool) → all j f ≡ true → f j ≡ true → all (j + 1) f ≡ true
-all-more j f e h = sym (all-next j f) ∙ and-join (all j f) (f j) e h
 
 -- ---- first
 
@@ -157,3 +158,25 @@ count-not zero f = refl
 count-not (suc n) f =
     let h : count n f + count n (λ k. not (f k)) ≡ n = count-not n f in
     by-bool (f n) (λ e. rw e (omega arith)) (λ e. rw e (omega arith))
+
+-- where none passes
+pub count-none : (n : ℕ) (f : ℕ → Bool) → ((k : ℕ) → k < n → f k ≡ false) → count n f ≡ 0
+unfolding count
+count-none zero f h = refl
+count-none (suc n) f h = rw (h n (omega arith), count-none n f (λ k l. h k (omega arith)))
+
+-- of two tests that no number passes both
+pub count-or : (n : ℕ) (f g : ℕ → Bool) → ((k : ℕ) → k < n → f k ≡ true → g k ≡ true → ⊥) → count n (λ k. f k || g k) ≡ count n f + count n g
+unfolding count
+count-or zero f g h = refl
+count-or (suc n) f g h =
+    let rest : count n (λ k. f k || g k) ≡ count n f + count n g = count-or n f g (λ k l. h k (omega arith)) in
+    by-bool (f n)
+    (λ p.
+    by-bool (g n)
+    (λ q. absurd (h n (omega arith) p q))
+    (λ q. rw (p, q, rest) (omega arith)))
+    (λ p.
+    by-bool (g n)
+    (λ q. rw (p, q, rest) (omega arith))
+    (λ q. rw (p, q, rest)))

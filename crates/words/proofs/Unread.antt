@@ -1,8 +1,8 @@
 -- What the effective table does not read: unused pairs, and the words that pending pairs replace. Assumes nothing.
-use Prim.Native.Nat.{ℕ, zero, suc, _+_, _-_, _*_, _≤_, _<_}
-use mathlib.Core.Bool.{Bool, true, false}
+use Prim.Native.Nat.{ℕ, zero, suc, _+_, _*_, _≤_, _<_}
+use mathlib.Core.Bool.{true}
 use mathlib.Core.List.{List, [], _∷_}
-use mathlib.Core.Path.{_≡_, refl, sym, ap, subst, _∙_}
+use mathlib.Core.Path.{_≡_, sym, ap, _∙_}
 use native.Mathlib.Nat.{not-suc-le-zero, le-of-suc-le-suc}
 use native.Mathlib.Omega.{arith}
 use borrow.Author.Tests.{eqb-true, eqb-false}
@@ -10,7 +10,7 @@ use lib.Dec.{eqb}
 use lib.ListN.{length, getD, set, take}
 use lib.Seq.{getD-set-other, take-set-le, set-comm, set-set}
 use Rattle.words.specs.Layout.{pendingAt}
-use Rattle.words.specs.Stores.{Store, _≔_, store, stores, tab}
+use Rattle.words.specs.Stores.{Store, _≔_, store, stores}
 use Rattle.words.specs.Journal.{pairAt, pairs, pending, namesOk, effective}
 use Rattle.words.proofs.Scan.{by-bool}
 use Rattle.words.proofs.Plans.{Each, each-map, stores-set, tab-below, getD-tab}

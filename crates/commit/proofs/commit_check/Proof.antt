@@ -6,7 +6,7 @@ use lib.ListN.{length}
 use Rattle.table.proofs.Marks.{zeros-length, blank-zeros}
 use Rattle.store.proofs.Checks.{store-shape, shape-facts, orElse-go, orElse-stop}
 use Rattle.commit.specs.Commit.{commitCheck}
-use Rattle.commit.proofs.Committed.{live-within}
+use Rattle.store.proofs.Raw.{live-within}
 use Rattle.commit.proofs.commit_check.Statement.{statement}
 use Rattle.commit.proofs.commit_check.Tie as tie
 

@@ -1,9 +1,9 @@
 -- `look_check` meets its contract: question by question. Assumes nothing.
 use mathlib.Core.Path.{sym, _∙_}
 use native.Mathlib.Omega.{arith}
-use Rattle.store.proofs.Checks.{store-shape, shape-facts, ask-go, ask-stop, orElse-go, orElse-stop}
+use Rattle.store.proofs.Checks.{store-shape, shape-facts, ask-go, ask-stop, orElse-go, orElse-stop, none-named, some-named}
+use Rattle.store.proofs.Raw.{live-within}
 use Rattle.look.specs.Look.{lookCheck}
-use Rattle.look.proofs.Placing.{none-named, some-named, live-within}
 use borrow.Author.Tests.{not-true, not-false}
 use borrow.Author.Needs.{needs}
 use Rattle.look.proofs.look_check.Statement.{statement}

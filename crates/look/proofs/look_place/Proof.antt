@@ -2,7 +2,8 @@
 use mathlib.Core.Path.{sym, _∙_}
 use native.Mathlib.Omega.{arith}
 use Rattle.store.specs.Outcome.{Buffers, buffers}
-use Rattle.look.proofs.Placing.{look-refused, look-found, placed-means, check-passed, live-within, store-room, place-requires}
+use Rattle.store.proofs.Raw.{live-within}
+use Rattle.look.proofs.Placing.{look-refused, look-found, placed-means, check-passed, store-room, place-requires}
 use borrow.Author.Needs.{needs}
 use Rattle.look.proofs.look_place.Statement.{statement}
 use Rattle.look.proofs.look_place.Tie as tie

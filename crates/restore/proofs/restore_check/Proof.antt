@@ -2,9 +2,9 @@
 use mathlib.Core.Path.{sym, _∙_}
 use native.Mathlib.Omega.{arith}
 use borrow.Author.Needs.{needs}
-use Rattle.store.proofs.Checks.{store-shape, shape-facts, ask-go, ask-stop, orElse-go, orElse-stop}
+use Rattle.store.proofs.Checks.{store-shape, shape-facts, ask-go, ask-stop, orElse-go, orElse-stop, none-named, some-named}
+use Rattle.store.proofs.Raw.{live-within}
 use Rattle.restore.specs.Restore.{restoreCheck}
-use Rattle.restore.proofs.Performed.{none-named, some-named, live-within}
 use Rattle.restore.proofs.restore_check.Statement.{statement}
 use Rattle.restore.proofs.restore_check.Tie as tie
 

@@ -3,7 +3,8 @@ use mathlib.Core.Path.{sym, _∙_}
 use native.Mathlib.Omega.{arith}
 use Rattle.search.proofs.Domain.{depth-small}
 use Rattle.store.proofs.Checks.{shape-facts, store-shape}
-use Rattle.restore.proofs.Performed.{live-within, rule-passed, restore-store, restore-depth, restore-refused, restore-performed}
+use Rattle.store.proofs.Raw.{live-within}
+use Rattle.restore.proofs.Performed.{rule-passed, restore-store, restore-depth, restore-refused, restore-performed}
 use borrow.Author.Needs.{needs}
 use Rattle.restore.proofs.restore_marked.Statement.{statement}
 use Rattle.restore.proofs.restore_marked.Tie as tie

@@ -1,6 +1,6 @@
 -- `find_source` meets its contract. The loop's invariant: the copy behind the cell at this depth is that behind it at the depth asked for.
 -- Assumes nothing.
-use mathlib.Core.Path.{_≡_, sym, ap, _∙_}
+use mathlib.Core.Path.{_≡_, sym, _∙_}
 use borrow.Author.Needs.{needs}
 use borrow.Author.Tests.{not-true, not-false}
 use Rattle.table.proofs.Entry.{via-some, via-zero}

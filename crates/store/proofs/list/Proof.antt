@@ -1,4 +1,4 @@
-use mathlib.Core.Path.{_≡_, refl, sym, ap, _∙_}
+use mathlib.Core.Path.{refl, sym, _∙_}
 use native.Mathlib.Omega.{arith}
 use Rattle.store.proofs.Checks.{shape-facts, store-shape}
 use Rattle.store.proofs.Handles.{list-refused, list-done}

@@ -1,10 +1,10 @@
 use borrow.Author.Needs.{needs}
-use mathlib.Core.Path.{_≡_, refl, sym, ap, _∙_}
-use Prim.Native.Nat.{ℕ, _+_, _-_, _*_, _≤_, _<_}
+use mathlib.Core.Path.{_≡_, _∙_}
+use Prim.Native.Nat.{_-_, _≤_}
 use native.Mathlib.Omega.{arith}
-use lib.ListN.{length, take, set, length-set}
-use Rattle.words.specs.Layout.{pairsAt, magicAt, magic}
-use Rattle.words.specs.Stores.{Store, stores}
+use lib.ListN.{length, take, length-set}
+use Rattle.words.specs.Layout.{pairsAt, magic}
+use Rattle.words.specs.Stores.{stores}
 use Rattle.store.proofs.Making.{middle-plan, make-turn, make-stopped, make-ended}
 use Rattle.store.proofs.make_words.Statement.{statement}
 use Rattle.store.proofs.make_words.Tie as tie

@@ -1,12 +1,9 @@
-use mathlib.Core.Path.{_≡_, refl, sym, ap, _∙_}
-use Prim.Native.Nat.{ℕ, _+_, _*_, _≤_, _<_}
+use mathlib.Core.Path.{_≡_, sym, ap, _∙_}
 use native.Mathlib.Omega.{arith}
 use Rattle.words.specs.Layout.{pairsAt, slotsOf}
 use lib.ListN.{length}
 use Rattle.table.proofs.Pairs.{pairs-few, pairs-fine}
-use Rattle.store.specs.Calls.{openCall}
 use Rattle.store.proofs.Checks.{shape-facts, open-shape, open-table, table-pairs}
-use Rattle.store.proofs.Outcome.{refuses}
 use Rattle.store.proofs.Means.{seenOf, open-means, open-refused, open-none, open-performed}
 use borrow.Author.Needs.{needs}
 use Rattle.store.proofs.open.Statement.{statement}

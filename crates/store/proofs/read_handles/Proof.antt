@@ -1,11 +1,10 @@
 use borrow.Author.Needs.{needs}
-use mathlib.Core.Path.{_≡_, refl, sym, ap, subst, _∙_}
-use mathlib.Core.List.{List}
-use Prim.Native.Nat.{ℕ, _+_, _-_, _≤_, _<_}
+use mathlib.Core.Path.{_≡_, refl, ap, subst, _∙_}
+use Prim.Native.Nat.{ℕ, _-_, _≤_, _<_}
 use native.Mathlib.Nat.{not-suc-le-zero}
 use native.Mathlib.Omega.{arith}
-use lib.ListN.{length, getD, set, length-set}
-use Rattle.words.specs.Layout.{maxLive, handleAt}
+use lib.ListN.{length, getD, length-set}
+use Rattle.words.specs.Layout.{maxLive}
 use Rattle.table.specs.Entry.{handle}
 use Rattle.store.proofs.Handles.{handles-turn, handles-end}
 use Rattle.store.proofs.read_handles.Statement.{statement}

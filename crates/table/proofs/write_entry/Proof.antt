@@ -1,6 +1,6 @@
-use mathlib.Core.List.{List, [], _∷_}
+use mathlib.Core.List.{[], _∷_}
 use Rattle.words.specs.Layout.{firstAt, secondAt}
-use Rattle.words.specs.Stores.{Store, _≔_}
+use Rattle.words.specs.Stores.{_≔_}
 use Rattle.words.proofs.Phases.{pair-more}
 use borrow.Author.Needs.{needs}
 use Rattle.table.proofs.write_entry.Statement.{statement}

@@ -1,10 +1,10 @@
 -- `words::put_quarter` meets its contract. The loop's invariant: what was copied up to `at` is copied up to `at + j`. Assumes nothing.
 use Prim.Native.Nat.{ℕ, _+_, _-_, _≤_, _<_}
-use mathlib.Core.Path.{_≡_, refl, sym, ap, subst, _∙_}
+use mathlib.Core.Path.{_≡_, sym, subst, _∙_}
 use mathlib.Core.List.{List}
 use native.Mathlib.Omega.{arith}
 use borrow.Author.Needs.{needs}
-use lib.ListN.{length, getD, set, length-set}
+use lib.ListN.{length, getD, length-set}
 use Rattle.words.specs.Cells.{Copied}
 use Rattle.words.proofs.Plans.{quarter-turn}
 use Rattle.words.proofs.put_quarter.Statement.{statement}
