@@ -29,6 +29,7 @@ use Rattle.add.proofs.Choices.{Taking, range-low, range-high}
 use Rattle.add.proofs.Chosen.{taking, taker-facts}
 use Rattle.add.proofs.Counting.{count-range}
 use Rattle.add.proofs.Copies.{plans-each, plans-filled, plans-length}
+use Rattle.table.proofs.Marks.{owns-make}
 
 -- ---- of a call that no question refuses
 
@@ -144,5 +145,5 @@ module _ (memory bodies t : List ℕ) (base n k l : ℕ) (r : Ready memory bodie
       (λ x lx i c.
       let unlike : word2 e u i ≡ body j → ⊥ =
       λ q. body-unused e t (body j) (choice .bodies (wanted-copy j p) .was-free j h (wanted-new j p)) i (c .slot)
-      (λ z. c .used (firsts i (c .slot) ∙ z), sym (ap viaOf (firsts i (c .slot))) ∙ c .copy) (sym (seconds i (c .slot)) ∙ q) in
+      (owns-make _ (λ z. c .used (firsts i (c .slot) ∙ z)) (sym (ap viaOf (firsts i (c .slot))) ∙ c .copy)) (sym (seconds i (c .slot)) ∙ q) in
       by-le (word2 e u i) (body j) (λ le. inr (omega (arith, unlike))) (λ le. inl (omega arith))))

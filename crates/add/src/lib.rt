@@ -61,8 +61,8 @@ ghost use Rattle.search.specs.Free.{unmarkedFrom};
 ghost use Rattle.changes.specs.Staged.{Stages, Journaled};
 ghost use Rattle.model.specs.Answer.{stepsOf};
 ghost use Rattle.store.specs.Checks.{storeCheck};
-ghost use Rattle.store.specs.Outcome.{buffers, report, leaves, outcome};
-ghost use Rattle.store.specs.Means.{seen};
+ghost use Rattle.store.specs.Outcome.{buffers, report, Makes};
+ghost use Rattle.store.specs.Means.{seen, Shows};
 ghost use Rattle.add.specs.Add.{addCheck, addCall, addMeans};
 ghost use Rattle.add.specs.Walking.{lacks, newIn, spare, nextUnheld, rangeCheck, parentCheck, roomCheck, heldCheck, backed, alike, Source, copyBytes};
 ghost use Rattle.add.specs.Walking.{bodyFrom, rises, raiseChange, listChange, NoneBelow, StagesOn, Walkable, Walked, Stageable, Skips, Ready, bytesOf, wordsOf, callOf};
@@ -714,9 +714,8 @@ fn add_marked(
 ) -> Answer
     requires room { ⌜ (min (cellsOf (length (now memory))) maxCells ≤ length (now seen)) × (length (now used) ≡ maxBodies) ⌝ }
     requires blank { ⌜ Blank (now seen) × Blank (now used) ⌝ }
-    ensures made { λ r. ⌜ leaves (report r) (buffers (now (memory .entry)) (now (bodies .exit)) (now (table .exit)))
-        ≡ outcome (callOf handle range (buffers (now (memory .entry)) (now (bodies .entry)) (now (table .entry)))) budget
-        (buffers (now (memory .entry)) (now (bodies .entry)) (now (table .entry))) ⌝ }
+    ensures made { λ r. ⌜ Makes (callOf handle range) budget (buffers (now (memory .entry)) (now (bodies .entry)) (now (table .entry)))
+        (report r) (buffers (now (memory .entry)) (now (bodies .exit)) (now (table .exit))) ⌝ }
 {
     let no = add_check(memory, bodies, table, seen, used, handle, range);
     if no != 0 {
@@ -736,9 +735,8 @@ fn add_few(
     budget: usize,
 ) -> Answer
     requires { ⌜ cellsOf (length (now memory)) ≤ 1024 ⌝ }
-    ensures made { λ r. ⌜ leaves (report r) (buffers (now (memory .entry)) (now (bodies .exit)) (now (table .exit)))
-        ≡ outcome (callOf handle range (buffers (now (memory .entry)) (now (bodies .entry)) (now (table .entry)))) budget
-        (buffers (now (memory .entry)) (now (bodies .entry)) (now (table .entry))) ⌝ }
+    ensures made { λ r. ⌜ Makes (callOf handle range) budget (buffers (now (memory .entry)) (now (bodies .entry)) (now (table .entry)))
+        (report r) (buffers (now (memory .entry)) (now (bodies .exit)) (now (table .exit))) ⌝ }
 {
     let mut seen = few_marks();
     let mut used = no_bodies();
@@ -763,9 +761,8 @@ fn add_many(
     range: Range,
     budget: usize,
 ) -> Answer
-    ensures made { λ r. ⌜ leaves (report r) (buffers (now (memory .entry)) (now (bodies .exit)) (now (table .exit)))
-        ≡ outcome (callOf handle range (buffers (now (memory .entry)) (now (bodies .entry)) (now (table .entry)))) budget
-        (buffers (now (memory .entry)) (now (bodies .entry)) (now (table .entry))) ⌝ }
+    ensures made { λ r. ⌜ Makes (callOf handle range) budget (buffers (now (memory .entry)) (now (bodies .entry)) (now (table .entry)))
+        (report r) (buffers (now (memory .entry)) (now (bodies .exit)) (now (table .exit))) ⌝ }
 {
     let mut seen = many_marks();
     let mut used = no_bodies();
@@ -794,11 +791,10 @@ pub fn add(
     label: u32,
     budget: usize,
 ) -> Answer
-    ensures made { λ r. ⌜ leaves (report r) (buffers (now (memory .entry)) (now (bodies .exit)) (now (table .exit)))
-        ≡ outcome (addCall handle first count kind label (buffers (now (memory .entry)) (now (bodies .entry)) (now (table .entry)))) budget
-        (buffers (now (memory .entry)) (now (bodies .entry)) (now (table .entry))) ⌝ }
-    ensures means { λ r. ⌜ seen (report r) (buffers (now (memory .entry)) (now (bodies .exit)) (now (table .exit)))
-        ≡ addMeans handle first count kind label budget (buffers (now (memory .entry)) (now (bodies .entry)) (now (table .entry))) ⌝ }
+    ensures made { λ r. ⌜ Makes (addCall handle first count kind label) budget (buffers (now (memory .entry)) (now (bodies .entry)) (now (table .entry)))
+        (report r) (buffers (now (memory .entry)) (now (bodies .exit)) (now (table .exit))) ⌝ }
+    ensures means { λ r. ⌜ Shows (addMeans handle first count kind label) budget (buffers (now (memory .entry)) (now (bodies .entry)) (now (table .entry)))
+        (report r) (buffers (now (memory .entry)) (now (bodies .exit)) (now (table .exit))) ⌝ }
 {
     let range = Range {
         first: wide(first),

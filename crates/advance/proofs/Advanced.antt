@@ -50,6 +50,7 @@ use Rattle.advance.proofs.Copying.{Outside, cell-kept, copies-length, c
 use Rattle.advance.proofs.Turning.{advances-cell, words-count, takes-below, takes-free, takes-own, turned-rule, turned-state}
 use Rattle.advance.proofs.Choosing.{chosen}
 use Rattle.advance.proofs.Noting.{cellsCheck}
+use Rattle.table.proofs.Marks.{owns-make}
 
 -- stores that keep out of every body in use spare them
 each-spares : (e : ℕ) (t : List ℕ) (ps : List Store) → ((i : ℕ) → Copy e t i → Each (Outside (word2 e t i)) ps) → Each (Spares e t) ps
@@ -89,7 +90,7 @@ module _ (memory bodies t : List ℕ) (yes : storeCheck (length memory) (length 
   outside : (i : ℕ) → Copy e t i → Each (Outside (word2 e t i)) bytes
   outside i c =
       copies-outside memory (advances e t) body m (word2 e t i)
-      (λ k l goes q. takes-free m e b t ok body choice k goes i (c .slot) (c .used, c .copy) q)
+      (λ k l goes q. takes-free m e b t ok body choice k goes i (c .slot) (owns-make _ (c .used) (c .copy)) q)
 
   pub with-spares : Each (Spares (slotsOf (length t)) (take (pairsAt (slotsOf (length t))) t)) bytes
   with-spares =

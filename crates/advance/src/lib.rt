@@ -53,8 +53,8 @@ ghost use Rattle.table.specs.Marks.{Blank, Marked, cellIn, has, markAt, zeros};
 ghost use Rattle.table.specs.Changes.{keep, put};
 ghost use Rattle.search.specs.Free.{copies};
 ghost use Rattle.changes.specs.Staged.{isSet, Restaged, Stages};
-ghost use Rattle.store.specs.Outcome.{buffers, report, leaves, outcome};
-ghost use Rattle.store.specs.Means.{seen};
+ghost use Rattle.store.specs.Outcome.{buffers, report, Makes};
+ghost use Rattle.store.specs.Means.{seen, Shows};
 ghost use Rattle.advance.specs.Advance.{advances, advanceCheck, advanceCall, advanceMeans, turns};
 ghost use Rattle.advance.specs.Notes.{FreeFrom, entriesCheck, NoBits, markTurning, Turned, CellBits, Ready, performed, Ends, OwnBits, listSlot, Listed, InOrder, unmarked, changeTo};
 
@@ -387,9 +387,8 @@ fn store_listed(
     requires counted { ⌜ n ≡ count (cellsOf (length (now memory))) (advances (slotsOf (length (now table))) (now table)) ⌝ }
     requires room { ⌜ (2 * slotsOf (length (now table)) ≤ length (now words)) × (slotsOf (length (now table)) ≤ groupAt (length (now changed))) ⌝ }
     requires blank { ⌜ Stages 0 (λ _. keep) (now words) (now changed) ⌝ }
-    ensures { λ r. ⌜ leaves (report r) (buffers (now (memory .entry)) (now (bodies .exit)) (now (table .exit)))
-        ≡ outcome (performed (buffers (now (memory .entry)) (now (bodies .entry)) (now (table .entry)))) budget
-        (buffers (now (memory .entry)) (now (bodies .entry)) (now (table .entry))) ⌝ }
+    ensures { λ r. ⌜ Makes performed budget (buffers (now (memory .entry)) (now (bodies .entry)) (now (table .entry)))
+        (report r) (buffers (now (memory .entry)) (now (bodies .exit)) (now (table .exit))) ⌝ }
 {
     let slots = slots_of(table.len());
     copy_listed(
@@ -430,9 +429,8 @@ fn advance_marked(
     requires list { ⌜ (length (now ends) ≡ length (now groups)) × (slotsOf (length (now table)) ≤ length (now places)) ⌝ }
     requires room { ⌜ (2 * slotsOf (length (now table)) ≤ length (now words)) × (slotsOf (length (now table)) ≤ groupAt (length (now changed))) ⌝ }
     requires blank { ⌜ Stages 0 (λ _. keep) (now words) (now changed) ⌝ }
-    ensures { λ r. ⌜ leaves (report r) (buffers (now (memory .entry)) (now (bodies .exit)) (now (table .exit)))
-        ≡ outcome (performed (buffers (now (memory .entry)) (now (bodies .entry)) (now (table .entry)))) budget
-        (buffers (now (memory .entry)) (now (bodies .entry)) (now (table .entry))) ⌝ }
+    ensures { λ r. ⌜ Makes performed budget (buffers (now (memory .entry)) (now (bodies .entry)) (now (table .entry)))
+        (report r) (buffers (now (memory .entry)) (now (bodies .exit)) (now (table .exit))) ⌝ }
 {
     let n = list_slots(table, slots_of(table.len()), groups, ends, places);
     store_listed(
@@ -492,9 +490,8 @@ fn store_few(
     requires ready { ⌜ Ready (length (now memory)) (length (now bodies)) (now table) (now used) × (length (now used) ≡ maxBodies) ⌝ }
     requires bits { ⌜ CellBits (now table) (now groups) × (cellsOf (length (now memory)) ≤ groupAt (length (now groups))) ⌝ }
     requires sized { ⌜ (length (now ends) ≡ length (now groups)) × (slotsOf (length (now table)) ≤ 256) ⌝ }
-    ensures { λ r. ⌜ leaves (report r) (buffers (now (memory .entry)) (now (bodies .exit)) (now (table .exit)))
-        ≡ outcome (performed (buffers (now (memory .entry)) (now (bodies .entry)) (now (table .entry)))) budget
-        (buffers (now (memory .entry)) (now (bodies .entry)) (now (table .entry))) ⌝ }
+    ensures { λ r. ⌜ Makes performed budget (buffers (now (memory .entry)) (now (bodies .entry)) (now (table .entry)))
+        (report r) (buffers (now (memory .entry)) (now (bodies .exit)) (now (table .exit))) ⌝ }
 {
     let mut places = few_places();
     let mut words = few_words();
@@ -526,9 +523,8 @@ fn store_many(
     requires ready { ⌜ Ready (length (now memory)) (length (now bodies)) (now table) (now used) × (length (now used) ≡ maxBodies) ⌝ }
     requires bits { ⌜ CellBits (now table) (now groups) × (cellsOf (length (now memory)) ≤ groupAt (length (now groups))) ⌝ }
     requires sized { ⌜ length (now ends) ≡ length (now groups) ⌝ }
-    ensures { λ r. ⌜ leaves (report r) (buffers (now (memory .entry)) (now (bodies .exit)) (now (table .exit)))
-        ≡ outcome (performed (buffers (now (memory .entry)) (now (bodies .entry)) (now (table .entry)))) budget
-        (buffers (now (memory .entry)) (now (bodies .entry)) (now (table .entry))) ⌝ }
+    ensures { λ r. ⌜ Makes performed budget (buffers (now (memory .entry)) (now (bodies .entry)) (now (table .entry)))
+        (report r) (buffers (now (memory .entry)) (now (bodies .exit)) (now (table .exit))) ⌝ }
 {
     let mut places = many_places();
     let mut words = many_words();
@@ -560,9 +556,8 @@ fn advance_stored(
     requires ready { ⌜ Ready (length (now memory)) (length (now bodies)) (now table) (now used) × (length (now used) ≡ maxBodies) ⌝ }
     requires bits { ⌜ CellBits (now table) (now groups) × (cellsOf (length (now memory)) ≤ groupAt (length (now groups))) ⌝ }
     requires sized { ⌜ length (now ends) ≡ length (now groups) ⌝ }
-    ensures { λ r. ⌜ leaves (report r) (buffers (now (memory .entry)) (now (bodies .exit)) (now (table .exit)))
-        ≡ outcome (performed (buffers (now (memory .entry)) (now (bodies .entry)) (now (table .entry)))) budget
-        (buffers (now (memory .entry)) (now (bodies .entry)) (now (table .entry))) ⌝ }
+    ensures { λ r. ⌜ Makes performed budget (buffers (now (memory .entry)) (now (bodies .entry)) (now (table .entry)))
+        (report r) (buffers (now (memory .entry)) (now (bodies .exit)) (now (table .exit))) ⌝ }
 {
     if slots_of(table.len()) <= FEW_SLOTS {
         return store_few(memory, bodies, table, used, groups, ends, budget);
@@ -579,9 +574,8 @@ fn advance_few(
     budget: usize,
 ) -> Answer
     requires { ⌜ cellsOf (length (now memory)) ≤ 1024 ⌝ }
-    ensures { λ r. ⌜ leaves (report r) (buffers (now (memory .entry)) (now (bodies .exit)) (now (table .exit)))
-        ≡ outcome (advanceCall handle (buffers (now (memory .entry)) (now (bodies .entry)) (now (table .entry)))) budget
-        (buffers (now (memory .entry)) (now (bodies .entry)) (now (table .entry))) ⌝ }
+    ensures { λ r. ⌜ Makes (advanceCall handle) budget (buffers (now (memory .entry)) (now (bodies .entry)) (now (table .entry)))
+        (report r) (buffers (now (memory .entry)) (now (bodies .exit)) (now (table .exit))) ⌝ }
 {
     let mut seen = few_marks();
     let mut used = no_bodies();
@@ -610,9 +604,8 @@ fn advance_many(
     handle: u32,
     budget: usize,
 ) -> Answer
-    ensures { λ r. ⌜ leaves (report r) (buffers (now (memory .entry)) (now (bodies .exit)) (now (table .exit)))
-        ≡ outcome (advanceCall handle (buffers (now (memory .entry)) (now (bodies .entry)) (now (table .entry)))) budget
-        (buffers (now (memory .entry)) (now (bodies .entry)) (now (table .entry))) ⌝ }
+    ensures { λ r. ⌜ Makes (advanceCall handle) budget (buffers (now (memory .entry)) (now (bodies .entry)) (now (table .entry)))
+        (report r) (buffers (now (memory .entry)) (now (bodies .exit)) (now (table .exit))) ⌝ }
 {
     let mut seen = many_marks();
     let mut used = no_bodies();
@@ -641,11 +634,10 @@ pub fn advance(
     handle: u32,
     budget: usize,
 ) -> Answer
-    ensures made { λ r. ⌜ leaves (report r) (buffers (now (memory .entry)) (now (bodies .exit)) (now (table .exit)))
-        ≡ outcome (advanceCall handle (buffers (now (memory .entry)) (now (bodies .entry)) (now (table .entry)))) budget
-        (buffers (now (memory .entry)) (now (bodies .entry)) (now (table .entry))) ⌝ }
-    ensures means { λ r. ⌜ seen (report r) (buffers (now (memory .entry)) (now (bodies .exit)) (now (table .exit)))
-        ≡ advanceMeans handle budget (buffers (now (memory .entry)) (now (bodies .entry)) (now (table .entry))) ⌝ }
+    ensures made { λ r. ⌜ Makes (advanceCall handle) budget (buffers (now (memory .entry)) (now (bodies .entry)) (now (table .entry)))
+        (report r) (buffers (now (memory .entry)) (now (bodies .exit)) (now (table .exit))) ⌝ }
+    ensures means { λ r. ⌜ Shows (advanceMeans handle) budget (buffers (now (memory .entry)) (now (bodies .entry)) (now (table .entry)))
+        (report r) (buffers (now (memory .entry)) (now (bodies .exit)) (now (table .exit))) ⌝ }
 {
     if cells_of(memory.len()) <= FEW_CELLS {
         return advance_few(memory, bodies, table, handle, budget);

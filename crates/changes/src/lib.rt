@@ -13,7 +13,7 @@ ghost use mathlib.Core.Bool.{true};
 ghost use mathlib.Core.List.{[], _∷_, _++_};
 ghost use Prim.Native.Nat.{ℕ, _+_, _*_, _≤_, _<_};
 ghost use lib.ListN.{length, take};
-ghost use Rattle.words.specs.Layout.{pairsAt, tableWords, handleAt, maxLive, maxSlots, maxPairs, groupSize, groupAt};
+ghost use Rattle.words.specs.Layout.{tableWords, handleAt, maxLive, maxSlots, groupSize, groupAt};
 ghost use Rattle.words.specs.Stores.{_≔_, stores};
 ghost use Rattle.words.specs.Journal.{pairPlans};
 ghost use Rattle.table.specs.Marks.{zeros};

@@ -45,15 +45,13 @@ use words::wide;
 ghost use mathlib.Core.Path.{_≡_};
 ghost use mathlib.Core.Bool.{true, cond};
 ghost use Prim.Native.Nat.{ℕ, _+_, _*_, _≤_, _<_, min};
-ghost use lib.ListN.{length, take};
+ghost use lib.ListN.{length};
 ghost use Rattle.words.specs.Layout.{cellsOf, pairsAt, slotsOf, tableWords, maxSlots, maxLive, maxCells, groupSize, groupAt};
-ghost use Rattle.words.specs.Stores.{stores};
-ghost use Rattle.words.specs.Journal.{journal};
 ghost use Rattle.table.specs.Entry.{depthOf, writableOf, parent, outward, writable};
 ghost use Rattle.table.specs.Marks.{has, cellIn, Marked, CellsOnce, Blank};
 ghost use Rattle.changes.specs.Staged.{Turned, Stages, HeadOk, headStores, Journaled};
-ghost use Rattle.store.specs.Outcome.{buffers, report, leaves, outcome};
-ghost use Rattle.store.specs.Means.{seen};
+ghost use Rattle.store.specs.Outcome.{buffers, report, Makes};
+ghost use Rattle.store.specs.Means.{seen, Shows};
 ghost use Rattle.commit.specs.Commit.{raises, commitCheck, commitChange, commitCall, commitMeans};
 ghost use Rattle.commit.specs.Decide.{concerned, moves, TellsBoth};
 ghost use Rattle.commit.specs.Parts.{headWords, endingWords};
@@ -291,9 +289,8 @@ fn commit_marked(
     budget: usize,
 ) -> Answer
     requires { ⌜ (min (cellsOf (length (now memory))) maxCells ≤ length (now seen)) × Blank (now seen) ⌝ }
-    ensures { λ r. ⌜ leaves (report r) (buffers (now (memory .entry)) (now (bodies .entry)) (now (table .exit)))
-        ≡ outcome (commitCall handle (buffers (now (memory .entry)) (now (bodies .entry)) (now (table .entry)))) budget
-        (buffers (now (memory .entry)) (now (bodies .entry)) (now (table .entry))) ⌝ }
+    ensures { λ r. ⌜ Makes (commitCall handle) budget (buffers (now (memory .entry)) (now (bodies .entry)) (now (table .entry)))
+        (report r) (buffers (now (memory .entry)) (now (bodies .entry)) (now (table .exit))) ⌝ }
 {
     let no = commit_check(memory.len(), bodies.len(), table, handle, seen);
     if no != 0 {
@@ -309,9 +306,8 @@ fn commit_marked(
 // Commit in a small memory, where clearing marks for the largest would take longer than all else.
 fn commit_few(memory: &[u8], bodies: &[u8], table: &mut [u32], handle: u32, budget: usize) -> Answer
     requires { ⌜ cellsOf (length (now memory)) ≤ 1024 ⌝ }
-    ensures { λ r. ⌜ leaves (report r) (buffers (now (memory .entry)) (now (bodies .entry)) (now (table .exit)))
-        ≡ outcome (commitCall handle (buffers (now (memory .entry)) (now (bodies .entry)) (now (table .entry)))) budget
-        (buffers (now (memory .entry)) (now (bodies .entry)) (now (table .entry))) ⌝ }
+    ensures { λ r. ⌜ Makes (commitCall handle) budget (buffers (now (memory .entry)) (now (bodies .entry)) (now (table .entry)))
+        (report r) (buffers (now (memory .entry)) (now (bodies .entry)) (now (table .exit))) ⌝ }
 {
     let mut seen = few_marks();
     commit_marked(memory, bodies, table, handle, &mut seen, budget)
@@ -325,9 +321,8 @@ fn commit_many(
     handle: u32,
     budget: usize,
 ) -> Answer
-    ensures { λ r. ⌜ leaves (report r) (buffers (now (memory .entry)) (now (bodies .entry)) (now (table .exit)))
-        ≡ outcome (commitCall handle (buffers (now (memory .entry)) (now (bodies .entry)) (now (table .entry)))) budget
-        (buffers (now (memory .entry)) (now (bodies .entry)) (now (table .entry))) ⌝ }
+    ensures { λ r. ⌜ Makes (commitCall handle) budget (buffers (now (memory .entry)) (now (bodies .entry)) (now (table .entry)))
+        (report r) (buffers (now (memory .entry)) (now (bodies .entry)) (now (table .exit))) ⌝ }
 {
     let mut seen = many_marks();
     commit_marked(memory, bodies, table, handle, &mut seen, budget)
@@ -335,11 +330,10 @@ fn commit_many(
 
 // Ends the innermost domain.
 pub fn commit(memory: &[u8], bodies: &[u8], table: &mut [u32], handle: u32, budget: usize) -> Answer
-    ensures made { λ r. ⌜ leaves (report r) (buffers (now (memory .entry)) (now (bodies .entry)) (now (table .exit)))
-        ≡ outcome (commitCall handle (buffers (now (memory .entry)) (now (bodies .entry)) (now (table .entry)))) budget
-        (buffers (now (memory .entry)) (now (bodies .entry)) (now (table .entry))) ⌝ }
-    ensures means { λ r. ⌜ seen (report r) (buffers (now (memory .entry)) (now (bodies .entry)) (now (table .exit)))
-        ≡ commitMeans handle budget (buffers (now (memory .entry)) (now (bodies .entry)) (now (table .entry))) ⌝ }
+    ensures made { λ r. ⌜ Makes (commitCall handle) budget (buffers (now (memory .entry)) (now (bodies .entry)) (now (table .entry)))
+        (report r) (buffers (now (memory .entry)) (now (bodies .entry)) (now (table .exit))) ⌝ }
+    ensures means { λ r. ⌜ Shows (commitMeans handle) budget (buffers (now (memory .entry)) (now (bodies .entry)) (now (table .entry)))
+        (report r) (buffers (now (memory .entry)) (now (bodies .entry)) (now (table .exit))) ⌝ }
 {
     if cells_of(memory.len()) <= FEW_CELLS {
         return commit_few(memory, bodies, table, handle, budget);

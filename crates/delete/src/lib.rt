@@ -42,8 +42,8 @@ ghost use Rattle.table.specs.Entry.{word1};
 ghost use Rattle.table.specs.Marks.{markOf, has, Blank};
 ghost use Rattle.table.specs.Changes.{keep, entryChanges};
 ghost use Rattle.changes.specs.Staged.{Turned, Stages, Journaled};
-ghost use Rattle.store.specs.Outcome.{buffers, report, leaves, outcome};
-ghost use Rattle.store.specs.Means.{seen};
+ghost use Rattle.store.specs.Outcome.{buffers, report, Makes};
+ghost use Rattle.store.specs.Means.{seen, Shows};
 ghost use Rattle.delete.specs.Delete.{deleteCheck, deleteChange, deleteCall, deleteMeans};
 ghost use Rattle.delete.specs.Parts.{inCells, viaWord};
 
@@ -372,11 +372,10 @@ pub fn delete(
     count: u32,
     budget: usize,
 ) -> Answer
-    ensures made { λ r. ⌜ leaves (report r) (buffers (now (memory .entry)) (now (bodies .entry)) (now (table .exit)))
-        ≡ outcome (deleteCall handle first count (buffers (now (memory .entry)) (now (bodies .entry)) (now (table .entry)))) budget
-        (buffers (now (memory .entry)) (now (bodies .entry)) (now (table .entry))) ⌝ }
-    ensures means { λ r. ⌜ seen (report r) (buffers (now (memory .entry)) (now (bodies .entry)) (now (table .exit)))
-        ≡ deleteMeans handle first count budget (buffers (now (memory .entry)) (now (bodies .entry)) (now (table .entry))) ⌝ }
+    ensures made { λ r. ⌜ Makes (deleteCall handle first count) budget (buffers (now (memory .entry)) (now (bodies .entry)) (now (table .entry)))
+        (report r) (buffers (now (memory .entry)) (now (bodies .entry)) (now (table .exit))) ⌝ }
+    ensures means { λ r. ⌜ Shows (deleteMeans handle first count) budget (buffers (now (memory .entry)) (now (bodies .entry)) (now (table .entry)))
+        (report r) (buffers (now (memory .entry)) (now (bodies .entry)) (now (table .exit))) ⌝ }
 {
     let no = delete_check(memory.len(), bodies.len(), table, handle, first, count);
     if no != 0 {

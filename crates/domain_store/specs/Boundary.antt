@@ -7,7 +7,7 @@ use Rattle.words.specs.Layout.{cellSize}
 use Rattle.words.specs.Stores.{tab}
 use Rattle.model.specs.Answer.{Status, isDone, isStopped, isRefused}
 use Rattle.model.specs.Calls.{Listed}
-use Rattle.store.specs.Outcome.{Buffers, Outcome}
+use Rattle.store.specs.Outcome.{Buffers, Call, Outcome, outcome}
 use Rattle.look.specs.declared.Place.{Place}
 use Rattle.look.specs.declared.Place.the-variants.{Refused, Memory, Bodies}
 
@@ -28,6 +28,10 @@ returned n s b = record { number = n; steps = s; buffers = b }
 
 abbrev pub returnedBy : Outcome → Returned
 returnedBy o = returned (numberOf (o .report .status) (o .report .refusal)) (o .report .steps) (o .buffers)
+
+-- what each of these functions promises: lent the buffers `before`, it gives back what the call's outcome tells
+abbrev pub Returns : (Buffers → Call) → (budget : ℕ) → (before : Buffers) → (number steps : ℕ) → (after : Buffers) → Type 0
+Returns call k before n s after = returned n s after ≡ returnedBy (outcome (call before) k before)
 
 -- the eight words of an array
 abbrev pub eight : List ℕ → List ℕ

@@ -14,7 +14,7 @@ ghost use Rattle.commit.specs.Commit.{commitCall};
 ghost use Rattle.advance.specs.Advance.{advanceCall};
 ghost use Rattle.restore.specs.Restore.{restoreCall};
 ghost use Rattle.look.specs.Look.{lookPlace};
-ghost use Rattle.domain_store.specs.Boundary.{numberOf, returned, returnedBy, eight, listedInC, listedBy, lookedInC, lookedBy, offsetWithin};
+ghost use Rattle.domain_store.specs.Boundary.{numberOf, eight, listedInC, listedBy, lookedInC, lookedBy, offsetWithin, Returns};
 
 // Tells how a call ended: its steps through the out parameter, its number as the result.
 fn tell(answer: Answer, steps: &mut u64) -> u32
@@ -74,8 +74,8 @@ pub extern "C" fn ds_make(
     budget: u64,
     steps: &mut u64,
 ) -> u32
-    ensures { λ r. ⌜ returned r (now (steps .exit)) (buffers (now (memory .entry)) (now (bodies .entry)) (now (table .exit)))
-        ≡ returnedBy (outcome (makeCall (buffers (now (memory .entry)) (now (bodies .entry)) (now (table .entry)))) budget (buffers (now (memory .entry)) (now (bodies .entry)) (now (table .entry)))) ⌝ }
+    ensures { λ r. ⌜ Returns makeCall budget (buffers (now (memory .entry)) (now (bodies .entry)) (now (table .entry)))
+        r (now (steps .exit)) (buffers (now (memory .entry)) (now (bodies .entry)) (now (table .exit))) ⌝ }
 {
     let answer = store::make(memory, bodies, table, budget as usize);
     tell(answer, steps)
@@ -90,8 +90,8 @@ pub extern "C" fn ds_open(
     budget: u64,
     steps: &mut u64,
 ) -> u32
-    ensures { λ r. ⌜ returned r (now (steps .exit)) (buffers (now (memory .entry)) (now (bodies .entry)) (now (table .exit)))
-        ≡ returnedBy (outcome (openCall (buffers (now (memory .entry)) (now (bodies .entry)) (now (table .entry)))) budget (buffers (now (memory .entry)) (now (bodies .entry)) (now (table .entry)))) ⌝ }
+    ensures { λ r. ⌜ Returns openCall budget (buffers (now (memory .entry)) (now (bodies .entry)) (now (table .entry)))
+        r (now (steps .exit)) (buffers (now (memory .entry)) (now (bodies .entry)) (now (table .exit))) ⌝ }
 {
     let answer = store::open(memory, bodies, table, budget as usize);
     tell(answer, steps)
@@ -107,9 +107,11 @@ pub extern "C" fn ds_create(
     steps: &mut u64,
     handle: &mut u32,
 ) -> u32
-    ensures told { λ r. ⌜ returned r (now (steps .exit)) (buffers (now (memory .entry)) (now (bodies .entry)) (now (table .exit)))
-        ≡ returnedBy (outcome (createCall (buffers (now (memory .entry)) (now (bodies .entry)) (now (table .entry)))) budget (buffers (now (memory .entry)) (now (bodies .entry)) (now (table .entry)))) ⌝ }
-    ensures named { λ _. ⌜ now (handle .exit) ≡ outcome (createCall (buffers (now (memory .entry)) (now (bodies .entry)) (now (table .entry)))) budget (buffers (now (memory .entry)) (now (bodies .entry)) (now (table .entry))) .report .handle ⌝ }
+    ensures told { λ r. ⌜ Returns createCall budget (buffers (now (memory .entry)) (now (bodies .entry)) (now (table .entry)))
+        r (now (steps .exit)) (buffers (now (memory .entry)) (now (bodies .entry)) (now (table .exit))) ⌝ }
+    ensures named { λ _. ⌜ now (handle .exit)
+        ≡ outcome (createCall (buffers (now (memory .entry)) (now (bodies .entry)) (now (table .entry)))) budget
+        (buffers (now (memory .entry)) (now (bodies .entry)) (now (table .entry))) .report .handle ⌝ }
 {
     let answer = store::create(memory, bodies, table, budget as usize);
     *handle = handle_of(answer);
@@ -130,8 +132,8 @@ pub extern "C" fn ds_add(
     budget: u64,
     steps: &mut u64,
 ) -> u32
-    ensures { λ r. ⌜ returned r (now (steps .exit)) (buffers (now (memory .entry)) (now (bodies .exit)) (now (table .exit)))
-        ≡ returnedBy (outcome (addCall handle first count kind label (buffers (now (memory .entry)) (now (bodies .entry)) (now (table .entry)))) budget (buffers (now (memory .entry)) (now (bodies .entry)) (now (table .entry)))) ⌝ }
+    ensures { λ r. ⌜ Returns (addCall handle first count kind label) budget (buffers (now (memory .entry)) (now (bodies .entry)) (now (table .entry)))
+        r (now (steps .exit)) (buffers (now (memory .entry)) (now (bodies .exit)) (now (table .exit))) ⌝ }
 {
     let answer = add::add(
         memory,
@@ -159,8 +161,8 @@ pub extern "C" fn ds_delete(
     budget: u64,
     steps: &mut u64,
 ) -> u32
-    ensures { λ r. ⌜ returned r (now (steps .exit)) (buffers (now (memory .entry)) (now (bodies .entry)) (now (table .exit)))
-        ≡ returnedBy (outcome (deleteCall handle first count (buffers (now (memory .entry)) (now (bodies .entry)) (now (table .entry)))) budget (buffers (now (memory .entry)) (now (bodies .entry)) (now (table .entry)))) ⌝ }
+    ensures { λ r. ⌜ Returns (deleteCall handle first count) budget (buffers (now (memory .entry)) (now (bodies .entry)) (now (table .entry)))
+        r (now (steps .exit)) (buffers (now (memory .entry)) (now (bodies .entry)) (now (table .exit))) ⌝ }
 {
     let answer = delete::delete(memory, bodies, table, handle, first, count, budget as usize);
     tell(answer, steps)
@@ -176,8 +178,8 @@ pub extern "C" fn ds_commit(
     budget: u64,
     steps: &mut u64,
 ) -> u32
-    ensures { λ r. ⌜ returned r (now (steps .exit)) (buffers (now (memory .entry)) (now (bodies .entry)) (now (table .exit)))
-        ≡ returnedBy (outcome (commitCall handle (buffers (now (memory .entry)) (now (bodies .entry)) (now (table .entry)))) budget (buffers (now (memory .entry)) (now (bodies .entry)) (now (table .entry)))) ⌝ }
+    ensures { λ r. ⌜ Returns (commitCall handle) budget (buffers (now (memory .entry)) (now (bodies .entry)) (now (table .entry)))
+        r (now (steps .exit)) (buffers (now (memory .entry)) (now (bodies .entry)) (now (table .exit))) ⌝ }
 {
     let answer = commit::commit(memory, bodies, table, handle, budget as usize);
     tell(answer, steps)
@@ -193,8 +195,8 @@ pub extern "C" fn ds_advance(
     budget: u64,
     steps: &mut u64,
 ) -> u32
-    ensures { λ r. ⌜ returned r (now (steps .exit)) (buffers (now (memory .entry)) (now (bodies .exit)) (now (table .exit)))
-        ≡ returnedBy (outcome (advanceCall handle (buffers (now (memory .entry)) (now (bodies .entry)) (now (table .entry)))) budget (buffers (now (memory .entry)) (now (bodies .entry)) (now (table .entry)))) ⌝ }
+    ensures { λ r. ⌜ Returns (advanceCall handle) budget (buffers (now (memory .entry)) (now (bodies .entry)) (now (table .entry)))
+        r (now (steps .exit)) (buffers (now (memory .entry)) (now (bodies .exit)) (now (table .exit))) ⌝ }
 {
     let answer = advance::advance(memory, bodies, table, handle, budget as usize);
     tell(answer, steps)
@@ -210,8 +212,8 @@ pub extern "C" fn ds_restore(
     budget: u64,
     steps: &mut u64,
 ) -> u32
-    ensures { λ r. ⌜ returned r (now (steps .exit)) (buffers (now (memory .exit)) (now (bodies .entry)) (now (table .exit)))
-        ≡ returnedBy (outcome (restoreCall handle (buffers (now (memory .entry)) (now (bodies .entry)) (now (table .entry)))) budget (buffers (now (memory .entry)) (now (bodies .entry)) (now (table .entry)))) ⌝ }
+    ensures { λ r. ⌜ Returns (restoreCall handle) budget (buffers (now (memory .entry)) (now (bodies .entry)) (now (table .entry)))
+        r (now (steps .exit)) (buffers (now (memory .exit)) (now (bodies .entry)) (now (table .exit))) ⌝ }
 {
     let answer = restore::restore(memory, bodies, table, handle, budget as usize);
     tell(answer, steps)
@@ -228,7 +230,8 @@ pub extern "C" fn ds_list(
     count: &mut u32,
 ) -> u32
     ensures listed { λ r. ⌜ listedInC r (now (count .exit)) ≡ listedBy (listMeans (buffers (now (memory .entry)) (now (bodies .entry)) (now (table .entry)))) ⌝ }
-    ensures handles { λ _. ⌜ (length (now (handles .entry)) ≡ 8 → eight (now (handles .exit)) ≡ eight (listMeans (buffers (now (memory .entry)) (now (bodies .entry)) (now (table .entry))) .handles)) ⌝ }
+    ensures handles { λ _. ⌜ (length (now (handles .entry)) ≡ 8 → eight (now (handles .exit))
+        ≡ eight (listMeans (buffers (now (memory .entry)) (now (bodies .entry)) (now (table .entry))) .handles)) ⌝ }
 {
     let listing = store::list(memory, bodies, table);
     let mut k = 0;
@@ -251,7 +254,8 @@ pub extern "C" fn ds_look(
     place: &mut u32,
     offset: &mut u64,
 ) -> u32
-    ensures found { λ r. ⌜ lookedInC r (now (place .exit)) (now (offset .exit)) ≡ lookedBy (lookPlace handle cell (buffers (now (memory .entry)) (now (bodies .entry)) (now (table .entry)))) ⌝ }
+    ensures found { λ r. ⌜ lookedInC r (now (place .exit)) (now (offset .exit))
+        ≡ lookedBy (lookPlace handle cell (buffers (now (memory .entry)) (now (bodies .entry)) (now (table .entry)))) ⌝ }
     ensures within { λ _. ⌜ offsetWithin (now (place .exit)) (now (offset .exit)) (buffers (now (memory .entry)) (now (bodies .entry)) (now (table .entry))) ⌝ }
 {
     match look_place(memory, bodies, table, handle, cell) {

@@ -16,7 +16,8 @@ use Rattle.model.specs.Answer.{Report, done, stopped, refused, View, ste
 use Rattle.model.specs.Calls.{Effect, change, orRefuse, fresh, makeSteps, makeState, createEffect, viewedWith}
 use Rattle.model.specs.Holdings.{Room, named, holdingAt, addEffect, deleteEffect, advanceEffect, commitEffect}
 use Rattle.model.specs.Restore.{restoredMemory, restoreEffect, memoryAfterSteps, lookChecks}
-use Rattle.model.specs.History.{Changing, create, add, delete, advance, commit, Reading, list, look, Request, changes, restore, reads, Event, made, called, opened, written, Observation, observed, Kept, Tracked, History, withWaiting, finished}
+use Rattle.model.specs.History.{Changing, create, add, delete, advance, commit, Reading, list, look, Request, changes, restore, reads}
+use Rattle.model.specs.History.{Event, made, called, opened, written, Observation, observed, Kept, Tracked, History, withWaiting, finished}
 
 -- ---- inputs
 

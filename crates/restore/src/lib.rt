@@ -52,8 +52,8 @@ ghost use Rattle.table.specs.Marks.{Blank, Marked, AllMarked};
 ghost use Rattle.table.specs.Rule.{ruleOk};
 ghost use Rattle.search.specs.Search.{heldFrom};
 ghost use Rattle.changes.specs.Staged.{Turned, Stages, HeadOk, headStores, Journaled};
-ghost use Rattle.store.specs.Outcome.{buffers, report, leaves, outcome};
-ghost use Rattle.store.specs.Means.{seen};
+ghost use Rattle.store.specs.Outcome.{buffers, report, Makes};
+ghost use Rattle.store.specs.Means.{seen, Shows};
 ghost use Rattle.restore.specs.Restore.{restoreCheck, restoreBytes, restoreChange, restoreWords, restoreCall, restoreMeans};
 ghost use Rattle.restore.specs.Marks.{inwards, heldBy, Tells};
 ghost use Rattle.restore.specs.Parts.{backPlan, groupPlan, headWords, endingWords};
@@ -177,7 +177,8 @@ fn put_group(
     n: usize,
     budget: usize,
 ) -> usize
-    requires { ⌜ (slots ≤ maxSlots) × (pairsAt slots ≤ length (now table)) × (1 ≤ depth) × (cellsOf (length (now memory)) ≤ maxCells) × (n ≤ groupSize) × (from + n ≤ length (now seen)) × (from + n ≤ cellsOf (length (now memory))) ⌝ }
+    requires { ⌜ (slots ≤ maxSlots) × (pairsAt slots ≤ length (now table)) × (1 ≤ depth) × (cellsOf (length (now memory)) ≤ maxCells)
+        × (n ≤ groupSize) × (from + n ≤ length (now seen)) × (from + n ≤ cellsOf (length (now memory))) ⌝ }
     requires { ⌜ (ruleOk (cellsOf (length (now memory))) slots (bodiesOf (length (now bodies))) (now table) ≡ true) × Tells slots (now table) depth mask (now seen) ⌝ }
     ensures made { λ r. ⌜ r ≡ length (groupPlan slots (now (table .entry)) depth (now (bodies .entry)) from n) ⌝ }
     ensures few { λ r. ⌜ r ≤ cellSize * n ⌝ }
@@ -216,11 +217,13 @@ fn put_back(
     mask: u8,
     budget: usize,
 ) -> usize
-    requires { ⌜ (slots ≤ maxSlots) × (pairsAt slots ≤ length (now table)) × (1 ≤ depth) × (cellsOf (length (now memory)) ≤ maxCells) × (cellsOf (length (now memory)) ≤ length (now seen)) ⌝ }
+    requires { ⌜ (slots ≤ maxSlots) × (pairsAt slots ≤ length (now table)) × (1 ≤ depth)
+        × (cellsOf (length (now memory)) ≤ maxCells) × (cellsOf (length (now memory)) ≤ length (now seen)) ⌝ }
     requires { ⌜ (ruleOk (cellsOf (length (now memory))) slots (bodiesOf (length (now bodies))) (now table) ≡ true) × Tells slots (now table) depth mask (now seen) ⌝ }
     ensures made { λ r. ⌜ r ≡ length (gather (cellsOf (length (now (memory .entry)))) (backPlan slots (now (table .entry)) depth (now (bodies .entry)))) ⌝ }
     ensures few { λ r. ⌜ r ≤ cellSize * maxCells ⌝ }
-    ensures bytes { λ _. ⌜ now (memory .exit) ≡ stores (take budget (gather (cellsOf (length (now (memory .entry)))) (backPlan slots (now (table .entry)) depth (now (bodies .entry))))) (now (memory .entry)) ⌝ }
+    ensures bytes { λ _. ⌜ now (memory .exit)
+        ≡ stores (take budget (gather (cellsOf (length (now (memory .entry)))) (backPlan slots (now (table .entry)) depth (now (bodies .entry))))) (now (memory .entry)) ⌝ }
 {
     let cells = cells_of(memory.len());
     let mut bytes: usize = 0;
@@ -253,11 +256,14 @@ fn restore_memory(
     seen: &[u8],
     budget: usize,
 ) -> usize
-    requires { ⌜ (slotsOf (length (now table)) ≤ maxSlots) × (pairsAt (slotsOf (length (now table))) ≤ length (now table)) × (1 ≤ depth) × (depth ≤ maxLive) × (cellsOf (length (now memory)) ≤ maxCells) × (cellsOf (length (now memory)) ≤ length (now seen)) ⌝ }
-    requires { ⌜ (ruleOk (cellsOf (length (now memory))) (slotsOf (length (now table))) (bodiesOf (length (now bodies))) (now table) ≡ true) × Marked (slotsOf (length (now table))) (now table) (slotsOf (length (now table))) (now seen) ⌝ }
+    requires { ⌜ (slotsOf (length (now table)) ≤ maxSlots) × (pairsAt (slotsOf (length (now table))) ≤ length (now table))
+        × (1 ≤ depth) × (depth ≤ maxLive) × (cellsOf (length (now memory)) ≤ maxCells) × (cellsOf (length (now memory)) ≤ length (now seen)) ⌝ }
+    requires { ⌜ (ruleOk (cellsOf (length (now memory))) (slotsOf (length (now table))) (bodiesOf (length (now bodies))) (now table) ≡ true)
+        × Marked (slotsOf (length (now table))) (now table) (slotsOf (length (now table))) (now seen) ⌝ }
     ensures made { λ r. ⌜ r ≡ length (restoreBytes (cellsOf (length (now (memory .entry)))) depth (now (bodies .entry)) (now (table .entry))) ⌝ }
     ensures few { λ r. ⌜ r ≤ cellSize * maxCells ⌝ }
-    ensures bytes { λ _. ⌜ now (memory .exit) ≡ stores (take budget (restoreBytes (cellsOf (length (now (memory .entry)))) depth (now (bodies .entry)) (now (table .entry)))) (now (memory .entry)) ⌝ }
+    ensures bytes { λ _. ⌜ now (memory .exit)
+        ≡ stores (take budget (restoreBytes (cellsOf (length (now (memory .entry)))) depth (now (bodies .entry)) (now (table .entry)))) (now (memory .entry)) ⌝ }
 {
     let slots = slots_of(table.len());
     let mask = inwards_of(depth);
@@ -360,7 +366,8 @@ fn end_domains(
     changed: &mut [u64],
     budget: usize,
 ) -> usize
-    requires { ⌜ (slots ≤ maxSlots) × (length (now table) ≡ tableWords slots) × (depth ≤ live) × (live ≤ maxLive) × (2 * slots ≤ length (now words)) × (slots ≤ groupAt (length (now changed))) ⌝ }
+    requires { ⌜ (slots ≤ maxSlots) × (length (now table) ≡ tableWords slots) × (depth ≤ live) × (live ≤ maxLive)
+        × (2 * slots ≤ length (now words)) × (slots ≤ groupAt (length (now changed))) ⌝ }
     requires { ⌜ Stages 0 (restoreChange slots (now table) depth) (now words) (now changed) ⌝ }
     ensures { λ r. ⌜ Journaled slots (endingWords slots (now (table .entry)) depth live) budget (now (table .entry)) r (now (table .exit)) ⌝ }
 {
@@ -426,9 +433,8 @@ fn restore_marked(
 ) -> Answer
     requires room { ⌜ (min (cellsOf (length (now memory))) maxCells ≤ length (now seen)) × (length (now used) ≡ maxBodies) ⌝ }
     requires blank { ⌜ Blank (now seen) × Blank (now used) ⌝ }
-    ensures { λ r. ⌜ leaves (report r) (buffers (now (memory .exit)) (now (bodies .entry)) (now (table .exit)))
-        ≡ outcome (restoreCall handle (buffers (now (memory .entry)) (now (bodies .entry)) (now (table .entry)))) budget
-        (buffers (now (memory .entry)) (now (bodies .entry)) (now (table .entry))) ⌝ }
+    ensures { λ r. ⌜ Makes (restoreCall handle) budget (buffers (now (memory .entry)) (now (bodies .entry)) (now (table .entry)))
+        (report r) (buffers (now (memory .exit)) (now (bodies .entry)) (now (table .exit))) ⌝ }
 {
     let no = restore_check(memory.len(), bodies.len(), table, handle, seen, used);
     if no != 0 {
@@ -449,9 +455,8 @@ fn restore_few(
     budget: usize,
 ) -> Answer
     requires { ⌜ cellsOf (length (now memory)) ≤ 1024 ⌝ }
-    ensures { λ r. ⌜ leaves (report r) (buffers (now (memory .exit)) (now (bodies .entry)) (now (table .exit)))
-        ≡ outcome (restoreCall handle (buffers (now (memory .entry)) (now (bodies .entry)) (now (table .entry)))) budget
-        (buffers (now (memory .entry)) (now (bodies .entry)) (now (table .entry))) ⌝ }
+    ensures { λ r. ⌜ Makes (restoreCall handle) budget (buffers (now (memory .entry)) (now (bodies .entry)) (now (table .entry)))
+        (report r) (buffers (now (memory .exit)) (now (bodies .entry)) (now (table .exit))) ⌝ }
 {
     let mut seen = few_marks();
     let mut used = no_bodies();
@@ -466,9 +471,8 @@ fn restore_many(
     handle: u32,
     budget: usize,
 ) -> Answer
-    ensures { λ r. ⌜ leaves (report r) (buffers (now (memory .exit)) (now (bodies .entry)) (now (table .exit)))
-        ≡ outcome (restoreCall handle (buffers (now (memory .entry)) (now (bodies .entry)) (now (table .entry)))) budget
-        (buffers (now (memory .entry)) (now (bodies .entry)) (now (table .entry))) ⌝ }
+    ensures { λ r. ⌜ Makes (restoreCall handle) budget (buffers (now (memory .entry)) (now (bodies .entry)) (now (table .entry)))
+        (report r) (buffers (now (memory .exit)) (now (bodies .entry)) (now (table .exit))) ⌝ }
 {
     let mut seen = many_marks();
     let mut used = no_bodies();
@@ -483,11 +487,10 @@ pub fn restore(
     handle: u32,
     budget: usize,
 ) -> Answer
-    ensures made { λ r. ⌜ leaves (report r) (buffers (now (memory .exit)) (now (bodies .entry)) (now (table .exit)))
-        ≡ outcome (restoreCall handle (buffers (now (memory .entry)) (now (bodies .entry)) (now (table .entry)))) budget
-        (buffers (now (memory .entry)) (now (bodies .entry)) (now (table .entry))) ⌝ }
-    ensures means { λ r. ⌜ seen (report r) (buffers (now (memory .exit)) (now (bodies .entry)) (now (table .exit)))
-        ≡ restoreMeans handle budget (buffers (now (memory .entry)) (now (bodies .entry)) (now (table .entry))) ⌝ }
+    ensures made { λ r. ⌜ Makes (restoreCall handle) budget (buffers (now (memory .entry)) (now (bodies .entry)) (now (table .entry)))
+        (report r) (buffers (now (memory .exit)) (now (bodies .entry)) (now (table .exit))) ⌝ }
+    ensures means { λ r. ⌜ Shows (restoreMeans handle) budget (buffers (now (memory .entry)) (now (bodies .entry)) (now (table .entry)))
+        (report r) (buffers (now (memory .exit)) (now (bodies .entry)) (now (table .exit))) ⌝ }
 {
     if cells_of(memory.len()) <= FEW_CELLS {
         return restore_few(memory, bodies, table, handle, budget);

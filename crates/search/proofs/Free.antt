@@ -14,6 +14,7 @@ use Rattle.table.specs.Entry.{word1, word2, viaOf}
 use Rattle.table.specs.Marks.{IsCopy}
 use Rattle.table.proofs.Rule.{Rule}
 use Rattle.search.specs.Free.{slotFree, isCopy, bodyUsed, bodyFree, usedSlots, copies, TakesFree}
+use Rattle.table.proofs.Marks.{owns-facts}
 
 -- ---- free slots: an entry is in use or its slot is free
 pub slots-all : (e : ℕ) (t : List ℕ) → usedSlots e t + count e (slotFree e t) ≡ e
@@ -22,21 +23,13 @@ slots-all e t = omega (arith, count-not e (slotFree e t))
 
 -- ---- free bodies
 module _ (e : ℕ) (t : List ℕ) where
-  copy-make : (i : ℕ) → IsCopy e t i → isCopy e t i ≡ true
-  copy-make i h = and-join (not (slotFree e t i)) (eqb (viaOf (word1 e t i)) 0) (ap not (ne-eqb (word1 e t i) 0 (h .0))) (eq-eqb _ _ (h .1))
-
-  copy-facts : (i : ℕ) → isCopy e t i ≡ true → IsCopy e t i
-  copy-facts i h =
-      let s = and-split (not (slotFree e t i)) (eqb (viaOf (word1 e t i)) 0) h in
-      (eqb-false _ _ (not-true (slotFree e t i) (s .0)), eqb-true _ _ (s .1))
-
   pub body-used : (k j : ℕ) → j < e → IsCopy e t j → word2 e t j ≡ k → bodyUsed e t k ≡ true
   unfolding bodyUsed meets
-  body-used k j l p q = meets-make (isCopy e t) (word2 e t) e k j l (copy-make j p) q
+  body-used k j l p q = meets-make (isCopy e t) (word2 e t) e k j l p q
 
   pub body-user : (k : ℕ) → bodyUsed e t k ≡ true → (j : ℕ) × (j < e) × IsCopy e t j × (word2 e t j ≡ k)
   unfolding bodyUsed meets
-  body-user k h = let f = meets-some (isCopy e t) (word2 e t) e k h in (f .0, f .1, copy-facts (f .0) (f .2), f .3)
+  body-user k h = let f = meets-some (isCopy e t) (word2 e t) e k h in (f .0, f .1, f .2, f .3)
 
   pub body-unused : (k : ℕ) → bodyFree e t k ≡ true → (j : ℕ) → j < e → IsCopy e t j → word2 e t j ≡ k → ⊥
   body-unused k h j l p q = true≢ (body-used k j l p q) (not-true (bodyUsed e t k) h)
@@ -48,10 +41,10 @@ bodies-all m e b t ok =
     let own =
     count-image (isCopy e t) (word2 e t) b e
     (record {
-      below = λ i l p. let f = copy-facts e t i p in ok .used i l (f .0) .copy (f .1);
+      below = λ i l p. let f = owns-facts (word1 e t i) p in ok .used i l (f .0) .copy (f .1);
       apart = λ i j l k p q w.
-          let f = copy-facts e t i p in
-          let g = copy-facts e t j q in
+          let f = owns-facts (word1 e t i) p in
+          let g = owns-facts (word1 e t j) q in
           ok .apart-from i l j k (f .0) (g .0) .bodies (g .1) (f .1) w;
     }) in
     omega (arith, own, count-not b (bodyUsed e t))

@@ -32,6 +32,7 @@ use Rattle.model.specs.State.{Label, readOnly, readWrite, copy, viaParent, Hold
 use Rattle.model.specs.Holdings.{valueOr}
 use Rattle.store.specs.State.{labelOf, kindOf, ValueIs, ofCopy, ofParent, HoldingIs, nothing, entry, heldIn, domainIn, stateIn}
 use Rattle.store.proofs.State.{bit, value-is, value-only, holding-only}
+use Rattle.table.proofs.Marks.{owns-make}
 
 -- what is held by copy, and via parent
 abbrev pub byCopy : Label → List ℕ → Option Holding
@@ -323,7 +324,7 @@ module _ (m e b : ℕ) (t old new : List ℕ) (n : ℕ) (held : ℕ → ℕ → 
         (λ l. absurd (B .right .apart-from i (p .slot) j l (p .used) (q .used) .bodies (q .copy) (p .copy) (sym h))))
 
     taken-body : (v j : ℕ) → bodyFree e t v ≡ true → Copy e t j → v ≡ word2 e t j → ⊥
-    taken-body v j r k q = body-unused e t v r j (k .slot) (k .used, k .copy) (sym q)
+    taken-body v j r k q = body-unused e t v r j (k .slot) (owns-make _ (k .used) (k .copy)) (sym q)
 
     one-body : (i j x y v : ℕ) → Copy e u i → Copy e u j → Value i x v → Value j y v → viaOf x ≡ 0 → viaOf y ≡ 0 → i ≡ j
     one-body i j x y v ci cj (had a k q h) (had a′ k′ q′ h′) zi zj = B .own i j (ci .slot) (cj .slot) ci cj (old-body (origin i) (origin j) k k′ (sym q ∙ q′))

@@ -24,6 +24,10 @@ seen r b = view r (standing b) (b .memory)
 abbrev pub seenOf : Outcome → View
 seenOf o = seen (o .report) (o .buffers)
 
+-- what each exported call promises besides: what is to be seen of its report and of the buffers `after` is what it means
+abbrev pub Shows : (ℕ → Buffers → View) → (budget : ℕ) → (before : Buffers) → Report → (after : Buffers) → Type 0
+Shows means k before r after = seen r after ≡ means k before
+
 -- a call refused by a question on the buffers leaves what there was
 abbrev pub orRefused : ℕ → Buffers → View → View
 orRefused q b v = byNumber (λ n. seen (refused n) b) q v

@@ -1,6 +1,7 @@
 -- A call is a refusal or a plan of stores; its outcome at a budget is what the first stores of the plan leave.
 use Prim.Native.Nat.{ℕ}
 use mathlib.Core.List.{List, map, _++_}
+use mathlib.Core.Path.{_≡_}
 use lib.ListN.{length, take}
 use Rattle.words.specs.Stores.{Store, store, run}
 use Rattle.words.specs.Journal.{journal}
@@ -60,3 +61,7 @@ leaves r b = record { report = r; buffers = b }
 unfoldable pub outcome : Call → ℕ → Buffers → Outcome
 outcome (refuse n) k b = leaves (refused n) b
 outcome (perform plan h) k b = leaves (ended (length plan) h k) (steps (take k plan) b)
+
+-- what each exported call promises first: lent the buffers `before`, its report and the buffers `after` are its outcome
+abbrev pub Makes : (Buffers → Call) → (budget : ℕ) → (before : Buffers) → Report → (after : Buffers) → Type 0
+Makes call k before r after = leaves r after ≡ outcome (call before) k before

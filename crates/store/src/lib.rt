@@ -34,20 +34,20 @@ use words::least;
 use words::wide;
 ghost use mathlib.Core.Path.{_≡_};
 ghost use mathlib.Core.Bool.{cond};
-ghost use Prim.Native.Nat.{_+_, _-_, _≤_, _<_, min};
+ghost use Prim.Native.Nat.{_≤_, _<_, min};
 ghost use lib.ListN.{length, take, getD};
-ghost use Rattle.words.specs.Layout.{pairsAt, cellsOf, slotsOf, tableWords, maxSlots, maxLive, maxCells, maxBodies, handleAt};
+ghost use Rattle.words.specs.Layout.{cellsOf, slotsOf, tableWords, maxSlots, maxLive, maxCells, maxBodies, handleAt};
 ghost use Rattle.words.specs.Stores.{stores, tab};
 ghost use Rattle.table.specs.Entry.{live, handle};
 ghost use Rattle.table.specs.Marks.{Blank, AllMarked};
-ghost use Rattle.words.specs.Journal.{journal, pending};
+ghost use Rattle.words.specs.Journal.{pending};
 ghost use Rattle.changes.specs.Staged.{HeadOk, headStores, Journaled};
 ghost use Rattle.model.specs.Answer.{ended};
 ghost use Rattle.model.specs.Holdings.{rangeOk};
-ghost use Rattle.store.specs.Outcome.{buffers, report, leaves, outcome};
+ghost use Rattle.store.specs.Outcome.{buffers, report, Makes};
 ghost use Rattle.store.specs.Checks.{shapeCheck, tableCheck, openCheck, idleCheck, storeCheck, askInnermostIn, createCheck};
 ghost use Rattle.store.specs.Calls.{freshWord, makePlan, makeCall, openCall, domainWords, createWords, createCall};
-ghost use Rattle.store.specs.Means.{seen, makeMeans, openMeans, createMeans, listing, listMeans};
+ghost use Rattle.store.specs.Means.{seen, makeMeans, openMeans, createMeans, listing, listMeans, Shows};
 
 // What a call answers: the number of the question that refused it; or done, with its steps and, from create, the new handle; or stopped
 // by its budget, with that many steps made.
@@ -295,11 +295,10 @@ fn make_words(table: &mut [u32], cells: u32, slots: u32, bodies: u32, budget: us
 
 // Makes a fresh store: no domains, next handle 1, no entries.
 pub fn make(memory: &[u8], bodies: &[u8], table: &mut [u32], budget: usize) -> Answer
-    ensures made { λ r. ⌜ leaves (report r) (buffers (now (memory .entry)) (now (bodies .entry)) (now (table .exit)))
-        ≡ outcome (makeCall (buffers (now (memory .entry)) (now (bodies .entry)) (now (table .entry)))) budget
-        (buffers (now (memory .entry)) (now (bodies .entry)) (now (table .entry))) ⌝ }
-    ensures means { λ r. ⌜ seen (report r) (buffers (now (memory .entry)) (now (bodies .entry)) (now (table .exit)))
-        ≡ makeMeans budget (buffers (now (memory .entry)) (now (bodies .entry)) (now (table .entry))) ⌝ }
+    ensures made { λ r. ⌜ Makes makeCall budget (buffers (now (memory .entry)) (now (bodies .entry)) (now (table .entry)))
+        (report r) (buffers (now (memory .entry)) (now (bodies .entry)) (now (table .exit))) ⌝ }
+    ensures means { λ r. ⌜ Shows makeMeans budget (buffers (now (memory .entry)) (now (bodies .entry)) (now (table .entry)))
+        (report r) (buffers (now (memory .entry)) (now (bodies .entry)) (now (table .exit))) ⌝ }
 {
     if !lengths_ok(memory.len(), bodies.len(), table.len()) {
         return Answer::Refused(1);
@@ -315,11 +314,10 @@ pub fn make(memory: &[u8], bodies: &[u8], table: &mut [u32], budget: usize) -> A
 
 // Puts the pending pairs in place.
 pub fn open(memory: &[u8], bodies: &[u8], table: &mut [u32], budget: usize) -> Answer
-    ensures made { λ r. ⌜ leaves (report r) (buffers (now (memory .entry)) (now (bodies .entry)) (now (table .exit)))
-        ≡ outcome (openCall (buffers (now (memory .entry)) (now (bodies .entry)) (now (table .entry)))) budget
-        (buffers (now (memory .entry)) (now (bodies .entry)) (now (table .entry))) ⌝ }
-    ensures means { λ r. ⌜ seen (report r) (buffers (now (memory .entry)) (now (bodies .entry)) (now (table .exit)))
-        ≡ openMeans budget (buffers (now (memory .entry)) (now (bodies .entry)) (now (table .entry))) ⌝ }
+    ensures made { λ r. ⌜ Makes openCall budget (buffers (now (memory .entry)) (now (bodies .entry)) (now (table .entry)))
+        (report r) (buffers (now (memory .entry)) (now (bodies .entry)) (now (table .exit))) ⌝ }
+    ensures means { λ r. ⌜ Shows openMeans budget (buffers (now (memory .entry)) (now (bodies .entry)) (now (table .entry)))
+        (report r) (buffers (now (memory .entry)) (now (bodies .entry)) (now (table .exit))) ⌝ }
 {
     let no = open_check(memory.len(), bodies.len(), table);
     if no != 0 {
@@ -362,11 +360,10 @@ fn create_words(table: &mut [u32], budget: usize) -> usize
 
 // Adds a domain inside the innermost, and names its handle.
 pub fn create(memory: &[u8], bodies: &[u8], table: &mut [u32], budget: usize) -> Answer
-    ensures made { λ r. ⌜ leaves (report r) (buffers (now (memory .entry)) (now (bodies .entry)) (now (table .exit)))
-        ≡ outcome (createCall (buffers (now (memory .entry)) (now (bodies .entry)) (now (table .entry)))) budget
-        (buffers (now (memory .entry)) (now (bodies .entry)) (now (table .entry))) ⌝ }
-    ensures means { λ r. ⌜ seen (report r) (buffers (now (memory .entry)) (now (bodies .entry)) (now (table .exit)))
-        ≡ createMeans budget (buffers (now (memory .entry)) (now (bodies .entry)) (now (table .entry))) ⌝ }
+    ensures made { λ r. ⌜ Makes createCall budget (buffers (now (memory .entry)) (now (bodies .entry)) (now (table .entry)))
+        (report r) (buffers (now (memory .entry)) (now (bodies .entry)) (now (table .exit))) ⌝ }
+    ensures means { λ r. ⌜ Shows createMeans budget (buffers (now (memory .entry)) (now (bodies .entry)) (now (table .entry)))
+        (report r) (buffers (now (memory .entry)) (now (bodies .entry)) (now (table .exit))) ⌝ }
 {
     let no = create_check(memory.len(), bodies.len(), table);
     if no != 0 {

@@ -182,31 +182,33 @@ module _ (e : ℕ) (t : List ℕ) where
         (λ y. y ∙ sym (parent-missing i l v y))))
 
 -- ---- the pass over the bodies
-pub copy-word : (e : ℕ) (t : List ℕ) (i : ℕ) → ownsBody (word1 e t i) ≡ true → IsCopy e t i
-copy-word e t i h =
-    let s = and-split (not (eqb (word1 e t i) 0)) (eqb (viaOf (word1 e t i)) 0) h in
+
+-- an entry that has a body is in use and a copy
+pub owns-facts : (w : ℕ) → ownsBody w ≡ true → (w ≡ 0 → ⊥) × (viaOf w ≡ 0)
+owns-facts w h =
+    let s = and-split (not (eqb w 0)) (eqb (viaOf w) 0) h in
     (eqb-false _ _ (not-true _ (s .0)), eqb-true _ _ (s .1))
 
-pub is-copy-word : (e : ℕ) (t : List ℕ) (i : ℕ) → IsCopy e t i → ownsBody (word1 e t i) ≡ true
-is-copy-word e t i u = rw (ne-eqb _ _ (u .0), eq-eqb _ _ (u .1))
+pub owns-make : (w : ℕ) → (w ≡ 0 → ⊥) → viaOf w ≡ 0 → ownsBody w ≡ true
+owns-make w u v = rw (ne-eqb _ _ u, eq-eqb _ _ v)
 
 module _ (e : ℕ) (t : List ℕ) (n : ℕ) (s : List ℕ) (m : Marks (IsCopy e t) (word2 e t) 1 n s) where
   pub bodies-more : (IsCopy e t n → word2 e t n < length s) → Marks (IsCopy e t) (word2 e t) 1 (n + 1) (markBody (word1 e t n) (word2 e t n) s)
   unfolding markBody
   bodies-more fits =
       by-bool (ownsBody (word1 e t n))
-      (λ b. let u = copy-word e t n b in rw b (marks-more (IsCopy e t) (word2 e t) 1 n s u (fits u) m))
-      (λ b. rw b (marks-skip (IsCopy e t) (word2 e t) 1 n s (λ u. true≢ (is-copy-word e t n u) b) m))
+      (λ b. rw b (marks-more (IsCopy e t) (word2 e t) 1 n s b (fits b) m))
+      (λ b. rw b (marks-skip (IsCopy e t) (word2 e t) 1 n s (λ u. true≢ u b) m))
 
   body-fresh : IsCopy e t n → bodyFits (word1 e t n) (word2 e t n) s ≡ true → getD s (word2 e t n) 0 ≡ 1 → ⊥
   unfolding bodyFits
-  body-fresh u h = eqb-false _ _ (not-true _ (rw (is-copy-word e t n u) at h))
+  body-fresh u h = eqb-false _ _ (not-true _ (rw u at h))
 
   body-taken : bodyFits (word1 e t n) (word2 e t n) s ≡ false → IsCopy e t n × (getD s (word2 e t n) 0 ≡ 1)
   unfolding bodyFits
   body-taken h =
       by-bool (ownsBody (word1 e t n))
-      (λ b. (copy-word e t n b, eqb-true _ _ (not-false _ (rw b at h))))
+      (λ b. (b, eqb-true _ _ (not-false _ (rw b at h))))
       (λ b. absurd (true≢ refl (rw b at h)))
 
   -- what is known of a body pass, one entry later: x says whether all bodies so far differ

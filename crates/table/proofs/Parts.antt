@@ -9,10 +9,11 @@ use lib.Dec.{leb}
 use Rattle.words.specs.Layout.{maxLive}
 use Rattle.words.specs.Scan.{all}
 use Rattle.words.proofs.Scan.{all-at, all-make, and-split, is-false, true≢}
-use Rattle.table.specs.Entry.{live, word2}
+use Rattle.table.specs.Entry.{word1, live, word2}
 use Rattle.table.specs.Rule.{headOk, entryOk, parentOk, apart, ruleOk}
 use Rattle.table.specs.Marks.{Distinct, CellsOk, ViasMarkable, ViaInner, IsCopy}
 use Rattle.table.proofs.Rule.{Rule, ok-facts, ok-all, ok-not, parts, entry-used, apart-make, via-inner}
+use Rattle.table.proofs.Marks.{owns-facts, owns-make}
 
 module _ (m e b : ℕ) (t : List ℕ) where
   -- ---- a part that fails
@@ -31,7 +32,10 @@ module _ (m e b : ℕ) (t : List ℕ) where
   no-cells h = is-false (ruleOk m e b t) (λ p. h (rule-cells p))
 
   pub rule-bodies : Rule m e b t → Distinct (IsCopy e t) (word2 e t) e
-  rule-bodies ok i l j k ui uj q = ok .apart-from i l j k (ui .0) (uj .0) .bodies (uj .1) (ui .1) q
+  rule-bodies ok i l j k ui uj q =
+      let x = owns-facts (word1 e t i) ui in
+      let y = owns-facts (word1 e t j) uj in
+      ok .apart-from i l j k (x .0) (y .0) .bodies (y .1) (x .1) q
 
   pub no-single : (Distinct (IsCopy e t) (word2 e t) e → ⊥) → ruleOk m e b t ≡ false
   no-single h = ok-not m e b t (λ ok. h (rule-bodies ok))
@@ -59,7 +63,7 @@ module _ (m e b : ℕ) (t : List ℕ) where
         let u = entry-used m e b t i (all-at e (entryOk m e b t) entries i l) ui in
         record {
           cells = λ p q. ok .once i l j k (u .low) p q;
-          bodies = λ p q r. single i l j k (ui, q) (uj, p) r;
+          bodies = λ p q r. single i l j k (owns-make _ ui q) (owns-make _ uj p) r;
         })))
 
   -- the last pass decides

@@ -15,7 +15,7 @@ use Rattle.table.specs.Entry.{live, word1, word2, depthOf, viaOf, unused
 use Rattle.table.specs.Rule.{headOk, kindOk, entryOk, parentOk, ruleOk}
 use Rattle.table.specs.Marks.{Blank, has, cellIn, markAt, markCell, IsCopy, markBody, bodyFits, placed, FreeRun, NoVias, Passed, AllMarked}
 use Rattle.table.proofs.Digits.{has-none}
-use Rattle.table.proofs.Marks.{split, marks-none, once-none, once-not, once-more, marked-more, distinct-none, bodies-more, single-more}
+use Rattle.table.proofs.Marks.{owns-facts, split, marks-none, once-none, once-not, once-more, marked-more, distinct-none, bodies-more, single-more}
 use Rattle.table.proofs.Rule.{entry-least, outer-make}
 use Rattle.table.proofs.Parts.{no-entries, no-cells, no-single, all-parts}
 
@@ -53,13 +53,13 @@ module _ (m e b : ℕ) (t : List ℕ) where
         record {
           right = λ i l. by-le n i (λ far. free-right i (free i far l)) (λ near. p .right i near);
           once = λ i l j s deep. by-le n i (λ far. absurd (omega (arith, free i far l .0, deep))) (λ near. p .once i near j s deep);
-          single = λ i l j s u. by-le n i (λ far. absurd (u .0 (free i far l .0))) (λ near. p .single i near j s u);
+          single = λ i l j s u. by-le n i (λ far. absurd (owns-facts _ u .0 (free i far l .0))) (λ near. p .single i near j s u);
           cells = record {
             clear = λ d c deep h j l q. by-le n j (λ far. absurd (omega (arith, free j far l .0, q, deep))) (λ near. p .cells .clear d c deep h j near q);
             found = λ d c h. let f = p .cells .found d c h in (f .0, omega (arith, f .1), f .2, f .3);
           };
           copies = record {
-            clear = λ c h j l u. by-le n j (λ far. absurd (u .0 (free j far l .0))) (λ near. p .copies .clear c h j near u);
+            clear = λ c h j l u. by-le n j (λ far. absurd (owns-facts _ u .0 (free j far l .0))) (λ near. p .copies .clear c h j near u);
             found = λ c h. let f = p .copies .found c h in (f .0, omega (arith, f .1), f .2, f .3);
           };
         }

@@ -3,7 +3,7 @@
 use Prim.Native.Nat.{ℕ, suc, _+_, _-_, _*_, _/_, _%_}
 use mathlib.Core.Bool.{Bool, not, _&&_}
 use mathlib.Core.List.{List}
-use lib.ListN.{getD, set}
+use lib.ListN.{getD}
 use lib.Dec.{ltb, leb, eqb}
 use Rattle.words.specs.Layout.{liveAt, nextAt, handleAt, firstAt, secondAt}
 use Rattle.words.specs.Scan.{first}
@@ -129,7 +129,3 @@ writesIn e t d c = holdsIn e t d c && eqb (writableOf (word1 e t (findIn e t d c
 -- does its parent, if it has one, hold the cell?
 abbrev pub parentHas : ℕ → List ℕ → ℕ → ℕ → Bool
 parentHas e t d c = hasParent d && holdsIn e t (parent d) c
-
--- the table with the two words of entry i replaced
-unfoldable pub setEntry : ℕ → List ℕ → ℕ → ℕ → ℕ → List ℕ
-setEntry e t i w v = set (set t (firstAt e i) w) (secondAt e i) v

@@ -81,7 +81,7 @@ ViaInner e t = (i : ℕ) → i < e → (viaOf (word1 e t i) ≡ 0 → ⊥) → 2
 -- ---- the copies, by body: the mark of a body in use is 1
 
 abbrev pub IsCopy : ℕ → List ℕ → ℕ → Type 0
-IsCopy e t i = (word1 e t i ≡ 0 → ⊥) × (viaOf (word1 e t i) ≡ 0)
+IsCopy e t i = ownsBody (word1 e t i) ≡ true
 
 -- the marks after an entry with words w and v
 unfoldable pub markBody : ℕ → ℕ → List ℕ → List ℕ

@@ -40,7 +40,7 @@ use words::wide;
 use words::write_pair;
 ghost use mathlib.Core.Path.{_≡_};
 ghost use mathlib.Core.Bool.{true, false, not};
-ghost use Prim.Native.Nat.{ℕ, _+_, _-_, _*_, _<_, _≤_, min};
+ghost use Prim.Native.Nat.{ℕ, _+_, _*_, _<_, _≤_, min};
 ghost use lib.ListN.{length, getD, take};
 ghost use Rattle.words.specs.Layout.{pairsAt, tableWords, maxSlots, maxBodies, maxCells, maxLive, handleAt};
 ghost use Rattle.words.specs.Scan.{all};
@@ -50,7 +50,8 @@ ghost use Rattle.table.specs.Changes.{put, entryStores};
 ghost use Rattle.table.specs.Entry.{live, word1, word2, viaOf, depthOf, cellOf, parent};
 ghost use Rattle.table.specs.Checks.{lengthsOk, headerOk};
 ghost use Rattle.table.specs.Rule.{handleOk, headOk, kindOk, parentOk, pairsOk, ruleOk, tableOk};
-ghost use Rattle.table.specs.Marks.{markOf, has, withDepth, markAt, markCell, Marked, ViasMarkable, ViaInner, parentTold, placed, markBody, bodyFits, zeros, Blank, FreeRun, NoVias, Passed, AllMarked};
+ghost use Rattle.table.specs.Marks.{markOf, has, withDepth, markAt, markCell, Marked, ViasMarkable, ViaInner, parentTold, placed, markBody, bodyFits};
+ghost use Rattle.table.specs.Marks.{zeros, Blank, FreeRun, NoVias, Passed, AllMarked};
 
 // So many cells and entry slots count as few: what a call needs for them is cleared in no time.
 pub const FEW_CELLS: usize = 1024;
@@ -257,7 +258,8 @@ pub fn few_marks() -> [u8; 1024]
 // has? Marks the body.
 fn mark_body(used: &mut [u8], word: u32, second: u32, bodies: u32) -> bool
     requires { ⌜ (word ≡ 0 → ⊥) × (bodies ≤ length (now used)) ⌝ }
-    ensures right { λ r. ⌜ (r ≡ true → (kindOk bodies word second ≡ true) × (bodyFits word second (now (used .entry)) ≡ true) × (now (used .exit) ≡ markBody word second (now (used .entry)))) ⌝ }
+    ensures right { λ r. ⌜ (r ≡ true → (kindOk bodies word second ≡ true) × (bodyFits word second (now (used .entry)) ≡ true)
+        × (now (used .exit) ≡ markBody word second (now (used .entry)))) ⌝ }
     ensures wrong { λ r. ⌜ (r ≡ false → kindOk bodies word second ≡ true → bodyFits word second (now (used .entry)) ≡ false) ⌝ }
 {
     if is_via(word) {
@@ -331,7 +333,8 @@ fn pass_entry(
     seen: &mut [u8],
     used: &mut [u8],
 ) -> bool
-    requires { ⌜ (i < slots) × (slots ≤ maxSlots) × (pairsAt slots ≤ length (now table)) × (live (now table) ≤ maxLive) × (cells ≤ maxCells) × (cells ≤ length (now seen)) × (bodies ≤ length (now used)) ⌝ }
+    requires { ⌜ (i < slots) × (slots ≤ maxSlots) × (pairsAt slots ≤ length (now table)) × (live (now table) ≤ maxLive)
+        × (cells ≤ maxCells) × (cells ≤ length (now seen)) × (bodies ≤ length (now used)) ⌝ }
     requires { ⌜ Passed cells slots bodies (now table) i (now seen) (now used) ⌝ }
     ensures right { λ r. ⌜ (r ≡ true → Passed cells slots bodies (now (table .entry)) (i + 1) (now (seen .exit)) (now (used .exit))) ⌝ }
     ensures wrong { λ r. ⌜ (r ≡ false → ruleOk cells slots bodies (now (table .entry)) ≡ false) ⌝ }
@@ -365,9 +368,11 @@ fn pass_entries(
     seen: &mut [u8],
     used: &mut [u8],
 ) -> Pass
-    requires { ⌜ (slots ≤ maxSlots) × (pairsAt slots ≤ length (now table)) × (live (now table) ≤ maxLive) × (cells ≤ maxCells) × (cells ≤ length (now seen)) × (bodies ≤ length (now used)) ⌝ }
+    requires { ⌜ (slots ≤ maxSlots) × (pairsAt slots ≤ length (now table)) × (live (now table) ≤ maxLive)
+        × (cells ≤ maxCells) × (cells ≤ length (now seen)) × (bodies ≤ length (now used)) ⌝ }
     requires { ⌜ Blank (now seen) × Blank (now used) ⌝ }
-    ensures right { λ r. ⌜ (r .right ≡ true → Passed cells slots bodies (now (table .entry)) slots (now (seen .exit)) (now (used .exit)) × NoVias slots (now (table .entry)) slots (r .vias)) ⌝ }
+    ensures right { λ r. ⌜ (r .right ≡ true → Passed cells slots bodies (now (table .entry)) slots (now (seen .exit)) (now (used .exit))
+        × NoVias slots (now (table .entry)) slots (r .vias)) ⌝ }
     ensures wrong { λ r. ⌜ (r .right ≡ false → ruleOk cells slots bodies (now (table .entry)) ≡ false) ⌝ }
 {
     let mut vias: usize = 0;
@@ -495,7 +500,8 @@ fn pending_ok(
     seen: &mut [u8],
     used: &mut [u8],
 ) -> bool
-    requires { ⌜ (slots ≤ maxSlots) × (length (now table) ≡ tableWords slots) × (bodies ≤ maxBodies) × (pairsOk slots (now table) ≡ true) × (min cells maxCells ≤ length (now seen)) × (bodies ≤ length (now used)) ⌝ }
+    requires { ⌜ (slots ≤ maxSlots) × (length (now table) ≡ tableWords slots) × (bodies ≤ maxBodies)
+        × (pairsOk slots (now table) ≡ true) × (min cells maxCells ≤ length (now seen)) × (bodies ≤ length (now used)) ⌝ }
     requires { ⌜ Blank (now seen) × Blank (now used) ⌝ }
     ensures { λ r. ⌜ r ≡ ruleOk cells slots bodies (effective (pairsAt slots) (now (table .entry))) ⌝ }
 {

@@ -80,7 +80,8 @@ fn quarter_of(src: &[u8], at: usize) -> [u8; 16]
 // `at + 16`.
 fn put_quarter(quarter: &[u8; 16], dst: &mut [u8], at: usize)
     requires { ⌜ (at + 16 ≤ cellSize) × (length (now dst) ≡ cellSize) ⌝ }
-    ensures { λ _. ⌜ ((s d : List ℕ) → ((j : ℕ) → j < 16 → getD (now (quarter .entry)) j 0 ≡ getD s (at + j) 0) → Copied s d at (now (dst .entry)) → Copied s d (at + 16) (now (dst .exit))) ⌝ }
+    ensures { λ _. ⌜ ((s d : List ℕ) → ((j : ℕ) → j < 16 → getD (now (quarter .entry)) j 0 ≡ getD s (at + j) 0)
+        → Copied s d at (now (dst .entry)) → Copied s d (at + 16) (now (dst .exit))) ⌝ }
 {
     let mut j: usize = 0;
     while j < 16 {

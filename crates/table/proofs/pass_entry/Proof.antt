@@ -9,6 +9,7 @@ use Rattle.table.specs.Entry.{word1, word2, depthOf}
 use Rattle.table.specs.Marks.{has, markAt}
 use Rattle.table.specs.Rule.{kindOk}
 use Rattle.table.proofs.Rule.{entry-used}
+use Rattle.table.proofs.Marks.{owns-facts}
 use Rattle.table.proofs.Passing.{placed-facts, free-wrong, passed-free, passed-more, cell-taken, body-taken, entry-parts, entry-wrong}
 use borrow.Author.Needs.{needs}
 use Rattle.table.proofs.pass_entry.Statement.{statement}
@@ -75,7 +76,7 @@ returns-4 c = let a = c .before .before .before .before .before .before .before 
           let ok = parts ∙ and-join _ _ on (told .0) in
           let u = entry-used (a .cells) (a .slots) (a .bodies) (a .table .now) (a .i) ok used-word in
           rw (c .before .before .before .before .before .before .before .mark-cell .ensures .1 fits, c .before .before .before .before .before .before .before .before .before .before .before .before .before .before .first-word .ensures, told .2)
-          (passed-more (a .cells) (a .slots) (a .bodies) (a .table .now) (a .i) (a .seen .now) (a .used .now) (c .before .before .before .before .before .before .before .before .before .before .before .before .before .before .before .before .before .before .pre .1) (c .before .before .before .before .before .before .before .before .before .before .before .before .before .before .before .before .before .before .pre .0 .0) ok free (omega (arith, u .cell)) (told .1) (λ copy. omega (arith, u .copy (copy .1))))),
+          (passed-more (a .cells) (a .slots) (a .bodies) (a .table .now) (a .i) (a .seen .now) (a .used .now) (c .before .before .before .before .before .before .before .before .before .before .before .before .before .before .before .before .before .before .pre .1) (c .before .before .before .before .before .before .before .before .before .before .before .before .before .before .before .before .before .before .pre .0 .0) ok free (omega (arith, u .cell)) (told .1) (λ copy. omega (arith, u .copy (owns-facts _ copy .1))))),
       (λ r.
           by-bool (kindOk (a .bodies) (word1 (a .slots) (a .table .now) (a .i)) (word2 (a .slots) (a .table .now) (a .i)))
           (λ k. body-taken (a .cells) (a .slots) (a .bodies) (a .table .now) (a .i) (a .seen .now) (a .used .now) (c .before .before .before .before .before .before .before .before .before .before .before .before .before .before .before .before .before .before .pre .1) (c .before .before .before .before .before .before .before .before .before .before .before .before .before .before .before .before .before .before .pre .0 .0) (rw (c .before .before .before .before .before .before .before .before .before .before .before .before .before .before .first-word .ensures, c .before .before .before .before .before .before .before .before .before .before .before .before .before .second-word .ensures) at (c .before .before .mark-body .ensures .1 r (rw (c .before .before .before .before .before .before .before .before .before .before .before .before .before .before .first-word .ensures, c .before .before .before .before .before .before .before .before .before .before .before .before .before .second-word .ensures) k))))
