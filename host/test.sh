@@ -50,6 +50,17 @@ header() {
     echo "header: every function answers as the header says, from C and from C++"
 }
 
+# A function whose frame is larger than 32 KiB touches its pages one after another, with a register that it takes for free. The compiler may do that behind
+# a test, and did so once while a value stood in the register. So every such frame has to be made where its function begins, before any jump.
+frames() {
+    command -v objdump >/dev/null || { echo "frames: not run, since objdump is not on the path"; return 0; }
+    objdump -d --no-show-raw-insn "$lib/libdomain_store.a" | awk '
+        /^[0-9a-f]+ <.*>:$/ { name = $2; jumped = 0; next }
+        $2 == "mov" && $3 == "%rsp,%r11" { made++; if (jumped) { late++; print "frames: made behind a jump in " name } }
+        $2 ~ /^(j|call|ret)/ { jumped = 1 }
+        END { printf "frames: %d large frames, %d of them made behind a jump\n", made, late; exit !(made > 0 && late == 0) }'
+}
+
 suite() { # name command..
     local name=$1
     shift
@@ -60,6 +71,7 @@ suite() { # name command..
 }
 
 suite header header
+suite frames frames
 suite store cargo test --offline -p domain_store
 suite stack cargo test --offline -p domain_lend
 suite model cargo test --offline -p domain_model
