@@ -26,7 +26,7 @@ use Rattle.model.specs.Holdings.{kindNumbered, labelNumbered, newBodies, newlyH
 use Rattle.store.specs.Outcome.{Buffers, buffers, changePlan, outcome, leaves, Call, perform, unless}
 use Rattle.store.specs.Checks.{storeCheck}
 use Rattle.store.specs.State.{stateIn, stateOf}
-use Rattle.store.specs.Means.{seenOf, orRefused, callMeans, roomOf, leftPending, pendingAfter, afterPending, Reopens}
+use Rattle.store.specs.Means.{visibleOf, orRefused, callMeans, roomOf, leftPending, pendingAfter, afterPending, Reopens}
 use Rattle.store.proofs.Checks.{orElse-go, orElse-stop}
 use Rattle.store.proofs.Outcome.{refuses}
 use Rattle.store.proofs.Means.{by-check, store-standing}
@@ -118,7 +118,7 @@ module _ (memory bodies t : List ℕ) (base n k l : ℕ) (r : Ready memory bodie
       ≡ 2 * (newlyHeld base n (stateOf (buffers memory bodies t)) + relabelled base n (labelNumbered l) (stateOf (buffers memory bodies t)))
   with-words = words-many memory bodies t base n k l r choice ∙ ap (λ (s : State). 2 * (newlyHeld base n s + relabelled base n (labelNumbered l) s)) (sym (raw-state memory bodies t (r .store)))
 
-  pub with-seen : (budget : ℕ) → seenOf (outcome (perform (changePlan (pairsAt (slotsOf (length t))) bytes words) 0) budget (buffers memory bodies t))
+  pub with-seen : (budget : ℕ) → visibleOf (outcome (perform (changePlan (pairsAt (slotsOf (length t))) bytes words) 0) budget (buffers memory bodies t))
       ≡ viewed (change (64 * newBodies (kindNumbered k) (newlyHeld base n (stateOf (buffers memory bodies t)))) (2 * (newlyHeld base n (stateOf (buffers memory bodies t)) + relabelled base n (labelNumbered l) (stateOf (buffers memory bodies t)))) 0
       (addTo memory base n (kindNumbered k) (labelNumbered l) (stateOf (buffers memory bodies t)))) budget (stateOf (buffers memory bodies t)) memory
   with-seen budget =
@@ -212,7 +212,7 @@ module _ (h base n k l : ℕ) (b : Buffers) (slot body : ℕ → ℕ) (may : May
 
   abbrev goal : (words-say state-says budget : ℕ) → Type 0
   goal q s budget =
-      seenOf (outcome (unless q plan-with) budget b)
+      visibleOf (outcome (unless q plan-with) budget b)
       ≡ viewed (orRefuse s (change (64 * newBodies (kindNumbered k) (newlyHeld base n (stateOf b))) (2 * (newlyHeld base n (stateOf b) + relabelled base n (labelNumbered l) (stateOf b))) 0
       (addTo (b .memory) base n (kindNumbered k) (labelNumbered l) (stateOf b)))) budget (stateOf b) (b .memory)
 
@@ -233,13 +233,13 @@ module _ (h base n k l : ℕ) (b : Buffers) (slot body : ℕ → ℕ) (may : May
       refl)
 
   -- what is seen of it, at every budget, is what add means
-  pub add-with-means : (budget : ℕ) → seenOf (outcome (addWith slot body h base n k l b) budget b) ≡ addMeans h base n k l budget b
+  pub add-with-means : (budget : ℕ) → visibleOf (outcome (addWith slot body h base n k l b) budget b) ≡ addMeans h base n k l budget b
   unfolding addWith callMeans
   add-with-means budget =
       by-check (λ q. storeCheck (length (b .memory)) (length (b .bodies)) (b .table) ≡ q
-      → seenOf (outcome (addWith slot body h base n k l b) budget b) ≡ orRefused q b (viewed (addEffect (roomOf b) (b .memory) h base n k l (stateOf b)) budget (stateOf b) (b .memory)))
+      → visibleOf (outcome (addWith slot body h base n k l b) budget b) ≡ orRefused q b (viewed (addEffect (roomOf b) (b .memory) h base n k l (stateOf b)) budget (stateOf b) (b .memory)))
       (storeCheck (length (b .memory)) (length (b .bodies)) (b .table))
-      (λ x q w. ap seenOf (sym (refuses (suc x) check _ budget b (sym (stops h base n k l b x w)) (λ z. omega arith))))
+      (λ x q w. ap visibleOf (sym (refuses (suc x) check _ budget b (sym (stops h base n k l b x w)) (λ z. omega arith))))
       (λ q w. passed budget w)
       refl
 
@@ -279,9 +279,9 @@ module _ (h base n k l : ℕ) (b : Buffers) where
       λ i. perform (changePlan (pairsAt (slotsOf (length (b .table)))) (bytes-chosen (b .memory) (b .bodies) (b .table) base n k l r i) (words-chosen (b .memory) (b .bodies) (b .table) base n k l r i)) 0)
       (λ q. q)
 
-pub add-means : (h base n k l budget : ℕ) (b : Buffers) → seenOf (outcome (addCall h base n k l b) budget b) ≡ addMeans h base n k l budget b
+pub add-means : (h base n k l budget : ℕ) (b : Buffers) → visibleOf (outcome (addCall h base n k l b) budget b) ≡ addMeans h base n k l budget b
 add-means h base n k l budget b =
-    ap (λ (c : Call). seenOf (outcome c budget b)) (add-is h base n k l b) ∙ add-with-means h base n k l b _ _ (add-takes h base n k l b) budget
+    ap (λ (c : Call). visibleOf (outcome c budget b)) (add-is h base n k l b) ∙ add-with-means h base n k l b _ _ (add-takes h base n k l b) budget
 
 -- the pairs that it leaves pending, at every budget
 pub add-pending : (h base n k l budget : ℕ) (b : Buffers) → storeCheck (length (b .memory)) (length (b .bodies)) (b .table) ≡ 0

@@ -22,7 +22,7 @@ use Rattle.search.proofs.From.{firstFrom, from-passed, from-left, from-le, from
 use Rattle.add.specs.Add.{isNew, addBytes, addWords, addChange}
 use Rattle.add.specs.declared.Cursors.{Cursors}
 use Rattle.add.specs.declared.Range.{Range}
-use Rattle.add.specs.Walking.{unheld, newIn, spare, NoneBelow, nextUnheld, copyBytes, bodyFrom, raiseChange, listChange, Stands}
+use Rattle.add.specs.Walking.{unheld, newIn, spare, NoneBelow, nextUnheld, copyBytes, bodyBeyond, raiseChange, listChange, Stands}
 
 -- ---- a cursor over the numbers that pass a test, r of which it has passed
 
@@ -63,7 +63,7 @@ module _ (used : List ℕ) (b from r : ℕ) (low : from ≤ b) (passed : count f
     body-passed = next-passed (spare used) b from r low passed left
 
 -- below the first body without a mark there is none
-pub start-none : (used : List ℕ) (b k start : ℕ) → start ≡ bodyFrom used b k 0 → k ≡ 0 → NoneBelow used b start
+pub start-none : (used : List ℕ) (b k start : ℕ) → start ≡ bodyBeyond used b k 0 → k ≡ 0 → NoneBelow used b start
 unfolding unmarkedFrom count
 start-none used b k start q z =
     let here : start ≡ firstFrom b 0 (spare used) = q ∙ rw (eq-eqb k 0 z) in
@@ -73,7 +73,7 @@ start-none used b k start q z =
     }
 
 -- the body of a new entry, or the number of bodies where none is left; 0 for via parent
-pub body-small : (used : List ℕ) (b k from : ℕ) → (k ≡ 0 → from ≤ b) → bodyFrom used b k from ≤ b
+pub body-small : (used : List ℕ) (b k from : ℕ) → (k ≡ 0 → from ≤ b) → bodyBeyond used b k from ≤ b
 unfolding unmarkedFrom
 body-small used b k from low =
     by-bool (eqb k 0)
@@ -190,7 +190,7 @@ module _ (held used : List ℕ) (e b : ℕ) (t : List ℕ) (r : Range) where
             }
 
       -- it is taken, with the body x
-      module _ (more : j < r .count) (x : ℕ) (body : x ≡ bodyFrom used b (r .kind) (c .from)) where
+      module _ (more : j < r .count) (x : ℕ) (body : x ≡ bodyBeyond used b (r .kind) (c .from)) where
         ranked : rank < newIn held (live t) r
         ranked = omega (arith, cell-left held (live t) (r .first) (r .count) (c .at) _ (s .cell) (s .cells) (omega arith))
 
@@ -200,7 +200,7 @@ module _ (held used : List ℕ) (e b : ℕ) (t : List ℕ) (r : Range) where
         cells-here : count (c .at) (unheld held (live t) (r .first)) ≡ rank
         cells-here = s .cells ∙ here
 
-        body-is : bodyFrom used b (r .kind) (c .from) ≡ cond (eqb (r .kind) 0) (nth b (spare used) rank) 0
+        body-is : bodyBeyond used b (r .kind) (c .from) ≡ cond (eqb (r .kind) 0) (nth b (spare used) rank) 0
         body-is =
             by-bool (eqb (r .kind) 0)
             (λ z. let q = eqb-true (r .kind) 0 z in rw (z, body-at used b (c .from) rank (s .body q) (s .bodies q ∙ here)))

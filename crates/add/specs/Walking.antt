@@ -99,8 +99,8 @@ abbrev pub rises : (d base n l w : ℕ) → Bool
 rises d base n l w = eqb (depthOf w) d && (inRange base n (cellOf w) && (eqb l 1 && eqb (writableOf w) 0))
 
 -- the body of a new entry, from a place among the bodies on; via parent has none
-abbrev pub bodyFrom : List ℕ → (b k from : ℕ) → ℕ
-bodyFrom used b k from = cond (eqb k 0) (unmarkedFrom b used from) 0
+abbrev pub bodyBeyond : List ℕ → (b k from : ℕ) → ℕ
+bodyBeyond used b k from = cond (eqb k 0) (unmarkedFrom b used from) 0
 
 -- an entry in use
 unfoldable pub raiseChange : (d base n l w v : ℕ) → Change

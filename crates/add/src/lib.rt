@@ -62,10 +62,10 @@ ghost use Rattle.changes.specs.Staged.{Stages, Journaled};
 ghost use Rattle.model.specs.Answer.{stepsOf};
 ghost use Rattle.store.specs.Checks.{storeCheck};
 ghost use Rattle.store.specs.Outcome.{buffers, report, Makes};
-ghost use Rattle.store.specs.Means.{seen, Shows};
+ghost use Rattle.store.specs.Means.{Shows};
 ghost use Rattle.add.specs.Add.{addCheck, addCall, addMeans};
 ghost use Rattle.add.specs.Walking.{lacks, newIn, spare, nextUnheld, rangeCheck, parentCheck, roomCheck, heldCheck, backed, alike, Source, copyBytes};
-ghost use Rattle.add.specs.Walking.{bodyFrom, rises, raiseChange, listChange, NoneBelow, StagesOn, Walkable, Walked, Stageable, Skips, Ready, bytesOf, wordsOf, callOf};
+ghost use Rattle.add.specs.Walking.{bodyBeyond, rises, raiseChange, listChange, NoneBelow, StagesOn, Walkable, Walked, Stageable, Skips, Ready, bytesOf, wordsOf, callOf};
 ghost use Rattle.add.specs.Walking.{rangeWords};
 
 // What an add names: `count` cells from `first` on, to be held as copies (kind 0) or via parent (kind 1), read-only (label 0) or read-write
@@ -401,7 +401,7 @@ fn next_new(held: &[u8], depth: u32, range: Range, at: usize) -> usize
 // The body of a new entry: the lowest without a mark from `from` on; via parent has none, which is 0.
 fn take_body(used: &[u8], bodies: usize, kind: u32, from: usize) -> usize
     requires { ⌜ (kind ≡ 0 → (bodies ≤ length (now used)) × (from ≤ bodies)) ⌝ }
-    ensures { λ r. ⌜ r ≡ bodyFrom (now (used .entry)) bodies kind from ⌝ }
+    ensures { λ r. ⌜ r ≡ bodyBeyond (now (used .entry)) bodies kind from ⌝ }
 {
     if kind != 0 {
         return 0;

@@ -32,7 +32,7 @@ use Rattle.model.specs.Holdings.{named, holdingAt, isHeld, heldWritable, copies
 use Rattle.store.specs.Outcome.{Buffers, buffers, inBodies, inTable, changePlan, outcome, leaves, Call, perform, unless}
 use Rattle.store.specs.Checks.{storeCheck}
 use Rattle.store.specs.State.{stateIn, stateOf}
-use Rattle.store.specs.Means.{seenOf, orRefused, callMeans, roomOf, leftPending, pendingAfter, afterPending, Reopens}
+use Rattle.store.specs.Means.{visibleOf, orRefused, callMeans, roomOf, leftPending, pendingAfter, afterPending, Reopens}
 use Rattle.store.proofs.Checks.{ask-yes, ask-stop, ask-rest, orElse-both, orElse-go, shape-facts, store-shape}
 use Rattle.store.proofs.Outcome.{refuses}
 use Rattle.store.proofs.Domains.{state-named, state-holding, domains-count, held-holds, held-writable}
@@ -130,7 +130,7 @@ module _ (memory bodies t : List ℕ) (yes : storeCheck (length memory) (length 
       copies-stored memory (advances e t) body m c bodies small goes (omega arith) (omega arith) (λ k l other q. takes-own m e b t ok body choice c k goes other q))
       ∙ ap (advance memory) (sym (raw-state memory bodies t yes))
 
-  pub with-seen : (k : ℕ) → seenOf (outcome (perform (changePlan (pairsAt (slotsOf (length t))) bytes words) 0) k (buffers memory bodies t))
+  pub with-seen : (k : ℕ) → visibleOf (outcome (perform (changePlan (pairsAt (slotsOf (length t))) bytes words) 0) k (buffers memory bodies t))
       ≡ viewed (change (64 * count (cellsOf (length memory)) (advances (slotsOf (length t)) t)) (2 * count (cellsOf (length memory)) (advances (slotsOf (length t)) t)) 0
       (advance memory (stateOf (buffers memory bodies t)))) k (stateOf (buffers memory bodies t)) memory
   with-seen k =
@@ -287,14 +287,14 @@ module _ (h : ℕ) (b : Buffers) (body : ℕ → ℕ) (may : MayTake h b body) w
 
   abbrev goal : (words-say state-says k : ℕ) → Type 0
   goal q r k =
-      seenOf (outcome (unless q plan-with) k b)
+      visibleOf (outcome (unless q plan-with) k b)
       ≡ viewed (orRefuse r (change (64 * writableCells (cellsOf (length (b .memory))) (stateOf b)) (2 * writableCells (cellsOf (length (b .memory))) (stateOf b)) 0 (advance (b .memory) (stateOf b)))) k (stateOf b) (b .memory)
 
   -- what is seen of it, at every budget, is what advance means
-  pub advance-with-means : (k : ℕ) → seenOf (outcome (advanceWith body h b) k b) ≡ advanceMeans h k b
+  pub advance-with-means : (k : ℕ) → visibleOf (outcome (advanceWith body h b) k b) ≡ advanceMeans h k b
   unfolding advanceWith callMeans advanceCheck outcome
   advance-with-means k =
-      by-check (λ q. seenOf (outcome (unless (orElse q (asked (length (b .memory)) (length (b .bodies)) (b .table) h)) plan-with) k b)
+      by-check (λ q. visibleOf (outcome (unless (orElse q (asked (length (b .memory)) (length (b .bodies)) (b .table) h)) plan-with) k b)
       ≡ orRefused q b (viewed (advanceEffect (roomOf b) (b .memory) h (stateOf b)) k (stateOf b) (b .memory)))
       (storeCheck (length (b .memory)) (length (b .bodies)) (b .table))
       (λ n e. refl)
@@ -339,8 +339,8 @@ advance-is h b = refl
 pub advance-takes : (h : ℕ) (b : Buffers) → MayTake h b (bodyFor (slotsOf (length (b .table))) (bodiesOf (length (b .bodies))) (b .table))
 advance-takes h b pass = lowest (b .memory) (b .bodies) (b .table) h pass
 
-pub advance-means : (h k : ℕ) (b : Buffers) → seenOf (outcome (advanceCall h b) k b) ≡ advanceMeans h k b
-advance-means h k b = ap (λ (c : Call). seenOf (outcome c k b)) (advance-is h b) ∙ advance-with-means h b _ (advance-takes h b) k
+pub advance-means : (h k : ℕ) (b : Buffers) → visibleOf (outcome (advanceCall h b) k b) ≡ advanceMeans h k b
+advance-means h k b = ap (λ (c : Call). visibleOf (outcome c k b)) (advance-is h b) ∙ advance-with-means h b _ (advance-takes h b) k
 
 pub advance-pending : (h k : ℕ) (b : Buffers) → storeCheck (length (b .memory)) (length (b .bodies)) (b .table) ≡ 0
     → pending ((outcome (advanceCall h b) k b) .buffers .table) ≡ afterPending (advanceEffect (roomOf b) (b .memory) h (stateOf b)) k

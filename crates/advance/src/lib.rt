@@ -54,7 +54,7 @@ ghost use Rattle.table.specs.Changes.{keep, put};
 ghost use Rattle.search.specs.Free.{copies};
 ghost use Rattle.changes.specs.Staged.{isSet, Restaged, Stages};
 ghost use Rattle.store.specs.Outcome.{buffers, report, Makes};
-ghost use Rattle.store.specs.Means.{seen, Shows};
+ghost use Rattle.store.specs.Means.{Shows};
 ghost use Rattle.advance.specs.Advance.{advances, advanceCheck, advanceCall, advanceMeans, turns};
 ghost use Rattle.advance.specs.Notes.{FreeFrom, entriesCheck, NoBits, markTurning, Turned, CellBits, Ready, performed, Ends, OwnBits, listSlot, Listed, InOrder, unmarked, changeTo};
 

@@ -47,7 +47,7 @@ module _ (e : ℕ) (ws : List Store) (t t₁ : List ℕ) (k p : ℕ) (small : e 
   room : pairsAt e + 2 * length ws ≤ length t
   room = omega arith
 
-  pub pairs-ready : (p ≤ 8202) × (2 * p ≤ k → (pairsAt e + 2 * p ≤ length t₁) × (pendingAt < pairsAt e) × ((j : ℕ) → j < p → getD t₁ (pairsAt e + 2 * j) 0 < pairsAt e))
+  pub pairs-ready : (p ≤ maxPairs maxSlots) × (2 * p ≤ k → (pairsAt e + 2 * p ≤ length t₁) × (pendingAt < pairsAt e) × ((j : ℕ) → j < p → getD t₁ (pairsAt e + 2 * j) 0 < pairsAt e))
   pairs-ready = (omega arith, journal-ready (pairsAt e) ws t t₁ k p number room written (pendingAt-below e) low)
 
   pub pairs-done : (r : ℕ) (t₂ : List ℕ) → r ≡ journalSteps p → t₂ ≡ stores (take (k - 2 * p) (finishPlan t₁ (pairsAt e) p)) t₁

@@ -34,7 +34,7 @@ use Rattle.store.specs.Means.{orRefused, callMeans}
 use Rattle.store.proofs.Checks.{ask-yes, orElse-both, orElse-go, store-shape, shape-facts}
 use Rattle.store.proofs.Checked.{checked-once, checked-fits}
 use Rattle.store.proofs.Outcome.{refuses}
-use Rattle.store.proofs.Means.{seenOf, by-check, store-standing, live-count}
+use Rattle.store.proofs.Means.{visibleOf, by-check, store-standing, live-count}
 use Rattle.store.proofs.Raw.{live-within, raw-rule, raw-state, raw-named, raw-next, raw-after, raw-long}
 use Rattle.store.proofs.Changes.{words-performed, change-seen}
 use Rattle.store.proofs.Pending.{pendingAfter, afterPending, performed-pending, call-pending}
@@ -118,7 +118,7 @@ module _ (memory bodies t : List ℕ) (yes : storeCheck (length memory) (length 
     room : length (commitWords t) ≤ maxPairs (slotsOf (length t))
     room = omega (arith, words-few t)
 
-    commit-seen : (k : ℕ) → seenOf (outcome (perform (changePlan (pairsAt (slotsOf (length t))) [] (commitWords t)) 0) k (buffers memory bodies t))
+    commit-seen : (k : ℕ) → visibleOf (outcome (perform (changePlan (pairsAt (slotsOf (length t))) [] (commitWords t)) 0) k (buffers memory bodies t))
         ≡ viewed (change 0 (2 + 2 * (innerCells (cellsOf (length memory)) (stateOf (buffers memory bodies t)) + raisedCells (cellsOf (length memory)) (stateOf (buffers memory bodies t)))) 0
         (commit (stateOf (buffers memory bodies t)))) k (stateOf (buffers memory bodies t)) memory
     commit-seen k =
@@ -143,13 +143,13 @@ asked-live t h q =
 
 abbrev goal : (words-say state-says k : ℕ) → Buffers → Type 0
 goal q r k b =
-    seenOf (outcome (unless q (perform (changePlan (pairsAt (slotsOf (length (b .table)))) [] (commitWords (b .table))) 0)) k b)
+    visibleOf (outcome (unless q (perform (changePlan (pairsAt (slotsOf (length (b .table)))) [] (commitWords (b .table))) 0)) k b)
     ≡ viewed (orRefuse r (change 0 (2 + 2 * (innerCells (cellsOf (length (b .memory))) (stateOf b) + raisedCells (cellsOf (length (b .memory))) (stateOf b))) 0 (commit (stateOf b)))) k (stateOf b) (b .memory)
 
-pub commit-means : (h k : ℕ) (b : Buffers) → seenOf (outcome (commitCall h b) k b) ≡ commitMeans h k b
+pub commit-means : (h k : ℕ) (b : Buffers) → visibleOf (outcome (commitCall h b) k b) ≡ commitMeans h k b
 unfolding commitCall callMeans commitCheck outcome
 commit-means h k b =
-    by-check (λ q. seenOf (outcome (unless (orElse q (asked (b .table) h)) (perform (changePlan (pairsAt (slotsOf (length (b .table)))) [] (commitWords (b .table))) 0)) k b)
+    by-check (λ q. visibleOf (outcome (unless (orElse q (asked (b .table) h)) (perform (changePlan (pairsAt (slotsOf (length (b .table)))) [] (commitWords (b .table))) 0)) k b)
     ≡ orRefused q b (viewed (commitEffect (cellsOf (length (b .memory))) h (stateOf b)) k (stateOf b) (b .memory)))
     (storeCheck (length (b .memory)) (length (b .bodies)) (b .table))
     (λ n e. refl)

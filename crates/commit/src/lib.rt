@@ -51,7 +51,7 @@ ghost use Rattle.table.specs.Entry.{depthOf, writableOf, parent, outward, writa
 ghost use Rattle.table.specs.Marks.{has, cellIn, Marked, CellsOnce, Blank};
 ghost use Rattle.changes.specs.Staged.{Turned, Stages, HeadOk, headStores, Journaled};
 ghost use Rattle.store.specs.Outcome.{buffers, report, Makes};
-ghost use Rattle.store.specs.Means.{seen, Shows};
+ghost use Rattle.store.specs.Means.{Shows};
 ghost use Rattle.commit.specs.Commit.{raises, commitCheck, commitChange, commitCall, commitMeans};
 ghost use Rattle.commit.specs.Decide.{concerned, moves, TellsBoth};
 ghost use Rattle.commit.specs.Parts.{headWords, endingWords};

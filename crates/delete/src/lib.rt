@@ -43,7 +43,7 @@ ghost use Rattle.table.specs.Marks.{markOf, has, Blank};
 ghost use Rattle.table.specs.Changes.{keep, entryChanges};
 ghost use Rattle.changes.specs.Staged.{Turned, Stages, Journaled};
 ghost use Rattle.store.specs.Outcome.{buffers, report, Makes};
-ghost use Rattle.store.specs.Means.{seen, Shows};
+ghost use Rattle.store.specs.Means.{Shows};
 ghost use Rattle.delete.specs.Delete.{deleteCheck, deleteChange, deleteCall, deleteMeans};
 ghost use Rattle.delete.specs.Parts.{inCells, viaWord};
 

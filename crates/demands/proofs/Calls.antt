@@ -18,8 +18,8 @@ use Rattle.model.specs.Session.{readChecks, effectOf}
 use Rattle.model.proofs.Views.{viewed-plain}
 use Rattle.store.specs.Outcome.{Buffers}
 use Rattle.store.specs.State.{stateOf}
-use Rattle.store.specs.Means.{seen, callMeans, listMeans, roomOf, orRefused, orListRefused}
-use Rattle.store.proofs.Means.{seenOf, by-check, store-standing}
+use Rattle.store.specs.Means.{visible, callMeans, listMeans, roomOf, orRefused, orListRefused}
+use Rattle.store.proofs.Means.{visibleOf, by-check, store-standing}
 use Rattle.store.proofs.Created.{create-means, create-pending}
 use Rattle.store.proofs.Checks.{store-idle}
 use Rattle.store.proofs.Pending.{afterPending, leftPending}
@@ -38,8 +38,8 @@ use Rattle.demands.proofs.Planned.{Planned, create-planned, add-planned
 use Rattle.demands.proofs.Questions.{Fine, fine-none, FineEffect, fine-refuse, create-fine, add-fine, delete-fine, advance-fine, commit-fine, restore-fine, look-fine}
 
 pub record Facts (c : Request) (b : Buffers) : Type 0 where
-  -- what is to be seen of it is what it means
-  pub shows : (k : ℕ) → seenOf (callOn c k b) ≡ callView c k b
+  -- what is to be visible of it is what it means
+  pub shows : (k : ℕ) → visibleOf (callOn c k b) ≡ callView c k b
   -- the pairs that it leaves pending
   pub pends : (k : ℕ) → asked b ≡ 0 → leftPending (callOn c k b) ≡ afterPending (effectOf (roomOf b) (b .memory) c (stateOf b)) k
   -- its stores
@@ -79,7 +79,7 @@ read-facts : (r : Reading) (b : Buffers) → readReport r b ≡ readAnswer (orEl
     → orRefuse (readChecks (cellsOf (length (b .memory))) r (stateOf b)) (change 0 0 0 (stateOf b)) ≡ refuse 5)
     → Facts (reads r) b
 read-facts r b e fine dead = record {
-  shows = λ k. ap (λ (x : Report). seen x b) e ∙ shown k;
+  shows = λ k. ap (λ (x : Report). visible x b) e ∙ shown k;
   pends = λ k good. store-idle (length (b .memory)) (length (b .bodies)) (b .table) good ∙ sym (idle-pending own k (stateOf b));
   planned = read-planned (readReport r b) (orElse (asked b) own) b e;
   fine = fine-refuse own 0 0 0 (stateOf b) fine;
@@ -89,9 +89,9 @@ read-facts r b e fine dead = record {
     own : ℕ
     own = readChecks (cellsOf (length (b .memory))) r (stateOf b)
 
-    shown : (k : ℕ) → seen (readAnswer (orElse (asked b) own)) b ≡ orRefused (asked b) b (viewedWith (orRefuse own (change 0 0 0 (stateOf b))) k (stateOf b) (b .memory) (b .memory))
+    shown : (k : ℕ) → visible (readAnswer (orElse (asked b) own)) b ≡ orRefused (asked b) b (viewedWith (orRefuse own (change 0 0 0 (stateOf b))) k (stateOf b) (b .memory) (b .memory))
     shown k =
-        by-check (λ q. asked b ≡ q → seen (readAnswer (orElse q own)) b ≡ orRefused q b (viewedWith (orRefuse own (change 0 0 0 (stateOf b))) k (stateOf b) (b .memory) (b .memory)))
+        by-check (λ q. asked b ≡ q → visible (readAnswer (orElse q own)) b ≡ orRefused q b (viewedWith (orRefuse own (change 0 0 0 (stateOf b))) k (stateOf b) (b .memory) (b .memory)))
         (asked b)
         (λ n e _. refl)
         (λ e _.

@@ -27,7 +27,7 @@ use Rattle.store.specs.Means.{listMeans, roomOf}
 use Rattle.store.proofs.Checks.{store-shape, shape-lengths}
 use Rattle.store.proofs.Outcome.{table-after}
 use Rattle.store.proofs.Making.{make-none}
-use Rattle.store.proofs.Means.{seenOf, long, make-means, open-means}
+use Rattle.store.proofs.Means.{visibleOf, long, make-means, open-means}
 use Rattle.store.proofs.Pending.{afterPending}
 use Rattle.store.proofs.Standing.{stands-for, only-state}
 use Rattle.add.proofs.Added.{add-takes, add-is, add-with-means, add-with-reopens}
@@ -78,7 +78,7 @@ cut c k b stop = go (effectOf (roomOf b) (b .memory) c (stateOf b)) refl
     left : Buffers
     left = (callOn c k b) .buffers
 
-    seen-is : seenOf (callOn c k b) ≡ viewOf (roomOf b) c k (stateOf b) (b .memory)
+    seen-is : visibleOf (callOn c k b) ≡ viewOf (roomOf b) c k (stateOf b) (b .memory)
     seen-is = call-means c k b good
 
     found : (x w h : ℕ) (new : State) → effectOf (roomOf b) (b .memory) c (stateOf b) ≡ change x w h new → leb (stepsOf x w) k ≡ false → (t : Bool)
@@ -110,7 +110,7 @@ cut c k b stop = go (effectOf (roomOf b) (b .memory) c (stateOf b)) refl
         ap (λ (v : View). v .report .status) seen-is ∙ ap (λ (f : Effect). (viewedWith f k (stateOf b) (b .memory) (memoryAt k c (stateOf b) (b .memory))) .report .status) e in
         absurd (subst Halted (sym stop ∙ r) tt)
     go (change x w h new) e =
-        let v : seenOf (callOn c k b) ≡ viewedWith (change x w h new) k (stateOf b) (b .memory) (memoryAt k c (stateOf b) (b .memory)) =
+        let v : visibleOf (callOn c k b) ≡ viewedWith (change x w h new) k (stateOf b) (b .memory) (memoryAt k c (stateOf b) (b .memory)) =
         seen-is ∙ ap (λ (f : Effect). viewedWith f k (stateOf b) (b .memory) (memoryAt k c (stateOf b) (b .memory))) e in
         by-bool (leb (stepsOf x w) k)
         (λ t.

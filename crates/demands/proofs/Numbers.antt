@@ -8,14 +8,13 @@ use Rattle.words.proofs.Scan.{by-bool}
 use Rattle.model.specs.State.{State}
 use Rattle.model.specs.Answer.{isRefused, Report, ended, View, stepsOf}
 use Rattle.model.specs.Calls.{Effect, refuse, change, viewedWith}
-use Rattle.model.specs.Restore.{viewedWith}
 use Rattle.model.specs.History.{Request}
 use Rattle.model.specs.Session.{Input, make, call, opening, write, effectOf, memoryAt, viewOf}
 use Rattle.model.proofs.Told.{Answered}
 use Rattle.store.specs.Outcome.{Buffers, Outcome}
 use Rattle.store.specs.State.{stateOf}
 use Rattle.store.specs.Means.{orRefused, makeMeans, openMeans, roomOf}
-use Rattle.store.proofs.Means.{seenOf, by-check, make-means, open-means}
+use Rattle.store.proofs.Means.{visibleOf, by-check, make-means, open-means}
 use Rattle.demands.specs.Session.{callOn, inputOn}
 use Rattle.demands.specs.Demands.{asked, isQuestion}
 use Rattle.demands.proofs.Questions.{Fine, make-fine, open-fine, store-fine, FineEffect}
@@ -41,7 +40,7 @@ by-number : (q : ℕ) (b : Buffers) (v : View) → Fine q → Numbered (v .repor
 by-number zero b v f g = g
 by-number (suc q) b v f g = λ e. f .number q refl
 
-shown-numbered : (o : Outcome) (v : View) → seenOf o ≡ v → Numbered (v .report) → Numbered (o .report)
+shown-numbered : (o : Outcome) (v : View) → visibleOf o ≡ v → Numbered (v .report) → Numbered (o .report)
 shown-numbered o v e f = subst Numbered (ap (λ (x : View). x .report) (sym e)) f
 
 call-numbered : (c : Request) (k : ℕ) (b : Buffers) → Numbered ((callOn c k b) .report)

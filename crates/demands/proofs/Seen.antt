@@ -9,12 +9,12 @@ use Rattle.model.specs.Session.{viewOf}
 use Rattle.store.specs.Outcome.{Buffers}
 use Rattle.store.specs.State.{stateOf}
 use Rattle.store.specs.Means.{roomOf, orRefused}
-use Rattle.store.proofs.Means.{seenOf, by-check}
+use Rattle.store.proofs.Means.{visibleOf, by-check}
 use Rattle.demands.specs.Session.{callOn}
 use Rattle.demands.specs.Demands.{asked}
 use Rattle.demands.proofs.Calls.{facts}
 
-pub call-means : (c : Request) (k : ℕ) (b : Buffers) → asked b ≡ 0 → seenOf (callOn c k b) ≡ viewOf (roomOf b) c k (stateOf b) (b .memory)
+pub call-means : (c : Request) (k : ℕ) (b : Buffers) → asked b ≡ 0 → visibleOf (callOn c k b) ≡ viewOf (roomOf b) c k (stateOf b) (b .memory)
 call-means c k b e = facts c b .shows k ∙ ap (λ (q : ℕ). orRefused q b (viewOf (roomOf b) c k (stateOf b) (b .memory))) e
 
 -- refused by one of questions 1 to 4

@@ -27,7 +27,7 @@ use Rattle.store.specs.Checks.{makeCheck}
 use Rattle.store.specs.State.{stateOf, standing, slots}
 use Rattle.store.specs.Calls.{makeCall, openCall}
 use Rattle.store.specs.Means.{makeMeans, openMeans, roomOf}
-use Rattle.store.proofs.Means.{seenOf, by-check, make-means, open-means, store-standing}
+use Rattle.store.proofs.Means.{visibleOf, by-check, make-means, open-means, store-standing}
 use Rattle.store.proofs.Standing.{is-standing, standing-opens, None}
 use Rattle.store.proofs.Pending.{afterPending, make-pending, open-pending-after}
 use Rattle.demands.specs.Session.{callOn, inputOn, wasStopped, isOpening}
@@ -133,7 +133,7 @@ call-moves cells c k b f = by-check (λ q. asked b ≡ q → Moves cells (call c
     made e =
         let s : State = stateOf b in
         let m : List ℕ = b .memory in
-        let seen-is : seenOf (callOn c k b) ≡ viewOf (roomOf b) c k (stateOf b) (b .memory) = call-means c k b e in
+        let seen-is : visibleOf (callOn c k b) ≡ viewOf (roomOf b) c k (stateOf b) (b .memory) = call-means c k b e in
         let d : Due = dueAfter (effectOf (roomOf b) (b .memory) c (stateOf b)) k in
         let start : standing b ≡ some (stateOf b) = store-standing (b .memory) (b .bodies) (b .table) e in
         let stands = viewed-stands (effectOf (roomOf b) (b .memory) c (stateOf b)) k (stateOf b) (b .memory) (memoryAt k c (stateOf b) (b .memory)) in
@@ -159,7 +159,7 @@ unfolding makeCheck
 make-yes f = rw (f .lengths)
 
 make-seen : (k : ℕ) (b : Buffers) → makeCheck (length (b .memory)) (length (b .bodies)) (b .table) ≡ 0
-    → seenOf (outcome (makeCall b) k b) ≡ makeView (slots b) k (standing b) (b .memory)
+    → visibleOf (outcome (makeCall b) k b) ≡ makeView (slots b) k (standing b) (b .memory)
 unfolding makeMeans
 make-seen k b e = make-means k b ∙ rw e
 
@@ -189,7 +189,7 @@ make-free n k f = by-bool (leb n k) (λ t. rw t) (λ t. let g = rw t at f in abs
 
 make-input : (cells k : ℕ) (b : Buffers) → Fits cells b nothingDue → Moves cells (make k) b nothingDue
 make-input cells k b f =
-    let seen-is : seenOf (outcome (makeCall b) k b) ≡ makeView (slots b) k (standing b) (b .memory) = make-seen k b (make-yes f) in
+    let seen-is : visibleOf (outcome (makeCall b) k b) ≡ makeView (slots b) k (standing b) (b .memory) = make-seen k b (make-yes f) in
     record {
       due = cond (leb (makeSteps (slots b)) k) nothingDue dropDue;
       move = recast refl (ap (λ (v : View). v .report) (sym seen-is))
@@ -200,7 +200,7 @@ make-input cells k b f =
 
 -- ---- open
 
-pub open-seen : (k : ℕ) (b : Buffers) → opens b ≡ 0 → seenOf (outcome (openCall b) k b) ≡ openView (pending (b .table)) k (stateOf b) (b .memory)
+pub open-seen : (k : ℕ) (b : Buffers) → opens b ≡ 0 → visibleOf (outcome (openCall b) k b) ≡ openView (pending (b .table)) k (stateOf b) (b .memory)
 unfolding openMeans
 open-seen k b e = open-means k b ∙ rw e
 
@@ -213,7 +213,7 @@ unfolding ended
 open-free p k f = by-bool (leb (openSteps p) k) (λ t. rw t) (λ t. let g = rw t at f in absurd (true≢false g))
 
 module _ (cells k : ℕ) (b : Buffers) (yes : opens b ≡ 0) where
-  seen-is : seenOf (outcome (openCall b) k b) ≡ openView (pending (b .table)) k (stateOf b) (b .memory)
+  seen-is : visibleOf (outcome (openCall b) k b) ≡ openView (pending (b .table)) k (stateOf b) (b .memory)
   seen-is = open-seen k b yes
 
   stands : standing b ≡ some (stateOf b)
@@ -227,7 +227,7 @@ module _ (cells k : ℕ) (b : Buffers) (yes : opens b ≡ 0) where
       → Move cells (world (some (stateOf b)) (b .memory) d) (opening k) ((openView 0 k (stateOf b) (b .memory)) .report) (world (some (stateOf b)) (b .memory) nothingDue)
       → Moves cells (opening k) b d
   open-idle d f idle move =
-      let same : seenOf (outcome (openCall b) k b) ≡ openView 0 k (stateOf b) (b .memory) = seen-is ∙ ap (λ (p : ℕ). openView p k (stateOf b) (b .memory)) idle in
+      let same : visibleOf (outcome (openCall b) k b) ≡ openView 0 k (stateOf b) (b .memory) = seen-is ∙ ap (λ (p : ℕ). openView p k (stateOf b) (b .memory)) idle in
       let left : pending ((outcome (openCall b) k b) .buffers .table) ≡ 0 = open-pending-after k b yes ∙ rw (idle, leb·zero k) in
       record {
         due = nothingDue;
@@ -240,7 +240,7 @@ module _ (cells k : ℕ) (b : Buffers) (yes : opens b ≡ 0) where
   open-finish : (p : ℕ) → Fits cells b finishDue → pending (b .table) ≡ suc p → Moves cells (opening k) b finishDue
   open-finish p f waits =
       let d : Due = cond (leb (openSteps (suc p)) k) nothingDue finishDue in
-      let same : seenOf (outcome (openCall b) k b) ≡ openView (suc p) k (stateOf b) (b .memory) = seen-is ∙ ap (λ (q : ℕ). openView q k (stateOf b) (b .memory)) waits in
+      let same : visibleOf (outcome (openCall b) k b) ≡ openView (suc p) k (stateOf b) (b .memory) = seen-is ∙ ap (λ (q : ℕ). openView q k (stateOf b) (b .memory)) waits in
       let left : pending ((outcome (openCall b) k b) .buffers .table) ≡ cond (leb (openSteps (suc p)) k) 0 (suc p) = open-pending-after k b yes ∙ rw waits in
       record {
         due = d;

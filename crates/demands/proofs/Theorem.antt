@@ -25,7 +25,7 @@ use Rattle.store.specs.Checks.{makeCheck}
 use Rattle.store.specs.State.{stateOf, standing, slots}
 use Rattle.store.specs.Calls.{makeCall, openCall, afterOpenings, openingAfter}
 use Rattle.store.specs.Means.{makeMeans, roomOf}
-use Rattle.store.proofs.Means.{seenOf, by-check, make-means, store-standing}
+use Rattle.store.proofs.Means.{visibleOf, by-check, make-means, store-standing}
 use Rattle.store.proofs.Standing.{is-standing}
 use Rattle.store.proofs.Pending.{make-pending}
 use Rattle.store.proofs.Reopened.{done-enough}
@@ -46,7 +46,7 @@ make-passed k b e =
     let r : (makeMeans k b) .report .status ≡ isRefused = rw t in
     absurd (subst Finished (sym e ∙ ap (λ (v : View). v .report .status) (make-means k b) ∙ r) tt))
 
-make-view : (k : ℕ) (b : Buffers) → MakeDone b k → seenOf (outcome (makeCall b) k b) ≡ makeView (slots b) k (standing b) (b .memory)
+make-view : (k : ℕ) (b : Buffers) → MakeDone b k → visibleOf (outcome (makeCall b) k b) ≡ makeView (slots b) k (standing b) (b .memory)
 unfolding makeMeans makeCheck
 make-view k b e = make-means k b ∙ rw (make-passed k b e)
 

@@ -24,7 +24,7 @@ use Rattle.store.specs.Outcome.{Buffers, Step, step, steps, Call, Outcome, outc
 use Rattle.store.specs.Checks.{openCheck, storeCheck}
 use Rattle.store.specs.State.{StandsFor, slots, effectiveTable, stateOf, standing}
 use Rattle.store.specs.Calls.{makeCall, openCall, openingAfter}
-use Rattle.store.specs.Means.{seenOf, orRefused, Reopens, makeMeans, openMeans, listMeans, roomOf}
+use Rattle.store.specs.Means.{visibleOf, orRefused, Reopens, makeMeans, openMeans, listMeans, roomOf}
 use Rattle.add.specs.Add.{addCall, addMeans}
 use Rattle.add.specs.Choice as adding
 use Rattle.advance.specs.Advance.{advanceCall, bodyFor, advanceMeans}
@@ -156,7 +156,7 @@ pub record Demand1 : Type 0 where
 
 -- ---- demand 2: "Each call answers and leaves the holdings as the containment domain API of 2012 says, with the choices of document 01"
 
--- What is to be seen of a call is `seenOf` it: its report, the state that opening finds, and memory. What should be: questions 1 to 4 are put to the
+-- What is to be seen of a call is `visibleOf` it: its report, the state that opening finds, and memory. What should be: questions 1 to 4 are put to the
 -- buffers, the others to the state.
 abbrev pub callView : Request → (budget : ℕ) → Buffers → View
 callView c k b = orRefused (asked b) b (viewOf (roomOf b) c k (stateOf b) (b .memory))
@@ -201,7 +201,7 @@ abbrev pub advanceBody : Buffers → (c : ℕ) → ℕ
 advanceBody b = bodyFor (slots b) (bodiesOf (length (b .bodies))) (b .table)
 
 pub record Means (call : Call) (means : (k : ℕ) → View) (b : Buffers) : Type 0 where
-  pub shown : (k : ℕ) → seenOf (outcome call k b) ≡ means k
+  pub shown : (k : ℕ) → visibleOf (outcome call k b) ≡ means k
   pub reopens : asked b ≡ 0 → Reopens call b
 
 -- "The buffers after budget k + 1 differ from those after k in at most one word or byte": they are the same, or one store more is made
@@ -237,9 +237,9 @@ abbrev pub MakeDone : Buffers → (k : ℕ) → Type 0
 MakeDone b k = (outcome (makeCall b) k b) .report .status ≡ isDone
 
 pub record Demand2 : Type 0 where
-  pub make-shows : (k : ℕ) (b : Buffers) → seenOf (outcome (makeCall b) k b) ≡ makeMeans k b
-  pub open-shows : (k : ℕ) (b : Buffers) → seenOf (outcome (openCall b) k b) ≡ openMeans k b
-  pub call-shows : (c : Request) (k : ℕ) (b : Buffers) → seenOf (callOn c k b) ≡ callView c k b
+  pub make-shows : (k : ℕ) (b : Buffers) → visibleOf (outcome (makeCall b) k b) ≡ makeMeans k b
+  pub open-shows : (k : ℕ) (b : Buffers) → visibleOf (outcome (openCall b) k b) ≡ openMeans k b
+  pub call-shows : (c : Request) (k : ℕ) (b : Buffers) → visibleOf (callOn c k b) ≡ callView c k b
   pub look-shows : (h c : ℕ) (b : Buffers) → shownAt (lookPlace h c b) b ≡ lookMeans h c b
   -- "a part of the lent bodies, or of the lent memory where nobody from that domain inwards holds the cell", inside that buffer
   pub look-tells : (h c : ℕ) (b : Buffers) → asked b ≡ 0 → isLive h (stateOf b) ≡ true → rangeOk (cellsOf (length (b .memory))) c 1 ≡ true

@@ -61,13 +61,13 @@ abbrev asked : (memory : ℕ) → List ℕ → (h c : ℕ) → ℕ
 asked memory t h c = ask (ltb 0 (depthNamed t h)) 5 (ask (rangeOk (cellsOf memory) c 1) 8 0)
 
 -- what passed questions tell
-pub record Passed (memory bodies : ℕ) (t : List ℕ) (h c : ℕ) : Type 0 where
+pub record Accepted (memory bodies : ℕ) (t : List ℕ) (h c : ℕ) : Type 0 where
   pub store : storeCheck memory bodies t ≡ 0
   pub live : 1 ≤ depthNamed t h
   pub cell : c < cellsOf memory
 
 module _ (memory bodies : ℕ) (t : List ℕ) (h c : ℕ) where
-  pub check-passed : lookCheck memory bodies t h c ≡ 0 → Passed memory bodies t h c
+  pub check-passed : lookCheck memory bodies t h c ≡ 0 → Accepted memory bodies t h c
   unfolding lookCheck
   check-passed q =
       let both = orElse-both (storeCheck memory bodies t) (asked memory t h c) q in
@@ -88,7 +88,7 @@ store-room memory bodies t pass =
 -- ---- the place that look finds
 
 -- in a table that passes the questions, the copy behind the first holder has an entry, and its body fits
-module _ (memory bodies : ℕ) (t : List ℕ) (h c : ℕ) (p : Passed memory bodies t h c) where
+module _ (memory bodies : ℕ) (t : List ℕ) (h c : ℕ) (p : Accepted memory bodies t h c) where
   found-slot : HasSource (slotsOf (length t)) t (depthNamed t h) c
   found-slot = from-slot (cellsOf memory) (slotsOf (length t)) (bodiesOf bodies) t (check-rule memory bodies t (p .store)) (depthNamed t h) c (p .live)
 
@@ -96,7 +96,7 @@ module _ (memory bodies : ℕ) (t : List ℕ) (h c : ℕ) (p : Passed memory bod
   found-body = from-fits (cellsOf memory) (slotsOf (length t)) (bodiesOf bodies) t (check-rule memory bodies t (p .store)) (depthNamed t h) c (p .live)
 
 -- what `find_place` asks, by the numbers that the code has
-pub place-requires : (memory bodies : ℕ) (t : List ℕ) (h c slots d : ℕ) → Passed memory bodies t h c → slots ≡ slotsOf (length t) → d ≡ depthNamed t h
+pub place-requires : (memory bodies : ℕ) (t : List ℕ) (h c slots d : ℕ) → Accepted memory bodies t h c → slots ≡ slotsOf (length t) → d ≡ depthNamed t h
     → ((slots ≤ maxSlots) × (pairsAt slots ≤ length t) × (live t ≤ maxLive)) × HasSource slots t d c
 place-requires memory bodies t h c slots d p q r =
     rw (q, r)
@@ -175,7 +175,7 @@ look-means h c b =
 
 -- the 64 bytes at a place lie in their buffer
 module _ (h c : ℕ) (b : Buffers) where
-  place-within : Passed (length (b .memory)) (length (b .bodies)) (b .table) h c → placeWithin (placeIn (slotsOf (length (b .table))) (b .table) (depthNamed (b .table) h) c) b
+  place-within : Accepted (length (b .memory)) (length (b .bodies)) (b .table) h c → placeWithin (placeIn (slotsOf (length (b .table))) (b .table) (depthNamed (b .table) h) c) b
   place-within p =
       let t : List ℕ = b .table in
       let f = shape-facts (length (b .memory)) (length (b .bodies)) (b .table) (store-shape (length (b .memory)) (length (b .bodies)) (b .table) (p .store)) in

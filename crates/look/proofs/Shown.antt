@@ -30,7 +30,7 @@ use Rattle.store.proofs.Outermost.{store-held}
 use Rattle.look.specs.Look.{lookCheck, lookPlace, placePart, placeWithin, lookMeans, placeByState}
 use Rattle.look.specs.declared.Place.{Place}
 use Rattle.look.specs.declared.Place.the-variants.{Memory, Bodies}
-use Rattle.look.proofs.Placing.{Passed, check-passed, place-memory, place-bodies, place-shown, look-refused, look-placed, look-means, look-within}
+use Rattle.look.proofs.Placing.{Accepted, check-passed, place-memory, place-bodies, place-shown, look-refused, look-placed, look-means, look-within}
 
 -- look's number, of its buffers
 abbrev pub checked : (h c : ℕ) → Buffers → ℕ
@@ -90,7 +90,7 @@ restored-cell d c s memory fits long =
         ∙ (λ i. getD (restoredCell d s memory (cell i)) (place i) 0)
 
 module _ (h c : ℕ) (b : Buffers) (pass : checked h c b ≡ 0) where
-  passed : Passed (length (b .memory)) (length (b .bodies)) (b .table) h c
+  passed : Accepted (length (b .memory)) (length (b .bodies)) (b .table) h c
   passed = check-passed (length (b .memory)) (length (b .bodies)) (b .table) h c pass
 
   part-is : lookMeans h c b .part ≡ restoredCell (named h (stateOf b)) (stateOf b) (b .memory) c

@@ -12,7 +12,7 @@ use Rattle.words.specs.Cells.{cellBytes, sameCell}
 use Rattle.words.proofs.Scan.{all-at}
 use Rattle.model.specs.State.{Label, readOnly, readWrite, Kind, copy, viaParent, Holding, Domain, State}
 use Rattle.model.specs.Holdings.{deeper, depthIn, named, holdingAt, isHeld, valueOr, onDepth, onInnermost, onCommit, holding, inRange, raised, added, givenValue, addTo, parentSame, advanced, merged}
-use Rattle.model.specs.History.{Kept, Tracked, inner, depthOf, namedBy, turned, atDepth, atInnermost, intoParent, entered, addTracked, deleteAround, renewed, advanceTracked, joined, commitTracked, writeLine, excludeAfter, excludeInside}
+use Rattle.model.specs.History.{Kept, Tracked, inner, depthAmong, namedAmong, turned, atDepth, atInnermost, intoParent, entered, addTracked, deleteAround, renewed, advanceTracked, joined, commitTracked, writeLine, excludeAfter, excludeInside}
 use Rattle.model.specs.Session.{SameCell, SameDomains, none-left, same}
 use Rattle.model.proofs.Ranges.{range-both}
 
@@ -22,7 +22,7 @@ deeper-inner : (d : ℕ) → deeper d ≡ inner d
 deeper-inner zero = refl
 deeper-inner (suc d) = refl
 
-pub agree-depth : {ds : List Domain} {qs : List Tracked} (h : ℕ) → SameDomains ds qs → depthIn h ds ≡ depthOf h qs
+pub agree-depth : {ds : List Domain} {qs : List Tracked} (h : ℕ) → SameDomains ds qs → depthIn h ds ≡ depthAmong h qs
 agree-depth h none-left = refl
 agree-depth h (same {d = d} {q = q} {ds = ds} {qs = qs} e f a) =
     ap (λ (n : ℕ). cond (eqb n h) 1 (deeper (depthIn h ds))) e
@@ -32,7 +32,7 @@ pub agree-length : {ds : List Domain} {qs : List Tracked} → SameDomains ds qs 
 agree-length none-left = refl
 agree-length (same e f a) = ap suc (agree-length a)
 
-pub agree-named : (h : ℕ) (s : State) (qs : List Tracked) → SameDomains (s .domains) qs → named h s ≡ namedBy h qs
+pub agree-named : (h : ℕ) (s : State) (qs : List Tracked) → SameDomains (s .domains) qs → named h s ≡ namedAmong h qs
 agree-named h s qs a =
     ap (λ (n : ℕ). cond (eqb h 0) n (depthIn h (s .domains))) (agree-length a) ∙ ap (λ (n : ℕ). cond (eqb h 0) (length qs) n) (agree-depth h a)
 

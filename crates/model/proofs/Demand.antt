@@ -20,7 +20,7 @@ use Rattle.model.specs.Answer.{isDone, isStopped, Report, done}
 use Rattle.model.specs.Calls.{change, fresh, makeSteps, makeState}
 use Rattle.model.specs.Holdings.{Room, depthIn, deeper, named}
 use Rattle.model.specs.Restore.{restoredMemory, restoreChecks}
-use Rattle.model.specs.History.{Request, changes, restore, reads, made, called, opened, Observation, observed, Tracked, History, withDomains, withWaiting, namedBy, begun, isIn, writeLine, line, excludeAfter, excludeInside, stopLine, finished, observe, trackedAt, countOf, mismatches, completed, completedWaiting, countEvent, counts, historyAfter}
+use Rattle.model.specs.History.{Request, changes, restore, reads, made, called, opened, Observation, observed, Tracked, History, withDomains, withWaiting, namedAmong, begun, isIn, writeLine, line, excludeAfter, excludeInside, stopLine, finished, observe, trackedAt, countOf, mismatches, completed, completedWaiting, countEvent, counts, historyAfter}
 use Rattle.model.specs.Session.{Input, call, shown, Due, nothingDue, dropDue, finishDue, World, world, memoryOf, readChecks, effectOf, memoryAfter, Mixed, Move, make-refused, make-done, make-stopped, call-refused, call-done, call-early, call-late, open-idle, open-drops, open-finishes, open-stopped, open-refused, written-to, Session, end, next, afterMake, AllZero, SameDomains, Agrees, atOpening}
 use Rattle.model.proofs.Agree.{agree-length, agree-named, agree-inside, agree-write}
 use Rattle.model.proofs.Effects.{passed}
@@ -194,7 +194,7 @@ tracked (suc i) (q ∷ qs) l = tracked i qs (omega arith)
 record Named (h : ℕ) (s : State) (qs : List Tracked) : Type 0 where
   pub domain : Tracked
   pub by-state : trackedAt (named h s) qs ≡ some domain
-  pub by-history : trackedAt (namedBy h qs) qs ≡ some domain
+  pub by-history : trackedAt (namedAmong h qs) qs ≡ some domain
 
 named-domain : (h : ℕ) (s : State) (qs : List Tracked) → restoreChecks h s ≡ 0 → SameDomains (s .domains) qs → Named h s qs
 named-domain h s qs q a =
@@ -242,10 +242,10 @@ restore-counted-late cells memory l s m m′ h k j i r o size t (call-late {new 
     let qs : List Tracked = (historyAfter begun l) .domains in
     let a : SameDomains (s .domains) qs = history-agrees cells memory l s m nothingDue size t .same-domains in
     let d : Named h s qs = named-domain h s qs (passed _ _ _ _ b u _ _ new e .yes-to-all) a in
-    let after : namedBy h (excludeInside (namedBy h qs) qs) ≡ namedBy h qs =
-    sym (agree-named h s (excludeInside (namedBy h qs) qs) (agree-inside (namedBy h qs) a)) ∙ agree-named h s qs a in
-    let there : trackedAt (namedBy h (excludeInside (namedBy h qs) qs)) (excludeInside (namedBy h qs) qs) ≡ some (d .domain) =
-    ap (λ (n : ℕ). trackedAt n (excludeInside (namedBy h qs) qs)) after ∙ still-named (namedBy h qs) qs ∙ d .by-history in (
+    let after : namedAmong h (excludeInside (namedAmong h qs) qs) ≡ namedAmong h qs =
+    sym (agree-named h s (excludeInside (namedAmong h qs) qs) (agree-inside (namedAmong h qs) a)) ∙ agree-named h s qs a in
+    let there : trackedAt (namedAmong h (excludeInside (namedAmong h qs) qs)) (excludeInside (namedAmong h qs) qs) ≡ some (d .domain) =
+    ap (λ (n : ℕ). trackedAt n (excludeInside (namedAmong h qs) qs)) after ∙ still-named (namedAmong h qs) qs ∙ d .by-history in (
       d .domain,
       d .by-state,
       λ g. ap (countOf m′) there ∙ ap (λ (b : Bool). cond b [] (mismatches m′ (d .domain) ∷ [])) g,

@@ -16,7 +16,7 @@ use Rattle.model.specs.Calls.{created, fresh}
 use Rattle.model.specs.Holdings.{Room, named, isLive, isInnermost, rangeOk, isVia, kindNumbered, labelNumbered, addTo, addChecks, parentHolds, parentSame, deleteFrom, parentCovers, advanceChecks}
 use Rattle.model.specs.Holdings.{advance as advanceState, commit as commitState}
 use Rattle.model.specs.Restore.{cellOfByte, restoredByte, restoredMemory, restored, restoreChecks}
-use Rattle.model.specs.History.{create, add, delete, advance, commit, Request, restore, changeLine, Tracked, History, withDomains, withWaiting, namedBy, atDepth, atInnermost, begun, addTracked, line, downTo, excludeInside, stopLine, trackedAt, countOf, completed}
+use Rattle.model.specs.History.{create, add, delete, advance, commit, Request, restore, changeLine, Tracked, History, withDomains, withWaiting, namedAmong, atDepth, atInnermost, begun, addTracked, line, downTo, excludeInside, stopLine, trackedAt, countOf, completed}
 use Rattle.model.specs.Session.{Mixed, next, AllZero, SameDomains, none-left, Agrees}
 use Rattle.model.proofs.Byte.{backAt}
 use Rattle.model.proofs.Agree.{agree-length, agree-named, agree-create, at-length, agree-add, agree-delete, agree-advance, agree-commit, agree-take, agree-inside}
@@ -72,10 +72,10 @@ pub add-sound : (room : Room) (s : State) (m : List ℕ) (n : History) (h first 
 add-sound room s m n h first c k l q z =
     let asked = add-asked (isLive h s) (isInnermost h s) (leb k 1 && leb l 1) (rangeOk (room .cells) first c)
     (not (isVia (kindNumbered k)) || parentHolds first c s) (not (isVia (kindNumbered k)) || parentSame m first c s) _ q in
-    let same-name : namedBy h (n .domains) ≡ length (n .domains) =
+    let same-name : namedAmong h (n .domains) ≡ length (n .domains) =
     sym (agree-named h s (n .domains) (z .agrees .same-domains)) ∙ eqb-true (named h s) (length (s .domains)) (asked .0)
     ∙ agree-length (z .agrees .same-domains) in
-    let inner : atDepth (namedBy h (n .domains)) (addTracked m first c (labelNumbered l)) (n .domains)
+    let inner : atDepth (namedAmong h (n .domains)) (addTracked m first c (labelNumbered l)) (n .domains)
     ≡ atInnermost (addTracked m first c (labelNumbered l)) (n .domains) =
     ap (λ (d : ℕ). atDepth d (addTracked m first c (labelNumbered l)) (n .domains)) same-name ∙ at-length _ (n .domains) in
     subst (λ (qs : List Tracked). Sound (addTo m first c (kindNumbered k) (labelNumbered l) s) m (withDomains qs n)) (sym inner)
@@ -94,9 +94,9 @@ delete-sound s m n h first c z =
     (record {
       agrees = record {
         same-next = z .agrees .same-next;
-        same-domains = agree-delete first c (namedBy h (n .domains)) (z .agrees .same-domains);
+        same-domains = agree-delete first c (namedAmong h (n .domains)) (z .agrees .same-domains);
       };
-      inv = λ x l. inv-delete x (getD m x 0) first c (namedBy h (n .domains)) (n .domains) (z .inv x l);
+      inv = λ x l. inv-delete x (getD m x 0) first c (namedAmong h (n .domains)) (n .domains) (z .inv x l);
     })
 
 pub advance-sound : (room : Room) (s : State) (m : List ℕ) (n : History) (h : ℕ) → advanceChecks room h s ≡ 0 → length m ≡ 64 * room .cells → Sound s m n
@@ -130,7 +130,7 @@ put-back s m n i z x l = restored-byte i x s m l ∙ rw (agree-bytes x (z .agree
 pub record Depth (h : ℕ) (s : State) (qs : List Tracked) : Type 0 where
   pub place : ℕ
   pub in-state : suc place ≡ named h s
-  pub in-history : suc place ≡ namedBy h qs
+  pub in-history : suc place ≡ namedAmong h qs
 
 pub depth : (h : ℕ) (s : State) (qs : List Tracked) → restoreChecks h s ≡ 0 → SameDomains (s .domains) qs → Depth h s qs
 depth h s qs q a =
@@ -171,7 +171,7 @@ module _ (s : State) (m : List ℕ) (n : History) (h : ℕ) (q : restoreChecks h
   restore-mixed now d =
       let p = at-depth in
       record {
-        agrees = record { same-next = z .agrees .same-next; same-domains = agree-inside (namedBy h (n .domains)) (z .agrees .same-domains) };
+        agrees = record { same-next = z .agrees .same-next; same-domains = agree-inside (namedAmong h (n .domains)) (z .agrees .same-domains) };
         inv = λ x l.
             let b : x < length m = subst (λ (k : ℕ). x < k) (d .same-length) l in
             subst (λ (k : ℕ). Inv x (getD now x 0) (stopAt k)) (p .in-history)

@@ -88,12 +88,12 @@ abbrev pub inner : ℕ → ℕ
 inner zero = zero
 inner (suc d) = suc (suc d)
 
-abbrev pub depthOf : ℕ → List Tracked → ℕ
-depthOf h [] = 0
-depthOf h (q ∷ qs) = cond (eqb (q .handle) h) 1 (inner (depthOf h qs))
+abbrev pub depthAmong : ℕ → List Tracked → ℕ
+depthAmong h [] = 0
+depthAmong h (q ∷ qs) = cond (eqb (q .handle) h) 1 (inner (depthAmong h qs))
 
-abbrev pub namedBy : ℕ → List Tracked → ℕ
-namedBy h qs = cond (eqb h 0) (length qs) (depthOf h qs)
+abbrev pub namedAmong : ℕ → List Tracked → ℕ
+namedAmong h qs = cond (eqb h 0) (length qs) (depthAmong h qs)
 
 abbrev pub mayWrite : Label → Bool
 mayWrite readOnly = false
@@ -150,7 +150,7 @@ abbrev pub addTracked : List ℕ → (first n : ℕ) → Label → Tracked → T
 addTracked memory first n l q = withCells (λ c. cond (inRange first n c) (entered l (cellBytes memory c) (q .cells c)) (q .cells c)) q
 
 abbrev pub addLine : List ℕ → (h first n label : ℕ) → List Tracked → List Tracked
-addLine memory h first n l qs = atDepth (namedBy h qs) (addTracked memory first n (labelNumbered l)) qs
+addLine memory h first n l qs = atDepth (namedAmong h qs) (addTracked memory first n (labelNumbered l)) qs
 
 -- ---- "Delete: the cells leave the named domain. Their bytes are spoilt for it and for all around it"
 
@@ -169,7 +169,7 @@ deleteAround first n (suc zero) (q ∷ qs) = unprotect (bytesOf first n) (delete
 deleteAround first n (suc (suc d)) (q ∷ qs) = unprotect (bytesOf first n) q ∷ deleteAround first n (suc d) qs
 
 abbrev pub deleteLine : (h first n : ℕ) → List Tracked → List Tracked
-deleteLine h first n qs = deleteAround first n (namedBy h qs) qs
+deleteLine h first n qs = deleteAround first n (namedAmong h qs) qs
 
 -- ---- "Advance: the innermost's read-write cells and its picture take memory's bytes"
 
@@ -211,7 +211,7 @@ downTo zero qs = qs
 downTo (suc d) qs = take (suc d) qs
 
 abbrev pub restoreLine : (h : ℕ) → List Tracked → List Tracked
-restoreLine h qs = downTo (namedBy h qs) qs
+restoreLine h qs = downTo (namedAmong h qs) qs
 
 -- ---- "Program write: each byte written is spoilt for every live domain that neither holds the byte's cell read-write nor has one inside it
 -- that does"
@@ -261,7 +261,7 @@ excludeInside (suc d) qs = excludeAfter (suc d) qs
 
 abbrev pub stopLine : Request → List Tracked → List Tracked
 stopLine (changes c) qs = qs
-stopLine (restore h) qs = excludeInside (namedBy h qs) qs
+stopLine (restore h) qs = excludeInside (namedAmong h qs) qs
 stopLine (reads r) qs = qs
 
 -- ---- "If the first opening done after it takes a step, the call's line above is carried out there": it waits through stopped openings, and the
@@ -324,7 +324,7 @@ countOf memory (some q) = cond (q .excluded) [] (mismatches memory q ∷ [])
 -- the count taken when a call is completed
 abbrev pub completed : Request → List ℕ → List Tracked → List ℕ
 completed (changes c) memory qs = []
-completed (restore h) memory qs = countOf memory (trackedAt (namedBy h qs) qs)
+completed (restore h) memory qs = countOf memory (trackedAt (namedAmong h qs) qs)
 completed (reads r) memory qs = []
 
 abbrev pub completedWaiting : Option Request → List ℕ → List Tracked → List ℕ

@@ -31,7 +31,7 @@ use Rattle.store.specs.Checks.{storeCheck}
 use Rattle.store.specs.State.{stateIn, stateOf, standing}
 use Rattle.store.specs.Means.{orRefused}
 use Rattle.store.proofs.Checks.{ask-yes, store-shape, shape-facts}
-use Rattle.store.proofs.Means.{seenOf, by-check, store-standing}
+use Rattle.store.proofs.Means.{visibleOf, by-check, store-standing}
 use Rattle.store.proofs.Changes.{change-standing}
 use Rattle.store.proofs.Raw.{raw-rule, raw-state, raw-named, raw-next, raw-after, raw-long}
 use Rattle.restore.specs.Restore.{restoreCheck, restoreBytes, restoreWords, restorePlan, restoreCall, restoreMeans}
@@ -143,7 +143,7 @@ module _ (memory bodies t : List ℕ) (yes : storeCheck (length memory) (length 
       ∙ after-bytes (k - length bytes)
       ∙ rw (later (length bytes) (2 * length ws) k)
 
-  restore-seen : (k : ℕ) → seenOf (outcome (perform (restorePlan first bytes ws) 0) k (buffers memory bodies t))
+  restore-seen : (k : ℕ) → visibleOf (outcome (perform (restorePlan first bytes ws) 0) k (buffers memory bodies t))
       ≡ viewedWith (change (64 * cellsPutBack m d (stateOf (buffers memory bodies t))) (model.restoreWords m d (stateOf (buffers memory bodies t))) 0 (restored d (stateOf (buffers memory bodies t))))
       k (stateOf (buffers memory bodies t)) memory (memoryAfterSteps k d (stateOf (buffers memory bodies t)) memory)
   unfolding outcome
@@ -162,16 +162,16 @@ asked-low t h q = ltb-true 0 (depthNamed t h) (ask-yes (ltb 0 (depthNamed t h)) 
 
 abbrev goal : (h words-say state-says k : ℕ) → Buffers → Type 0
 goal h q r k b =
-    seenOf (outcome (unless q (perform (restorePlan (pairsAt (slotsOf (length (b .table))))
+    visibleOf (outcome (unless q (perform (restorePlan (pairsAt (slotsOf (length (b .table))))
     (restoreBytes (cellsOf (length (b .memory))) (depthNamed (b .table) h) (b .bodies) (b .table)) (restoreWords (depthNamed (b .table) h) (b .table))) 0)) k b)
     ≡ viewedWith (orRefuse r (change (64 * cellsPutBack (cellsOf (length (b .memory))) (named h (stateOf b)) (stateOf b))
     (model.restoreWords (cellsOf (length (b .memory))) (named h (stateOf b)) (stateOf b)) 0 (restored (named h (stateOf b)) (stateOf b))))
     k (stateOf b) (b .memory) (memoryAfterSteps k (named h (stateOf b)) (stateOf b) (b .memory))
 
-pub restore-means : (h k : ℕ) (b : Buffers) → seenOf (outcome (restoreCall h b) k b) ≡ restoreMeans h k b
+pub restore-means : (h k : ℕ) (b : Buffers) → visibleOf (outcome (restoreCall h b) k b) ≡ restoreMeans h k b
 unfolding restoreCall restoreMeans restoreCheck outcome
 restore-means h k b =
-    by-check (λ q. seenOf (outcome (unless (orElse q (asked (b .table) h)) (perform (restorePlan (pairsAt (slotsOf (length (b .table))))
+    by-check (λ q. visibleOf (outcome (unless (orElse q (asked (b .table) h)) (perform (restorePlan (pairsAt (slotsOf (length (b .table))))
     (restoreBytes (cellsOf (length (b .memory))) (depthNamed (b .table) h) (b .bodies) (b .table)) (restoreWords (depthNamed (b .table) h) (b .table))) 0)) k b)
     ≡ orRefused q b (restoreView (cellsOf (length (b .memory))) h k (stateOf b) (b .memory)))
     (storeCheck (length (b .memory)) (length (b .bodies)) (b .table))
@@ -183,7 +183,7 @@ restore-means h k b =
     (by-check (λ q. goal h q q k b) (asked (b .table) h)
     (λ n e. ap (λ (s : Option State). view (refused (suc n)) s (b .memory)) stands)
     (λ e.
-    subst (λ (d : ℕ). seenOf (outcome (perform (restorePlan (pairsAt (slotsOf (length (b .table))))
+    subst (λ (d : ℕ). visibleOf (outcome (perform (restorePlan (pairsAt (slotsOf (length (b .table))))
     (restoreBytes (cellsOf (length (b .memory))) (depthNamed (b .table) h) (b .bodies) (b .table)) (restoreWords (depthNamed (b .table) h) (b .table))) 0) k b)
     ≡ viewedWith (change (64 * cellsPutBack (cellsOf (length (b .memory))) d (stateOf b)) (model.restoreWords (cellsOf (length (b .memory))) d (stateOf b)) 0 (restored d (stateOf b)))
     k (stateOf b) (b .memory) (memoryAfterSteps k d (stateOf b) (b .memory))) (sym name)

@@ -53,7 +53,7 @@ ghost use Rattle.table.specs.Rule.{ruleOk};
 ghost use Rattle.search.specs.Search.{heldFrom};
 ghost use Rattle.changes.specs.Staged.{Turned, Stages, HeadOk, headStores, Journaled};
 ghost use Rattle.store.specs.Outcome.{buffers, report, Makes};
-ghost use Rattle.store.specs.Means.{seen, Shows};
+ghost use Rattle.store.specs.Means.{Shows};
 ghost use Rattle.restore.specs.Restore.{restoreCheck, restoreBytes, restoreChange, restoreWords, restoreCall, restoreMeans};
 ghost use Rattle.restore.specs.Marks.{inwards, heldBy, Tells};
 ghost use Rattle.restore.specs.Parts.{backPlan, groupPlan, headWords, endingWords};

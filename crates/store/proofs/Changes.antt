@@ -34,7 +34,7 @@ use Rattle.store.proofs.Checks.{store-shape, store-idle, store-opens}
 use Rattle.store.proofs.Outcome.{steps-inTable}
 use Rattle.store.proofs.State.{state-kept}
 use Rattle.store.proofs.Cuts.{stands-open, cut, cut-effective, cut-opens}
-use Rattle.store.proofs.Means.{seenOf, store-effective, store-rule, store-state, t-long}
+use Rattle.store.proofs.Means.{visibleOf, store-effective, store-rule, store-state, t-long}
 
 -- ---- bytes, then words, under one budget
 
@@ -185,7 +185,7 @@ module _ (memory bodies t : List ℕ) (yes : storeCheck (length memory) (length 
         empty (x ∷ xs) z = absurd (omega arith)
 
     -- what is to be seen of the call at budget k is what its effect says
-    pub change-seen : (k : ℕ) → seenOf (outcome (perform (changePlan (pairsAt (slotsOf (length t))) bytes ws) h) k (buffers memory bodies t))
+    pub change-seen : (k : ℕ) → visibleOf (outcome (perform (changePlan (pairsAt (slotsOf (length t))) bytes ws) h) k (buffers memory bodies t))
         ≡ viewed (change (length bytes) (length ws) h after) k (stateOf (buffers memory bodies t)) memory
     unfolding outcome
     change-seen k = rw (change-steps first k bytes ws memory bodies t, change-length first bytes ws, change-standing k)

@@ -26,7 +26,7 @@ use Rattle.store.specs.Calls.{createWords, createCall}
 use Rattle.store.specs.Means.{orRefused, callMeans, createMeans}
 use Rattle.store.proofs.Checks.{ask-yes, orElse-go}
 use Rattle.store.proofs.Outcome.{refuses}
-use Rattle.store.proofs.Means.{seenOf, by-check, store-standing, live-count, next-is}
+use Rattle.store.proofs.Means.{visibleOf, by-check, store-standing, live-count, next-is}
 use Rattle.store.proofs.Raw.{raw-rule, raw-state, raw-next, raw-after, raw-long}
 use Rattle.store.proofs.Creating.{create-rule, create-state, create-names}
 use Rattle.store.proofs.Changes.{words-performed, change-seen}
@@ -63,7 +63,7 @@ module _ (memory bodies t : List ℕ) (yes : storeCheck (length memory) (length 
       ∙ create-state (cellsOf (length memory)) (slotsOf (length t)) (bodiesOf (length bodies)) t (raw-rule memory bodies t yes) (raw-long memory bodies t yes) few bodies
       ∙ ap created (sym (raw-state memory bodies t yes))
 
-  create-seen : (k : ℕ) → seenOf (outcome (perform (changePlan first [] (createWords t)) (nextHandle t)) k (buffers memory bodies t))
+  create-seen : (k : ℕ) → visibleOf (outcome (perform (changePlan first [] (createWords t)) (nextHandle t)) k (buffers memory bodies t))
       ≡ viewed (change 0 3 (nextHandle t) (created (stateOf (buffers memory bodies t)))) k (stateOf (buffers memory bodies t)) memory
   unfolding createWords
   create-seen k = change-seen memory bodies t yes [] (createWords t) tt (omega arith) new-names new-rule (nextHandle t) (created (stateOf (buffers memory bodies t))) new-state k
@@ -78,13 +78,13 @@ asked n h = ask (ltb n maxLive) 9 (ask (ltb h 4_294_967_295) 10 0)
 
 abbrev goal : (words-say state-says k : ℕ) → Buffers → Type 0
 goal q r k b =
-    seenOf (outcome (unless q (perform (changePlan (pairsAt (slotsOf (length (b .table)))) [] (createWords (b .table))) (nextHandle (b .table)))) k b)
+    visibleOf (outcome (unless q (perform (changePlan (pairsAt (slotsOf (length (b .table)))) [] (createWords (b .table))) (nextHandle (b .table)))) k b)
     ≡ viewed (orRefuse r (change 0 3 (stateOf b .next) (created (stateOf b)))) k (stateOf b) (b .memory)
 
-pub create-means : (k : ℕ) (b : Buffers) → seenOf (outcome (createCall b) k b) ≡ createMeans k b
+pub create-means : (k : ℕ) (b : Buffers) → visibleOf (outcome (createCall b) k b) ≡ createMeans k b
 unfolding createCall callMeans createCheck outcome
 create-means k b =
-    by-check (λ q. seenOf (outcome (unless (orElse q (asked (live (b .table)) (nextHandle (b .table))))
+    by-check (λ q. visibleOf (outcome (unless (orElse q (asked (live (b .table)) (nextHandle (b .table))))
     (perform (changePlan (pairsAt (slotsOf (length (b .table)))) [] (createWords (b .table))) (nextHandle (b .table)))) k b)
     ≡ orRefused q b (viewed (createEffect (stateOf b)) k (stateOf b) (b .memory)))
     (storeCheck (length (b .memory)) (length (b .bodies)) (b .table))

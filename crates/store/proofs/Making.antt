@@ -10,7 +10,7 @@ use borrow.Author.Tests.{eqb-true, eqb-false, ne-eqb}
 use lib.Dec.{eqb}
 use lib.ListN.{length, getD, set, take, length-set, length-append}
 use lib.Seq.{getD-set-same, getD-set-other, getD-take, take-append-le, take-all}
-use Rattle.words.specs.Layout.{magic, magicAt, cellsAt, slotsAt, bodiesAt, liveAt, nextAt, pendingAt, zeroAt, handleAt, firstAt, secondAt, pairsAt, maxPairs, tableWords, slotsOf, cellsOf, bodiesOf}
+use Rattle.words.specs.Layout.{magic, magicAt, cellsAt, slotsAt, bodiesAt, liveAt, nextAt, pendingAt, zeroAt, handleAt, firstAt, secondAt, pairsAt, maxPairs, tableWords, slotsOf, cellsOf, bodiesOf, lastAt}
 use Rattle.words.specs.Stores.{Store, _≔_, store, stores, tab, tabFrom}
 use Rattle.words.specs.Journal.{pending, pairs, effective}
 use Rattle.words.proofs.Scan.{by-bool}
@@ -73,7 +73,7 @@ module _ (f : ℕ → ℕ) where
 
 module _ (m e b : ℕ) (t : List ℕ) (long : length t ≡ tableWords e) where
   abbrev middle : List Store
-  middle = words (freshWord m e b) (15 + 2 * e)
+  middle = words (freshWord m e b) (lastAt e)
 
   pub make-length : length (makePlan m e b) ≡ pairsAt e + 1
   unfolding makePlan
@@ -84,13 +84,13 @@ module _ (m e b : ℕ) (t : List ℕ) (long : length t ≡ tableWords e) where
   unfolding makePlan
   make-gone zero pos l = absurd (not-suc-le-zero pos)
   make-gone (suc k) pos l =
-      let short : k ≤ length middle = rw (length-tab (λ j. j + 1 ≔ freshWord m e b (j + 1)) (15 + 2 * e)) (omega arith) in
+      let short : k ≤ length middle = rw (length-tab (λ j. j + 1 ≔ freshWord m e b (j + 1)) (lastAt e)) (omega arith) in
       rw (take-append-le k middle ((magicAt ≔ magic) ∷ []) short)
-      (words-zero (freshWord m e b) (15 + 2 * e) k (set t magicAt 0) ∙ getD-set-same t magicAt 0 0 (omega arith))
+      (words-zero (freshWord m e b) (lastAt e) k (set t magicAt 0) ∙ getD-set-same t magicAt 0 0 (omega arith))
 
   -- the whole of it
   pub whole : List ℕ
-  whole = set (stores (words (freshWord m e b) (15 + 2 * e)) (set t magicAt 0)) magicAt magic
+  whole = set (stores (words (freshWord m e b) (lastAt e)) (set t magicAt 0)) magicAt magic
 
   pub make-whole : (k : ℕ) → pairsAt e + 1 ≤ k → stores (take k (makePlan m e b)) t ≡ whole
   unfolding makePlan whole
@@ -110,7 +110,7 @@ module _ (m e b : ℕ) (t : List ℕ) (long : length t ≡ tableWords e) where
   unfolding whole
   whole-at i low high =
       getD-set-other (stores middle (set t magicAt 0)) magicAt i magic 0 (λ q. omega arith)
-      ∙ words-at (freshWord m e b) (15 + 2 * e) (set t magicAt 0) i low (omega arith) (rw length-set (omega arith))
+      ∙ words-at (freshWord m e b) (lastAt e) (set t magicAt 0) i low (omega arith) (rw length-set (omega arith))
 
   -- words past the head are 0, and so are words 4, 6 and 7
   fresh-zero : (i : ℕ) → zeroAt ≤ i → freshWord m e b i ≡ 0
@@ -237,7 +237,7 @@ module _ (memory bodies t : List ℕ) (lengths : lengthsOk (length memory) (leng
 
 module _ (m e b : ℕ) (t : List ℕ) where
   abbrev pub middle-plan : List Store
-  middle-plan = tab (15 + 2 * e) (λ j. j + 1 ≔ freshWord m e b (j + 1))
+  middle-plan = tab (lastAt e) (λ j. j + 1 ≔ freshWord m e b (j + 1))
 
   -- a turn of the loop over words 1 and on
   pub make-turn : (i : ℕ) (u : List ℕ) → 1 ≤ i → i < pairsAt e → u ≡ stores (take (i - 1) middle-plan) t
@@ -247,10 +247,10 @@ module _ (m e b : ℕ) (t : List ℕ) where
       let same : i + 1 - 1 ≡ i - 1 + 1 = omega arith in
       rw (h, same)
       (ap (λ (x : ℕ). set (stores (take (i - 1) middle-plan) t) x (freshWord m e b x)) (sym back)
-      ∙ run-take-tab store (i - 1) (15 + 2 * e) (λ j. j + 1 ≔ freshWord m e b (j + 1)) t (omega arith))
+      ∙ run-take-tab store (i - 1) (lastAt e) (λ j. j + 1 ≔ freshWord m e b (j + 1)) t (omega arith))
 
-  middle-length : length middle-plan ≡ 15 + 2 * e
-  middle-length = length-tab (λ j. j + 1 ≔ freshWord m e b (j + 1)) (15 + 2 * e)
+  middle-length : length middle-plan ≡ lastAt e
+  middle-length = length-tab (λ j. j + 1 ≔ freshWord m e b (j + 1)) (lastAt e)
 
 -- stopped between word 0's two stores
 pub make-stopped : (m e b budget n i : ℕ) (t u : List ℕ) → 0 < budget → n ≡ budget → n ≤ pairsAt e → i ≡ n

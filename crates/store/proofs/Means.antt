@@ -25,7 +25,7 @@ use Rattle.store.specs.Outcome.{Buffers, buffers, inTable, outcome, leav
 use Rattle.store.specs.Checks.{makeCheck, openCheck, storeCheck}
 use Rattle.store.specs.State.{stateIn, stateOf, standing}
 use Rattle.store.specs.Calls.{makePlan, makeCall, openCall}
-pub use Rattle.store.specs.Means.{seenOf}
+pub use Rattle.store.specs.Means.{visibleOf}
 use Rattle.store.specs.Means.{orRefused, makeMeans, openMeans}
 use Rattle.store.proofs.Checks.{shape-lengths, open-shape, store-shape, store-idle, store-table, store-opens, table-rule}
 use Rattle.store.proofs.Domains.{domains-count}
@@ -60,13 +60,13 @@ module _ (memory bodies t : List ℕ) (k : ℕ) (yes : lengthsOk (length memory)
       rw (lt-leb (pairsAt (slotsOf (length t)) + 1) k l, q))
       (λ z. rw (lt-leb (pairsAt (slotsOf (length t)) + 1) k l, ne-eqb k 0 (λ q. omega arith), make-none memory bodies t yes w k z l)))
 
-  make-seen : seenOf (outcome (perform (map inTable plan) 0) k (buffers memory bodies t))
+  make-seen : visibleOf (outcome (perform (map inTable plan) 0) k (buffers memory bodies t))
       ≡ view (ended (makeSteps (slotsOf (length t))) 0 k) (makeState (slotsOf (length t)) k (standing (buffers memory bodies t))) memory
   make-seen =
-      ap seenOf (table-after plan 0 k memory bodies t)
+      ap visibleOf (table-after plan 0 k memory bodies t)
       ∙ rw (make-length (cellsOf (length memory)) (slotsOf (length t)) (bodiesOf (length bodies)) t (long (length memory) (length bodies) t yes), make-standing)
 
-pub make-means : (k : ℕ) (b : Buffers) → seenOf (outcome (makeCall b) k b) ≡ makeMeans k b
+pub make-means : (k : ℕ) (b : Buffers) → visibleOf (outcome (makeCall b) k b) ≡ makeMeans k b
 unfolding makeCall makeMeans makeCheck outcome
 make-means k b =
     by-bool (lengthsOk (length (b .memory)) (length (b .bodies)) (length (b .table)))
@@ -89,15 +89,15 @@ open-standing memory bodies t k h =
     stands-open memory bodies (opening (length memory) (length bodies) t w h k) (opening-opens (length memory) (length bodies) t w h k)
     ∙ rw (opening-length (length memory) (length bodies) t w h k, opening-effective (length memory) (length bodies) t w h k)
 
-pub open-means : (k : ℕ) (b : Buffers) → seenOf (outcome (openCall b) k b) ≡ openMeans k b
+pub open-means : (k : ℕ) (b : Buffers) → visibleOf (outcome (openCall b) k b) ≡ openMeans k b
 unfolding openCall openMeans outcome
 open-means k b =
-    by-check (λ q. seenOf (outcome (unless q (perform (map inTable (openPlan (pairsAt (slotsOf (length (b .table)))) (b .table))) 0)) k b)
+    by-check (λ q. visibleOf (outcome (unless q (perform (map inTable (openPlan (pairsAt (slotsOf (length (b .table)))) (b .table))) 0)) k b)
     ≡ orRefused q b (view (ended (openSteps (pending (b .table))) 0 k) (some (stateOf b)) (b .memory)))
     (openCheck (length (b .memory)) (length (b .bodies)) (b .table))
     (λ n e. refl)
     (λ e.
-    ap seenOf (table-after (openPlan (pairsAt (slotsOf (length (b .table)))) (b .table)) 0 k (b .memory) (b .bodies) (b .table))
+    ap visibleOf (table-after (openPlan (pairsAt (slotsOf (length (b .table)))) (b .table)) 0 k (b .memory) (b .bodies) (b .table))
     ∙ rw (open-length (pairsAt (slotsOf (length (b .table)))) (b .table), open-standing (b .memory) (b .bodies) (b .table) k e))
 
 -- ---- a table that passes questions 1 to 4

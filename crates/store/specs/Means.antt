@@ -17,20 +17,20 @@ use Rattle.store.specs.State.{stateOf, standing, slots}
 use Rattle.store.specs.Calls.{openingAfter}
 use Rattle.store.specs.declared.Listing.{Listing}
 
--- what is to be seen of a report and the buffers left with it
-abbrev pub seen : Report → Buffers → View
-seen r b = view r (standing b) (b .memory)
+-- what is to be visible of a report and the buffers left with it
+abbrev pub visible : Report → Buffers → View
+visible r b = view r (standing b) (b .memory)
 
-abbrev pub seenOf : Outcome → View
-seenOf o = seen (o .report) (o .buffers)
+abbrev pub visibleOf : Outcome → View
+visibleOf o = visible (o .report) (o .buffers)
 
--- what each exported call promises besides: what is to be seen of its report and of the buffers `after` is what it means
+-- what each exported call promises besides: what is to be visible of its report and of the buffers `after` is what it means
 abbrev pub Shows : (ℕ → Buffers → View) → (budget : ℕ) → (before : Buffers) → Report → (after : Buffers) → Type 0
-Shows means k before r after = seen r after ≡ means k before
+Shows means k before r after = visible r after ≡ means k before
 
 -- a call refused by a question on the buffers leaves what there was
 abbrev pub orRefused : ℕ → Buffers → View → View
-orRefused q b v = byNumber (λ n. seen (refused n) b) q v
+orRefused q b v = byNumber (λ n. visible (refused n) b) q v
 
 unfoldable pub makeMeans : ℕ → Buffers → View
 makeMeans k b =

@@ -47,7 +47,7 @@ ghost use Rattle.model.specs.Holdings.{rangeOk};
 ghost use Rattle.store.specs.Outcome.{buffers, report, Makes};
 ghost use Rattle.store.specs.Checks.{shapeCheck, tableCheck, openCheck, idleCheck, storeCheck, askInnermostIn, createCheck};
 ghost use Rattle.store.specs.Calls.{freshWord, makePlan, makeCall, openCall, domainWords, createWords, createCall};
-ghost use Rattle.store.specs.Means.{seen, makeMeans, openMeans, createMeans, listing, listMeans, Shows};
+ghost use Rattle.store.specs.Means.{makeMeans, openMeans, createMeans, listing, listMeans, Shows};
 
 // What a call answers: the number of the question that refused it; or done, with its steps and, from create, the new handle; or stopped
 // by its budget, with that many steps made.

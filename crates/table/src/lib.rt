@@ -18,6 +18,7 @@ use words::layout::MAGIC;
 use words::layout::MAGIC_AT;
 use words::layout::MAX_BODIES;
 use words::layout::MAX_CELLS;
+use words::layout::MAX_FRONT;
 use words::layout::MAX_LIVE;
 use words::layout::MAX_SLOTS;
 use words::layout::NEXT_AT;
@@ -485,10 +486,10 @@ fn put_pairs(table: &[u32], first: usize, count: usize, copy: &mut [u32])
 }
 
 // A copy to be filled. A function of its own, so that the checker does not write the list out.
-fn no_words() -> [u32; 8208]
-    ensures { λ r. ⌜ r ≡ zeros 8208 ⌝ }
+fn no_words() -> [u32; MAX_FRONT]
+    ensures { λ r. ⌜ r ≡ zeros (pairsAt maxSlots) ⌝ }
 {
-    [0u32; 8208]
+    [0u32; MAX_FRONT]
 }
 
 // The rule of the table that pending pairs mean: of a copy in which they are in place.

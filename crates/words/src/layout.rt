@@ -15,6 +15,9 @@ pub const MAX_BODIES: usize = 4096;
 
 pub const MAX_SLOTS: usize = 4096;
 
+// So many words stand in front of the pairs of the largest table.
+pub const MAX_FRONT: usize = 8208;
+
 pub const MAX_LIVE: u32 = 8;
 
 // Word 0 of every store.

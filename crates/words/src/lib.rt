@@ -7,7 +7,7 @@ ghost use mathlib.Core.Path.{_≡_};
 ghost use Prim.Native.Nat.{ℕ, _+_, _-_, _*_, _≤_, _<_, min};
 ghost use mathlib.Core.List.{List};
 ghost use lib.ListN.{length, take, getD};
-ghost use Rattle.words.specs.Layout.{cellAt, pendingAt, cellSize};
+ghost use Rattle.words.specs.Layout.{cellAt, pendingAt, cellSize, maxPairs, maxSlots};
 ghost use Rattle.words.specs.Stores.{stores};
 ghost use Rattle.words.specs.Journal.{pairPlan, applyPlan, publishPlan, finishPlan, journalSteps};
 ghost use Rattle.words.specs.Cells.{cellBytes, sameCell, copyPlan, cellPlan, Copied};
@@ -194,7 +194,7 @@ pub fn publish(table: &mut [u32], first: usize, p: u32, budget: usize)
 
 // After the writing of p pairs under a budget: finishes the journal on what remains of it, and returns the steps of the whole journal uncut.
 pub fn finish_journal(table: &mut [u32], first: usize, p: usize, budget: usize) -> usize
-    requires { ⌜ (p ≤ 8202) × (2 * p ≤ budget → (first + 2 * p ≤ length (now table)) × (pendingAt < first) × ((j : ℕ) → j < p → getD (now table) (first + 2 * j) 0 < first)) ⌝ }
+    requires { ⌜ (p ≤ maxPairs maxSlots) × (2 * p ≤ budget → (first + 2 * p ≤ length (now table)) × (pendingAt < first) × ((j : ℕ) → j < p → getD (now table) (first + 2 * j) 0 < first)) ⌝ }
     ensures made { λ r. ⌜ r ≡ journalSteps p ⌝ }
     ensures words { λ _. ⌜ now (table .exit) ≡ stores (take (budget - 2 * p) (finishPlan (now (table .entry)) first p)) (now (table .entry)) ⌝ }
 {

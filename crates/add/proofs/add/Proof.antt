@@ -1,6 +1,6 @@
 -- `add::add` meets its contract. Assumes nothing.
 use mathlib.Core.Path.{ap, _∙_}
-use Rattle.store.proofs.Means.{seenOf}
+use Rattle.store.proofs.Means.{visibleOf}
 use Rattle.add.proofs.Added.{add-means}
 use borrow.Author.Needs.{needs}
 use Rattle.add.proofs.add.Statement.{statement}
@@ -28,7 +28,7 @@ returns : tie.Need-returns
 returns c =
     let a = c .before .before .before .before .before .before .before .before .before .before .before .before .before .before .args in
     let r = rw (c .before .before .before .before .before .before .before .before .before .before .wide .ensures, c .before .before .before .before .before .before .before .before .before .wide2 .ensures) at (c .before .before .before .before .add-few .ensures) in
-    (r, ap seenOf r ∙ add-means (a .handle) (a .first) (a .count) (a .kind) (a .label) _ _)
+    (r, ap visibleOf r ∙ add-means (a .handle) (a .first) (a .count) (a .kind) (a .label) _ _)
 
 add-many-requires : tie.Need-add-many-requires
 add-many-requires c κs = search needs
@@ -43,7 +43,7 @@ returns-2 : tie.Need-returns-2
 returns-2 c =
     let a = c .before .before .before .before .before .before .before .before .before .before .before .before .before .before .args in
     let r = rw (c .before .before .before .before .before .before .before .before .before .before .wide .ensures, c .before .before .before .before .before .before .before .before .before .wide2 .ensures) at (c .before .before .before .before .add-many .ensures) in
-    (r, ap seenOf r ∙ add-means (a .handle) (a .first) (a .count) (a .kind) (a .label) _ _)
+    (r, ap visibleOf r ∙ add-means (a .handle) (a .first) (a .count) (a .kind) (a .label) _ _)
 
 pub add-spec : {M : Type 1} → statement M
 add-spec =

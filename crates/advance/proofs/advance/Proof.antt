@@ -2,7 +2,7 @@
 use mathlib.Core.Path.{ap, _∙_}
 use native.Mathlib.Omega.{arith}
 use borrow.Author.Needs.{needs}
-use Rattle.store.proofs.Means.{seenOf}
+use Rattle.store.proofs.Means.{visibleOf}
 use Rattle.advance.proofs.Advanced.{advance-means}
 use Rattle.advance.proofs.advance.Statement.{statement}
 use Rattle.advance.proofs.advance.Tie as tie
@@ -20,7 +20,7 @@ same-length-2 : tie.Need-same-length-2
 same-length-2 c = search needs
 
 returns : tie.Need-returns
-returns c = let e = c .before .before .before .before .advance-few .ensures in (e, ap seenOf e ∙ advance-means _ _ _)
+returns c = let e = c .before .before .before .before .advance-few .ensures in (e, ap visibleOf e ∙ advance-means _ _ _)
 
 advance-many-requires : tie.Need-advance-many-requires
 advance-many-requires c κs = search needs
@@ -32,7 +32,7 @@ same-length-4 : tie.Need-same-length-4
 same-length-4 c = search needs
 
 returns-2 : tie.Need-returns-2
-returns-2 c = let e = c .before .before .before .before .advance-many .ensures in (e, ap seenOf e ∙ advance-means _ _ _)
+returns-2 c = let e = c .before .before .before .before .advance-many .ensures in (e, ap visibleOf e ∙ advance-means _ _ _)
 
 pub advance-spec : {M : Type 1} → statement M
 advance-spec =

@@ -1,7 +1,7 @@
 -- `commit` meets its contract: its outcome, and what that means (proofs/Committed.antt). Assumes nothing.
 use mathlib.Core.Path.{ap, _∙_}
 use borrow.Author.Needs.{needs}
-use Rattle.store.proofs.Means.{seenOf}
+use Rattle.store.proofs.Means.{visibleOf}
 use Rattle.commit.proofs.Committed.{commit-means}
 use Rattle.commit.proofs.commit.Statement.{statement}
 use Rattle.commit.proofs.commit.Tie as tie
@@ -16,7 +16,7 @@ same-length : tie.Need-same-length
 same-length c = search needs
 
 returns : tie.Need-returns
-returns c = (c .before .before .commit-few .ensures, ap seenOf (c .before .before .commit-few .ensures) ∙ commit-means (c .before .before .before .before .before .before .before .before .before .args .handle) _ _)
+returns c = (c .before .before .commit-few .ensures, ap visibleOf (c .before .before .commit-few .ensures) ∙ commit-means (c .before .before .before .before .before .before .before .before .before .args .handle) _ _)
 
 commit-many-requires : tie.Need-commit-many-requires
 commit-many-requires c κs = search needs
@@ -25,7 +25,7 @@ same-length-2 : tie.Need-same-length-2
 same-length-2 c = search needs
 
 returns-2 : tie.Need-returns-2
-returns-2 c = (c .before .before .commit-many .ensures, ap seenOf (c .before .before .commit-many .ensures) ∙ commit-means (c .before .before .before .before .before .before .before .before .before .args .handle) _ _)
+returns-2 c = (c .before .before .commit-many .ensures, ap visibleOf (c .before .before .commit-many .ensures) ∙ commit-means (c .before .before .before .before .before .before .before .before .before .args .handle) _ _)
 
 pub commit-spec : {M : Type 1} → statement M
 commit-spec =

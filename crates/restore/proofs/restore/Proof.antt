@@ -1,7 +1,7 @@
 -- `restore` meets its contract: the outcome of the call means what the model says. Assumes nothing.
 use mathlib.Core.Path.{ap, _∙_}
 use borrow.Author.Needs.{needs}
-use Rattle.store.proofs.Means.{seenOf}
+use Rattle.store.proofs.Means.{visibleOf}
 use Rattle.restore.proofs.Restored.{restore-means}
 use Rattle.restore.proofs.restore.Statement.{statement}
 use Rattle.restore.proofs.restore.Tie as tie
@@ -21,7 +21,7 @@ same-length-2 c = search needs
 returns : tie.Need-returns
 returns c =
     let e = c .before .before .before .before .restore-few .ensures in
-    (e, ap seenOf e ∙ restore-means (c .before .before .before .before .before .before .before .before .before .before .before .before .args .handle) _ _)
+    (e, ap visibleOf e ∙ restore-means (c .before .before .before .before .before .before .before .before .before .before .before .before .args .handle) _ _)
 
 restore-many-requires : tie.Need-restore-many-requires
 restore-many-requires c κs = search needs
@@ -35,7 +35,7 @@ same-length-4 c = search needs
 returns-2 : tie.Need-returns-2
 returns-2 c =
     let e = c .before .before .before .before .restore-many .ensures in
-    (e, ap seenOf e ∙ restore-means (c .before .before .before .before .before .before .before .before .before .before .before .before .args .handle) _ _)
+    (e, ap visibleOf e ∙ restore-means (c .before .before .before .before .before .before .before .before .before .before .before .before .args .handle) _ _)
 
 pub restore-spec : {M : Type 1} → statement M
 restore-spec =

@@ -1,7 +1,7 @@
 use mathlib.Core.Path.{refl, sym, ap, _∙_}
 use native.Mathlib.Omega.{arith}
 use Rattle.store.proofs.Checks.{shape-facts, store-shape, create-store, create-live, create-next}
-use Rattle.store.proofs.Means.{seenOf}
+use Rattle.store.proofs.Means.{visibleOf}
 use Rattle.store.proofs.Created.{create-means, create-refused, create-performed}
 use borrow.Author.Needs.{needs}
 use Rattle.store.proofs.create.Statement.{statement}
@@ -24,7 +24,7 @@ same-length c = search needs
 returns : tie.Need-returns
 returns c =
     let e = create-refused _ _ _ (c .before .before .before .before .before .before .args .budget) _ (c .before .create-check .ensures) (c .if1 .taken) in
-    (e, ap seenOf e ∙ create-means _ _)
+    (e, ap visibleOf e ∙ create-means _ _)
 
 -- src/lib.rt:271:18
 slice-read-handle : tie.Need-slice-read-handle
@@ -53,7 +53,7 @@ returns-2 : tie.Need-returns-2
 returns-2 c =
     let t = c .before .before .before .before .before .before .before .before .before .before .before .before .args .table .now in
     let e = create-performed _ _ t (c .before .before .before .before .before .before .before .before .before .before .before .before .args .budget) _ _ _ _ (sym (c .before .before .before .before .before .before .before .create-check .ensures) ∙ c .before .before .before .before .before .before .if1 .left) refl (c .before .before .before .create-words .ensures .made) (c .before .before .before .create-words .ensures .words) (c .answer-of .ensures) in
-    (e, ap seenOf e ∙ create-means _ _)
+    (e, ap visibleOf e ∙ create-means _ _)
 
 pub create-spec : {M : Type 1} → statement M
 create-spec =

@@ -3,7 +3,7 @@ use mathlib.Core.Path.{sym, ap, _∙_}
 use native.Mathlib.Omega.{arith}
 use borrow.Author.Tests.{not-true, not-false}
 use Rattle.table.proofs.Checks.{lengths-facts}
-use Rattle.store.proofs.Means.{seenOf, make-means, make-refused, make-performed}
+use Rattle.store.proofs.Means.{visibleOf, make-means, make-refused, make-performed}
 use borrow.Author.Needs.{needs}
 use Rattle.store.proofs.make.Statement.{statement}
 use Rattle.store.proofs.make.Tie as tie
@@ -14,7 +14,7 @@ lengths-ok-requires c κs = search needs
 returns : tie.Need-returns
 returns c =
     let e = make-refused _ _ _ (c .before .before .before .before .before .args .budget) (sym (c .before .lengths-ok .ensures) ∙ not-true _ (c .if1 .taken)) in
-    (e, ap seenOf e ∙ make-means _ _)
+    (e, ap visibleOf e ∙ make-means _ _)
 
 cells-of-requires : tie.Need-cells-of-requires
 cells-of-requires c κs = search needs
@@ -62,7 +62,7 @@ same-length c = search needs
 returns-2 : tie.Need-returns-2
 returns-2 c =
     let e = make-performed _ _ _ (c .before .before .before .before .before .before .before .before .before .before .before .before .before .before .args .budget) _ (c .before .before .before .before .before .before .slots-of .result) _ _ _ (sym (c .before .before .before .before .before .before .before .before .before .before .lengths-ok .ensures) ∙ not-false _ (c .before .before .before .before .before .before .before .before .before .if1 .left)) (c .before .before .before .before .before .before .before .before .cells-of .ensures) (c .before .before .before .before .before .before .slots-of .ensures) (c .before .before .before .before .before .before .before .bodies-of .ensures) (c .before .before .before .before .make-words .ensures) (rw (c .before .pairs-at .ensures) at (c .answer-of .ensures)) in
-    (e, ap seenOf e ∙ make-means _ _)
+    (e, ap visibleOf e ∙ make-means _ _)
 
 pub make-spec : {M : Type 1} → statement M
 make-spec =

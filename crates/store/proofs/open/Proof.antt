@@ -4,7 +4,7 @@ use Rattle.words.specs.Layout.{pairsAt, slotsOf}
 use lib.ListN.{length}
 use Rattle.table.proofs.Pairs.{pairs-few, pairs-fine}
 use Rattle.store.proofs.Checks.{shape-facts, open-shape, open-table, table-pairs}
-use Rattle.store.proofs.Means.{seenOf, open-means, open-refused, open-none, open-performed}
+use Rattle.store.proofs.Means.{visibleOf, open-means, open-refused, open-none, open-performed}
 use borrow.Author.Needs.{needs}
 use Rattle.store.proofs.open.Statement.{statement}
 use Rattle.store.proofs.open.Tie as tie
@@ -29,7 +29,7 @@ same-length c = search needs
 returns : tie.Need-returns
 returns c =
     let e = open-refused _ _ _ (c .before .before .before .before .before .before .args .budget) _ (c .before .open-check .ensures) (c .if1 .taken) in
-    (e, ap seenOf e ∙ open-means _ _)
+    (e, ap visibleOf e ∙ open-means _ _)
 
 -- src/lib.rt:212:18
 slice-read-wide : tie.Need-slice-read-wide
@@ -49,7 +49,7 @@ same-length-2 c = search needs
 returns-2 : tie.Need-returns-2
 returns-2 c =
     let e = open-none _ _ _ (c .before .before .before .before .before .before .before .before .before .args .budget) (sym (c .before .before .before .before .open-check .ensures) ∙ c .before .before .before .if1 .left) (sym (c .before .wide .ensures) ∙ c .if2 .taken) in
-    (e, ap seenOf e ∙ open-means _ _)
+    (e, ap visibleOf e ∙ open-means _ _)
 
 -- src/lib.rt:219:35
 slots-of-requires : tie.Need-slots-of-requires
@@ -96,7 +96,7 @@ returns-3 c =
     let t = c .before .before .before .before .before .before .before .before .before .before .before .before .before .before .before .before .args .table .now in
     let e = open-performed _ _ t (c .before .before .before .before .before .before .before .before .before .before .before .before .before .before .before .before .args .budget) (c .before .before .before .before .before .before .before .before .wide .result) (c .before .before .before .before .pairs-at .result) _ _ (sym (c .before .before .before .before .before .before .before .before .before .before .before .open-check .ensures) ∙ c .before .before .before .before .before .before .before .before .before .before .if1 .left) (c .before .before .before .before .before .before .before .before .wide .ensures) (c .before .before .before .before .before .before .before .if2 .left)
     (c .before .before .before .before .pairs-at .ensures ∙ ap pairsAt (c .before .before .before .before .before .slots-of .ensures)) (c .before .before .before .apply-pending .ensures) (c .answer-of .ensures) in
-    (e, ap seenOf e ∙ open-means _ _)
+    (e, ap visibleOf e ∙ open-means _ _)
 
 pub open-spec : {M : Type 1} → statement M
 open-spec =
