@@ -3,24 +3,23 @@
 use Prim.Native.Nat.{ℕ, _+_, _-_, _*_, _≤_, _<_}
 use mathlib.Core.Bool.{Bool, true, false, cond, not, _&&_}
 use mathlib.Core.List.{List}
-use mathlib.Core.Logic.{inl, inr}
 use mathlib.Core.Path.{_≡_, sym, ap, subst, _∙_}
 use native.Mathlib.Omega.{arith}
 use borrow.Author.Tests.{eq-eqb, eqb-true, leb-true, not-true}
 use lib.Dec.{leb, eqb}
-use lib.ListN.{length, getD}
-use Rattle.words.specs.Layout.{cellAt, cellsOf, bodiesOf, slotsOf}
+use lib.ListN.{length}
+use Rattle.words.specs.Layout.{cellsOf, bodiesOf, slotsOf}
 use Rattle.words.specs.Scan.{count}
-use Rattle.words.specs.Cells.{cellBytes, cellPlan}
-use Rattle.words.specs.Stores.{_≔_, stores}
-use Rattle.words.proofs.Scan.{by-bool, by-le, and-split, and-join, true≢, count-ext}
+use Rattle.words.specs.Cells.{cellBytes}
+use Rattle.words.specs.Stores.{stores}
+use Rattle.words.proofs.Scan.{by-bool, and-split, and-join, true≢, count-ext}
 use Rattle.words.proofs.Image.{meets, meets-make, meets-none, Distinctly, count-image}
-use Rattle.words.proofs.Plans.{Each, each-tab}
-use Rattle.table.specs.Entry.{live, word1, word2, viaOf, parent, findIn, holdsIn}
+use Rattle.words.proofs.Plans.{Each}
+use Rattle.words.proofs.Copies.{copies-length, copies-stored}
+use Rattle.table.specs.Entry.{live, parent, findIn, holdsIn}
 use Rattle.table.proofs.Entry.{holds-found}
-use Rattle.search.proofs.Free.{body-unused}
 use Rattle.model.specs.Holdings.{inRange}
-use Rattle.store.proofs.Changes.{Spares}
+use Rattle.store.proofs.Changes.{Spares, copies-spare}
 use Rattle.add.specs.Add.{isNew}
 use Rattle.add.specs.Walking.{Ready}
 use Rattle.add.proofs.Asking.{lengths}
@@ -28,7 +27,6 @@ use Rattle.add.specs.Choice.{Choice, takerOf, bytesWith}
 use Rattle.add.proofs.Choices.{Taking, range-low, range-high}
 use Rattle.add.proofs.Chosen.{taking, taker-facts}
 use Rattle.add.proofs.Counting.{count-range}
-use Rattle.add.proofs.Copies.{plans-each, plans-filled, plans-length}
 
 -- ---- of a call that no question refuses
 
@@ -111,7 +109,7 @@ module _ (memory bodies t : List ℕ) (base n k l : ℕ) (r : Ready memory bodie
   wanted-new j h = and-split (eqb k 0) (new j) h .1
 
   pub bytes-length : length (bytesWith memory t base n k body) ≡ 64 * count n (λ j. eqb k 0 && isNew (slotsOf (length t)) t base j)
-  bytes-length = plans-length memory base wanted body n
+  bytes-length = copies-length memory wanted (λ j. base + j) body n
 
   -- each new body has its cell's bytes
   pub bytes-filled : k ≡ 0 → (i : ℕ) → i < slotsOf (length t) → (taking choice) .taken i ≡ true
@@ -123,26 +121,11 @@ module _ (memory bodies t : List ℕ) (base n k l : ℕ) (r : Ready memory bodie
       let j : ℕ = takerOf e t base n slot i in
       let some = choice .bodies z in
       ap (λ (c : Bool). cellBytes (stores (bytesWith memory t base n k body) bodies) (cond c (body j) 0)) (eq-eqb k 0 z)
-      ∙ plans-filled memory base wanted body bodies n
-      (λ x lx px. omega (arith, w .memory-exact, r .range))
-      (λ x lx px. omega (arith, w .bodies-exact, some .below x lx (wanted-new x px)))
-      (λ x y lt ly px py q. never x y lt (some .own x y (omega arith) ly (wanted-new x px) (wanted-new y py) q))
-      n (omega arith) j (f .0) (and-join (eqb k 0) (new j) (eq-eqb k 0 z) (f .1))
-    where
-      never : (x y : ℕ) → x < y → x ≡ y → ⊥
-      never x y lt q = omega arith
+      ∙ copies-stored memory wanted (λ x. base + x) body n j bodies (f .0) (and-join (eqb k 0) (new j) (eq-eqb k 0 z) (f .1))
+      (omega (arith, w .memory-exact, r .range, f .0))
+      (omega (arith, w .bodies-exact, some .below j (f .0) (f .1)))
+      (λ x lx px q. some .own j x (f .0) lx (f .1) (wanted-new x px) q)
 
-  -- and bodies in use are spared, in any table with the same entries
-  pub bytes-spare : (u : List ℕ) → ((i : ℕ) → i < slotsOf (length t) → word1 (slotsOf (length t)) u i ≡ word1 (slotsOf (length t)) t i)
-      → ((i : ℕ) → i < slotsOf (length t) → word2 (slotsOf (length t)) u i ≡ word2 (slotsOf (length t)) t i)
-      → Each (Spares (slotsOf (length t)) u) (bytesWith memory t base n k body)
-  unfolding cellPlan
-  bytes-spare u firsts seconds =
-      plans-each memory base wanted body (Spares e u) n
-      (λ j h p.
-      each-tab (Spares e u) (λ x. cellAt (body j) + x ≔ getD memory (cellAt (base + j) + x) 0) 64
-      (λ x lx i c.
-      let unlike : word2 e u i ≡ body j → ⊥ =
-      λ q. body-unused e t (body j) (choice .bodies (wanted-copy j p) .was-free j h (wanted-new j p)) i (c .slot)
-      (λ z. c .used (firsts i (c .slot) ∙ z), sym (ap viaOf (firsts i (c .slot))) ∙ c .copy) (sym (seconds i (c .slot)) ∙ q) in
-      by-le (word2 e u i) (body j) (λ le. inr (omega (arith, unlike))) (λ le. inl (omega arith))))
+  -- and bodies in use are spared
+  pub bytes-spare : Each (Spares (slotsOf (length t)) t) (bytesWith memory t base n k body)
+  bytes-spare = copies-spare e t memory wanted (λ j. base + j) body n (λ j h p. choice .bodies (wanted-copy j p) .was-free j h (wanted-new j p))
