@@ -8,7 +8,6 @@ use Rattle.words.proofs.Scan.{by-bool}
 use Rattle.model.specs.State.{State}
 use Rattle.model.specs.Answer.{isRefused, Report, ended, View, stepsOf}
 use Rattle.model.specs.Calls.{Effect, refuse, change, viewedWith}
-use Rattle.model.specs.Restore.{viewedWith}
 use Rattle.model.specs.History.{Request}
 use Rattle.model.specs.Session.{Input, make, call, opening, write, effectOf, memoryAt, viewOf}
 use Rattle.model.proofs.Told.{Answered}

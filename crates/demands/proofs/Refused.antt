@@ -6,7 +6,6 @@ use borrow.Author.Tests.{ne-eqb, eq-eqb}
 use Rattle.words.specs.Journal.{pending}
 use Rattle.model.specs.Answer.{isRefused, Report, refused, View}
 use Rattle.model.specs.Calls.{Effect, refuse, viewedWith}
-use Rattle.model.specs.Restore.{viewedWith}
 use Rattle.model.specs.History.{add, delete, look, Request, changes, reads}
 use Rattle.model.specs.Session.{Input, make, call, opening, write, effectOf, memoryAt, viewOf}
 use Rattle.model.proofs.Told.{Finished}
