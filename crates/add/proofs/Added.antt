@@ -34,9 +34,9 @@ use Rattle.store.proofs.Pending.{performed-pending, call-pending}
 use Rattle.store.proofs.Reopened.{changes-shaped, shape-reopens, unless-reopens}
 use Rattle.store.proofs.Standing.{standing-opens}
 use Rattle.store.proofs.Raw.{raw-rule, raw-state, raw-next, raw-after}
-use Rattle.add.specs.Add.{addCheck, addBytes, addWords, addCall, addMeans}
+use Rattle.add.specs.Add.{addCheck, slotFor, bodyFor, addBytes, addWords, addCall, addMeans}
 use Rattle.add.specs.Walking.{Ready}
-use Rattle.add.specs.Choice.{Choice, slotFor, bodyFor, changeWith, wordsWith, bytesWith, addWith, MayTake}
+use Rattle.add.specs.Choice.{Choice, changeWith, wordsWith, bytesWith, addWith, MayTake}
 use Rattle.add.proofs.Asking.{lengths, add-ready}
 use Rattle.add.proofs.Meaning.{rule-after, state-after}
 use Rattle.add.proofs.Chosen.{taking, words-told, lowest, words-chosen, bytes-chosen}

@@ -1,32 +1,30 @@
 -- Add over any choice of free slots and bodies: its bytes fill the new bodies and spare those in use, and as many slots are taken as cells are
 -- new. Assumes nothing.
 use Prim.Native.Nat.{ℕ, _+_, _-_, _*_, _≤_, _<_}
-use mathlib.Core.Bool.{Bool, true, false, cond, not, _&&_}
+use mathlib.Core.Bool.{Bool, true, cond, not, _&&_}
 use mathlib.Core.List.{List}
-use mathlib.Core.Path.{_≡_, sym, ap, subst, _∙_}
+use mathlib.Core.Path.{_≡_, sym, ap, _∙_}
 use native.Mathlib.Omega.{arith}
-use borrow.Author.Tests.{eq-eqb, eqb-true, leb-true, not-true}
+use borrow.Author.Tests.{eq-eqb, eqb-true, leb-true}
 use lib.Dec.{leb, eqb}
 use lib.ListN.{length}
-use Rattle.words.specs.Layout.{cellsOf, bodiesOf, slotsOf}
+use Rattle.words.specs.Layout.{bodiesOf, slotsOf}
 use Rattle.words.specs.Scan.{count}
 use Rattle.words.specs.Cells.{cellBytes}
 use Rattle.words.specs.Stores.{stores}
-use Rattle.words.proofs.Scan.{by-bool, and-split, and-join, true≢, count-ext}
-use Rattle.words.proofs.Image.{meets, meets-make, meets-none, Distinctly, count-image}
+use Rattle.words.proofs.Scan.{and-split, and-join}
 use Rattle.words.proofs.Plans.{Each}
 use Rattle.words.proofs.Copies.{copies-length, copies-stored}
 use Rattle.table.specs.Entry.{live, parent, findIn, holdsIn}
 use Rattle.table.proofs.Entry.{holds-found}
-use Rattle.model.specs.Holdings.{inRange}
+use Rattle.search.proofs.Taking.{taker-facts, taken-many}
 use Rattle.store.proofs.Changes.{Spares, copies-spare}
 use Rattle.add.specs.Add.{isNew}
 use Rattle.add.specs.Walking.{Ready}
 use Rattle.add.proofs.Asking.{lengths}
-use Rattle.add.specs.Choice.{Choice, takerOf, bytesWith}
+use Rattle.add.specs.Choice.{Choice, cellFor, bytesWith}
 use Rattle.add.proofs.Choices.{Taking, range-low, range-high}
-use Rattle.add.proofs.Chosen.{taking, taker-facts}
-use Rattle.add.proofs.Counting.{count-range}
+use Rattle.add.proofs.Chosen.{taking}
 
 -- ---- of a call that no question refuses
 
@@ -61,41 +59,9 @@ module _ (memory bodies t : List ℕ) (base n k l : ℕ) (r : Ready memory bodie
       (leb-true 2 (live t) (s .0), holds-found e t (parent (live t)) (told .cell i) (ap (holdsIn e t (parent (live t))) (sym (place i h p)) ∙ s .1))
 
   -- as many slots are taken as cells are new
-  pub taken-many : count (slotsOf (length t)) ((taking choice) .taken) ≡ count n (isNew (slotsOf (length t)) t base)
-  taken-many =
-      count-image (told .taken) (told .cell) m e distinctly
-      ∙ count-ext m (meets (told .taken) (told .cell) e) (λ c. inRange base n c && lacked c) (λ c h. met c)
-      ∙ count-range base lacked m n (r .range)
-    where
-      m : ℕ
-      m = cellsOf (length memory)
-
-      lacked : ℕ → Bool
-      lacked c = not (holdsIn e t (live t) c)
-
-      distinctly : Distinctly (told .taken) (told .cell) m e
-      distinctly =
-          record {
-            below = λ i h p. omega (arith, range-high base n (told .cell i) (told .within i h p), r .range);
-            apart = λ i j h lt p q c. not-below j i lt (told .apart j i (omega arith) h q p c);
-          }
-        where
-          not-below : (j i : ℕ) → j < i → j ≡ i → ⊥
-          not-below j i l q = omega arith
-
-      met : (c : ℕ) → meets (told .taken) (told .cell) e c ≡ (inRange base n c && lacked c)
-      met c =
-          by-bool (inRange base n c && lacked c)
-          (λ y.
-          let s = and-split (inRange base n c) (lacked c) y in
-          let f = told .covers c (s .0) (not-true _ (s .1)) in
-          meets-make (told .taken) (told .cell) e c (f .0) (f .1) (f .2) (f .3) ∙ sym y)
-          (λ y.
-          meets-none (told .taken) (told .cell) e c (λ i h p q.
-          true≢ (and-join (inRange base n c) (lacked c)
-          (subst (λ (x : ℕ). inRange base n x ≡ true) q (told .within i h p))
-          (ap not (subst (λ (x : ℕ). holdsIn e t (live t) x ≡ false) q (told .new i h p)))) y)
-          ∙ sym y)
+  pub slots-taken : count (slotsOf (length t)) ((taking choice) .taken) ≡ count n (isNew (slotsOf (length t)) t base)
+  unfolding taking
+  slots-taken = taken-many (choice .slots)
 
   -- ---- the bytes
 
@@ -117,8 +83,8 @@ module _ (memory bodies t : List ℕ) (base n k l : ℕ) (r : Ready memory bodie
   unfolding taking
   bytes-filled z i h p =
       let w = lengths memory bodies t (r .store) in
-      let f = taker-facts choice i p in
-      let j : ℕ = takerOf e t base n slot i in
+      let f = taker-facts n new slot i p in
+      let j : ℕ = cellFor e t base n slot i in
       let some = choice .bodies z in
       ap (λ (c : Bool). cellBytes (stores (bytesWith memory t base n k body) bodies) (cond c (body j) 0)) (eq-eqb k 0 z)
       ∙ copies-stored memory wanted (λ x. base + x) body n j bodies (f .0) (and-join (eqb k 0) (new j) (eq-eqb k 0 z) (f .1))
