@@ -9,8 +9,7 @@ use native.Mathlib.Omega.{arith}
 use borrow.Author.Tests.{eq-eqb, ne-eqb}
 use lib.Dec.{eqb}
 use lib.ListN.{length, take}
-use lib.Seq.{getD-take}
-use Rattle.words.specs.Layout.{firstAt, secondAt, pairsAt, slotsOf, cellsOf, bodiesOf, maxPairs}
+use Rattle.words.specs.Layout.{pairsAt, slotsOf, cellsOf, bodiesOf, maxPairs}
 use Rattle.words.specs.Stores.{Store, stores}
 use Rattle.words.specs.Journal.{pending, namesOk, journal}
 use Rattle.words.proofs.Scan.{by-le, by-bool}
@@ -30,14 +29,14 @@ use Rattle.store.specs.Means.{visibleOf, orRefused, callMeans, roomOf, leftPend
 use Rattle.store.proofs.Checks.{orElse-go, orElse-stop}
 use Rattle.store.proofs.Outcome.{refuses}
 use Rattle.store.proofs.Means.{by-check, store-standing}
-use Rattle.store.proofs.Changes.{Spares, spared, change-performed, change-seen}
+use Rattle.store.proofs.Changes.{Spares, spared, front-spares, change-performed, change-seen}
 use Rattle.store.proofs.Pending.{performed-pending, call-pending}
 use Rattle.store.proofs.Reopened.{changes-shaped, shape-reopens, unless-reopens}
 use Rattle.store.proofs.Standing.{standing-opens}
 use Rattle.store.proofs.Raw.{raw-rule, raw-state, raw-next, raw-after}
-use Rattle.add.specs.Add.{addCheck, addBytes, addWords, addCall, addMeans}
+use Rattle.add.specs.Add.{addCheck, slotFor, bodyFor, addBytes, addWords, addCall, addMeans}
 use Rattle.add.specs.Walking.{Ready}
-use Rattle.add.specs.Choice.{Choice, slotFor, bodyFor, changeWith, wordsWith, bytesWith, addWith, MayTake}
+use Rattle.add.specs.Choice.{Choice, changeWith, wordsWith, bytesWith, addWith, MayTake}
 use Rattle.add.proofs.Asking.{lengths, add-ready}
 use Rattle.add.proofs.Meaning.{rule-after, state-after}
 use Rattle.add.proofs.Chosen.{taking, words-told, lowest, words-chosen, bytes-chosen}
@@ -90,8 +89,7 @@ module _ (memory bodies t : List ℕ) (base n k l : ℕ) (r : Ready memory bodie
 
   -- the bytes spare the bodies in use
   pub with-spares : Each (Spares (slotsOf (length t)) (take (pairsAt (slotsOf (length t))) t)) bytes
-  with-spares =
-      bytes-spare memory bodies t base n k l r choice (take (pairsAt e) t) (λ i h. getD-take (pairsAt e) t (firstAt e i) 0 (omega arith)) (λ i h. getD-take (pairsAt e) t (secondAt e i) 0 (omega arith))
+  with-spares = front-spares e t bytes (bytes-spare memory bodies t base n k l r choice)
 
   state-new : stateIn (slotsOf (length t)) (stores words t) (stores bytes bodies)
       ≡ addTo memory base n (kindNumbered k) (labelNumbered l) (stateIn (slotsOf (length t)) t bodies)
@@ -99,7 +97,7 @@ module _ (memory bodies t : List ℕ) (base n k l : ℕ) (r : Ready memory bodie
       ap (λ (ws : List Store). stateIn e (stores ws t) (stores bytes bodies)) (sym (words-told choice l))
       ∙ state-after (cellsOf (length memory)) e (bodiesOf (length bodies)) t (raw-rule memory bodies t (r .store)) long base n k l (r .inner) (r .kind) (r .label) (r .range) small
       (taking choice) (rests-with memory bodies t base n k l r choice) memory bodies (stores bytes bodies)
-      (spared e t bytes bodies (bytes-spare memory bodies t base n k l r choice t (λ i h. refl) (λ i h. refl)))
+      (spared e t bytes bodies (bytes-spare memory bodies t base n k l r choice))
       (bytes-filled memory bodies t base n k l r choice)
 
   -- and stands for the model's state after add

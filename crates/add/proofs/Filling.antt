@@ -1,35 +1,30 @@
 -- Add over any choice of free slots and bodies: its bytes fill the new bodies and spare those in use, and as many slots are taken as cells are
 -- new. Assumes nothing.
 use Prim.Native.Nat.{ℕ, _+_, _-_, _*_, _≤_, _<_}
-use mathlib.Core.Bool.{Bool, true, false, cond, not, _&&_}
+use mathlib.Core.Bool.{Bool, true, cond, not, _&&_}
 use mathlib.Core.List.{List}
-use mathlib.Core.Logic.{inl, inr}
-use mathlib.Core.Path.{_≡_, sym, ap, subst, _∙_}
+use mathlib.Core.Path.{_≡_, sym, ap, _∙_}
 use native.Mathlib.Omega.{arith}
-use borrow.Author.Tests.{eq-eqb, eqb-true, leb-true, not-true}
+use borrow.Author.Tests.{eq-eqb, eqb-true, leb-true}
 use lib.Dec.{leb, eqb}
-use lib.ListN.{length, getD}
-use Rattle.words.specs.Layout.{cellAt, cellsOf, bodiesOf, slotsOf}
+use lib.ListN.{length}
+use Rattle.words.specs.Layout.{bodiesOf, slotsOf}
 use Rattle.words.specs.Scan.{count}
-use Rattle.words.specs.Cells.{cellBytes, cellPlan}
-use Rattle.words.specs.Stores.{_≔_, stores}
-use Rattle.words.proofs.Scan.{by-bool, by-le, and-split, and-join, true≢, count-ext}
-use Rattle.words.proofs.Image.{meets, meets-make, meets-none, Distinctly, count-image}
-use Rattle.words.proofs.Plans.{Each, each-tab}
-use Rattle.table.specs.Entry.{live, word1, word2, viaOf, parent, findIn, holdsIn}
+use Rattle.words.specs.Cells.{cellBytes}
+use Rattle.words.specs.Stores.{stores}
+use Rattle.words.proofs.Scan.{and-split, and-join}
+use Rattle.words.proofs.Plans.{Each}
+use Rattle.words.proofs.Copies.{copies-length, copies-stored}
+use Rattle.table.specs.Entry.{live, parent, findIn, holdsIn}
 use Rattle.table.proofs.Entry.{holds-found}
-use Rattle.search.proofs.Free.{body-unused}
-use Rattle.model.specs.Holdings.{inRange}
-use Rattle.store.proofs.Changes.{Spares}
+use Rattle.search.proofs.Taking.{taker-facts, taken-many}
+use Rattle.store.proofs.Changes.{Spares, copies-spare}
 use Rattle.add.specs.Add.{isNew}
 use Rattle.add.specs.Walking.{Ready}
 use Rattle.add.proofs.Asking.{lengths}
-use Rattle.add.specs.Choice.{Choice, takerOf, bytesWith}
+use Rattle.add.specs.Choice.{Choice, cellFor, bytesWith}
 use Rattle.add.proofs.Choices.{Taking, range-low, range-high}
-use Rattle.add.proofs.Chosen.{taking, taker-facts}
-use Rattle.add.proofs.Counting.{count-range}
-use Rattle.add.proofs.Copies.{plans-each, plans-filled, plans-length}
-use Rattle.table.proofs.Marks.{owns-make}
+use Rattle.add.proofs.Chosen.{taking}
 
 -- ---- of a call that no question refuses
 
@@ -64,41 +59,9 @@ module _ (memory bodies t : List ℕ) (base n k l : ℕ) (r : Ready memory bodie
       (leb-true 2 (live t) (s .0), holds-found e t (parent (live t)) (told .cell i) (ap (holdsIn e t (parent (live t))) (sym (place i h p)) ∙ s .1))
 
   -- as many slots are taken as cells are new
-  pub taken-many : count (slotsOf (length t)) ((taking choice) .taken) ≡ count n (isNew (slotsOf (length t)) t base)
-  taken-many =
-      count-image (told .taken) (told .cell) m e distinctly
-      ∙ count-ext m (meets (told .taken) (told .cell) e) (λ c. inRange base n c && lacked c) (λ c h. met c)
-      ∙ count-range base lacked m n (r .range)
-    where
-      m : ℕ
-      m = cellsOf (length memory)
-
-      lacked : ℕ → Bool
-      lacked c = not (holdsIn e t (live t) c)
-
-      distinctly : Distinctly (told .taken) (told .cell) m e
-      distinctly =
-          record {
-            below = λ i h p. omega (arith, range-high base n (told .cell i) (told .within i h p), r .range);
-            apart = λ i j h lt p q c. not-below j i lt (told .apart j i (omega arith) h q p c);
-          }
-        where
-          not-below : (j i : ℕ) → j < i → j ≡ i → ⊥
-          not-below j i l q = omega arith
-
-      met : (c : ℕ) → meets (told .taken) (told .cell) e c ≡ (inRange base n c && lacked c)
-      met c =
-          by-bool (inRange base n c && lacked c)
-          (λ y.
-          let s = and-split (inRange base n c) (lacked c) y in
-          let f = told .covers c (s .0) (not-true _ (s .1)) in
-          meets-make (told .taken) (told .cell) e c (f .0) (f .1) (f .2) (f .3) ∙ sym y)
-          (λ y.
-          meets-none (told .taken) (told .cell) e c (λ i h p q.
-          true≢ (and-join (inRange base n c) (lacked c)
-          (subst (λ (x : ℕ). inRange base n x ≡ true) q (told .within i h p))
-          (ap not (subst (λ (x : ℕ). holdsIn e t (live t) x ≡ false) q (told .new i h p)))) y)
-          ∙ sym y)
+  pub slots-taken : count (slotsOf (length t)) ((taking choice) .taken) ≡ count n (isNew (slotsOf (length t)) t base)
+  unfolding taking
+  slots-taken = taken-many (choice .slots)
 
   -- ---- the bytes
 
@@ -112,7 +75,7 @@ module _ (memory bodies t : List ℕ) (base n k l : ℕ) (r : Ready memory bodie
   wanted-new j h = and-split (eqb k 0) (new j) h .1
 
   pub bytes-length : length (bytesWith memory t base n k body) ≡ 64 * count n (λ j. eqb k 0 && isNew (slotsOf (length t)) t base j)
-  bytes-length = plans-length memory base wanted body n
+  bytes-length = copies-length memory wanted (λ j. base + j) body n
 
   -- each new body has its cell's bytes
   pub bytes-filled : k ≡ 0 → (i : ℕ) → i < slotsOf (length t) → (taking choice) .taken i ≡ true
@@ -120,30 +83,15 @@ module _ (memory bodies t : List ℕ) (base n k l : ℕ) (r : Ready memory bodie
   unfolding taking
   bytes-filled z i h p =
       let w = lengths memory bodies t (r .store) in
-      let f = taker-facts choice i p in
-      let j : ℕ = takerOf e t base n slot i in
+      let f = taker-facts n new slot i p in
+      let j : ℕ = cellFor e t base n slot i in
       let some = choice .bodies z in
       ap (λ (c : Bool). cellBytes (stores (bytesWith memory t base n k body) bodies) (cond c (body j) 0)) (eq-eqb k 0 z)
-      ∙ plans-filled memory base wanted body bodies n
-      (λ x lx px. omega (arith, w .memory-exact, r .range))
-      (λ x lx px. omega (arith, w .bodies-exact, some .below x lx (wanted-new x px)))
-      (λ x y lt ly px py q. never x y lt (some .own x y (omega arith) ly (wanted-new x px) (wanted-new y py) q))
-      n (omega arith) j (f .0) (and-join (eqb k 0) (new j) (eq-eqb k 0 z) (f .1))
-    where
-      never : (x y : ℕ) → x < y → x ≡ y → ⊥
-      never x y lt q = omega arith
+      ∙ copies-stored memory wanted (λ x. base + x) body n j bodies (f .0) (and-join (eqb k 0) (new j) (eq-eqb k 0 z) (f .1))
+      (omega (arith, w .memory-exact, r .range, f .0))
+      (omega (arith, w .bodies-exact, some .below j (f .0) (f .1)))
+      (λ x lx px q. some .own j x (f .0) lx (f .1) (wanted-new x px) q)
 
-  -- and bodies in use are spared, in any table with the same entries
-  pub bytes-spare : (u : List ℕ) → ((i : ℕ) → i < slotsOf (length t) → word1 (slotsOf (length t)) u i ≡ word1 (slotsOf (length t)) t i)
-      → ((i : ℕ) → i < slotsOf (length t) → word2 (slotsOf (length t)) u i ≡ word2 (slotsOf (length t)) t i)
-      → Each (Spares (slotsOf (length t)) u) (bytesWith memory t base n k body)
-  unfolding cellPlan
-  bytes-spare u firsts seconds =
-      plans-each memory base wanted body (Spares e u) n
-      (λ j h p.
-      each-tab (Spares e u) (λ x. cellAt (body j) + x ≔ getD memory (cellAt (base + j) + x) 0) 64
-      (λ x lx i c.
-      let unlike : word2 e u i ≡ body j → ⊥ =
-      λ q. body-unused e t (body j) (choice .bodies (wanted-copy j p) .was-free j h (wanted-new j p)) i (c .slot)
-      (owns-make _ (λ z. c .used (firsts i (c .slot) ∙ z)) (sym (ap viaOf (firsts i (c .slot))) ∙ c .copy)) (sym (seconds i (c .slot)) ∙ q) in
-      by-le (word2 e u i) (body j) (λ le. inr (omega (arith, unlike))) (λ le. inl (omega arith))))
+  -- and bodies in use are spared
+  pub bytes-spare : Each (Spares (slotsOf (length t)) t) (bytesWith memory t base n k body)
+  bytes-spare = copies-spare e t memory wanted (λ j. base + j) body n (λ j h p. choice .bodies (wanted-copy j p) .was-free j h (wanted-new j p))

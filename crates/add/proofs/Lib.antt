@@ -1,7 +1,6 @@
 -- The laws of `add`.
 pub mod Choices
 pub mod Meaning
-pub mod Copies
 pub mod Counting
 pub mod Asking
 pub mod Walks

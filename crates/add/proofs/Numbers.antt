@@ -29,7 +29,7 @@ use Rattle.add.specs.Choice.{Choice, wordsWith, bytesWith}
 use Rattle.add.proofs.Choices.{Taking, chosen, rises-free}
 use Rattle.add.proofs.Chosen.{taking, words-told}
 use Rattle.add.proofs.Counting.{count-or, count-range}
-use Rattle.add.proofs.Filling.{taken-many, bytes-length}
+use Rattle.add.proofs.Filling.{slots-taken, bytes-length}
 
 -- ---- the state of a table's words
 
@@ -129,7 +129,7 @@ module _ (memory bodies t : List ℕ) (base n k l : ℕ) (r : Ready memory bodie
       (count-ext e (λ i. isChanged (chosen told l i)) (λ i. told .taken i || up i) (λ i h. changed-is i)
       ∙ count-or e (told .taken) up
       (λ i h p q. true≢ q (rw (told .free i h p) (rises-free (live t) base n l (r .inner))))
-      ∙ rw (taken-many memory bodies t base n k l r choice, raised-many, newly-is e t bodies (r .inner) base n))
+      ∙ rw (slots-taken memory bodies t base n k l r choice, raised-many, newly-is e t bodies (r .inner) base n))
 
   pub bytes-many : length (bytesWith memory t base n k body) ≡ 64 * newBodies (kindNumbered k) (newlyHeld base n (stateIn (slotsOf (length t)) t bodies))
   bytes-many =

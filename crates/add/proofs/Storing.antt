@@ -1,39 +1,28 @@
 -- Add's stores over right marks are the call's. Assumes nothing.
 use Prim.Native.Nat.{ℕ, _+_, _-_, _≤_, _<_}
-use mathlib.Core.Bool.{not}
 use mathlib.Core.List.{List}
-use mathlib.Core.Path.{_≡_, sym, ap, _∙_}
+use mathlib.Core.Path.{_≡_, _∙_}
 use native.Mathlib.Omega.{arith}
-use borrow.Author.Tests.{eqb-true, eqb-false}
-use lib.Dec.{eqb}
-use lib.ListN.{length, getD, take}
+use lib.ListN.{length, take}
 use Rattle.changes.specs.Staged.{Journaled}
 use Rattle.words.specs.Layout.{bodiesOf, slotsOf, pairsAt, maxCells, maxBodies}
 use Rattle.words.specs.Scan.{count}
 use Rattle.words.specs.Stores.{stores}
 use Rattle.words.specs.Journal.{journal}
-use Rattle.words.proofs.Scan.{by-bool, is-true, is-false, true≢, count-ext}
-use Rattle.table.specs.Entry.{live, word2}
-use Rattle.table.specs.Marks.{Marks, IsCopy, AllMarked}
-use Rattle.search.specs.Free.{bodyUsed, bodyFree}
-use Rattle.search.proofs.Free.{body-used, body-user}
+use Rattle.words.proofs.Scan.{count-ext}
+use Rattle.table.specs.Entry.{live}
+use Rattle.table.specs.Marks.{AllMarked}
+use Rattle.search.specs.Free.{bodyFree, unmarked}
+use Rattle.search.proofs.Free.{unmarked-free}
 use Rattle.model.specs.Answer.{stepsOf}
 use Rattle.store.proofs.Changes.{steps-needed}
 use Rattle.store.proofs.Raw.{raw-rule}
 use Rattle.add.specs.Add.{isNew}
 use Rattle.add.specs.declared.Range.{Range}
-use Rattle.add.specs.Walking.{unheld, newIn, spare, NoneBelow, copyBytes, Walkable, Stageable, rangeWords, Ready, bytesOf, wordsOf}
+use Rattle.add.specs.Walking.{unheld, newIn, NoneBelow, copyBytes, Walkable, Stageable, rangeWords, Ready, bytesOf, wordsOf}
 use Rattle.add.proofs.Asking.{lengths, held-new, count-held}
 use Rattle.add.proofs.Walks.{bytes-are, words-are}
 use Rattle.add.proofs.Chosen.{places-enough}
-
--- marks of the bodies in use tell which are free
-pub spare-free : (e : ℕ) (t used : List ℕ) (x : ℕ) → Marks (IsCopy e t) (word2 e t) 1 e used → spare used x ≡ bodyFree e t x
-spare-free e t used x m =
-    ap not
-    (by-bool (bodyUsed e t x)
-    (λ p. let f = body-user e t x p in is-true (eqb (getD used x 0) 1) (λ z. m .clear x (eqb-false _ _ z) (f .0) (f .1) (f .2) (f .3)) ∙ sym p)
-    (λ p. is-false (eqb (getD used x 0) 1) (λ q. let f = m .found x (eqb-true _ _ q) in true≢ (body-used e t x (f .0) (f .1) (f .2) (f .3)) p) ∙ sym p))
 
 module _ (memory bodies t : List ℕ) (range : Range) (r : Ready memory bodies t (range .first) (range .count) (range .kind) (range .label)) (held used : List ℕ)
     (m : AllMarked (slotsOf (length t)) t held used) where
@@ -43,14 +32,14 @@ module _ (memory bodies t : List ℕ) (range : Range) (r : Ready memory bodies t
   new-is : (j : ℕ) → j < range .count → unheld held (live t) (range .first) j ≡ isNew (slotsOf (length t)) t (range .first) j
   new-is j q = held-new (slotsOf (length t)) t held (m .cells) (r .inner) (range .first) j
 
-  free-is : (x : ℕ) → x < bodiesOf (length bodies) → spare used x ≡ bodyFree (slotsOf (length t)) t x
-  free-is x q = spare-free (slotsOf (length t)) t used x (m .copies)
+  free-is : (x : ℕ) → x < bodiesOf (length bodies) → unmarked used x ≡ bodyFree (slotsOf (length t)) t x
+  free-is x q = unmarked-free (slotsOf (length t)) t used (m .copies) x
 
-  pub bodies-enough : range .kind ≡ 0 → newIn held (live t) range ≤ count (bodiesOf (length bodies)) (spare used)
+  pub bodies-enough : range .kind ≡ 0 → newIn held (live t) range ≤ count (bodiesOf (length bodies)) (unmarked used)
   bodies-enough z =
       rw (
         count-held (slotsOf (length t)) t held (m .cells) (r .inner) (range .first) (range .count),
-        count-ext (bodiesOf (length bodies)) (spare used) (bodyFree (slotsOf (length t)) t) free-is,
+        count-ext (bodiesOf (length bodies)) (unmarked used) (bodyFree (slotsOf (length t)) t) free-is,
       )
       (places-enough memory bodies t (range .first) (range .count) (range .kind) (range .label) r z)
 

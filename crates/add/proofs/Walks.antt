@@ -1,6 +1,6 @@
 -- Add's two walks, turn by turn: over the range for the bytes, and over the entries for the words. Assumes nothing.
-use Prim.Native.Nat.{ℕ, suc, _+_, _-_, _*_, _≤_, _<_, min}
-use mathlib.Core.Bool.{Bool, true, false, cond}
+use Prim.Native.Nat.{ℕ, _+_, _*_, _≤_, _<_, min}
+use mathlib.Core.Bool.{true, false, cond}
 use mathlib.Core.List.{List, []}
 use mathlib.Core.Path.{_≡_, refl, sym, ap, _∙_}
 use native.Mathlib.Omega.{arith}
@@ -11,65 +11,31 @@ use Rattle.words.specs.Layout.{slotsOf}
 use Rattle.words.specs.Scan.{count, nth}
 use Rattle.words.specs.Cells.{cellPlan}
 use Rattle.words.specs.Stores.{Store, gather}
-use Rattle.words.proofs.Scan.{by-bool, by-le, count-more, count-ext}
-use Rattle.words.proofs.Nth.{nth-from, nth-below, nth-holds, nth-rank, nth-ext, count-mono, count-below}
+use Rattle.words.proofs.Scan.{by-bool, count-more, count-ext}
+use Rattle.words.proofs.Nth.{nth-ext, count-below}
 use Rattle.words.proofs.Gather.{gather-ext, gather-none}
 use Rattle.words.proofs.Plans.{length-cellPlan}
 use Rattle.table.specs.Entry.{live, word1, word2, entryWord}
 use Rattle.table.specs.Changes.{keep, put, entryChanges}
-use Rattle.search.specs.Free.{slotFree, bodyFree, unmarkedFrom}
-use Rattle.search.proofs.From.{firstFrom, from-passed, from-left, from-le, from-miss, count-stop}
+use Rattle.search.specs.Free.{slotFree, bodyFree, lowestFree, unmarked, unmarkedFrom}
+use Rattle.search.proofs.From.{firstFrom, from-le, from-miss, count-stop, next-nth, next-passed, next-left, next-none}
+use Rattle.search.proofs.Free.{unmarked-nth, unmarked-below, unmarked-passed}
+use Rattle.search.proofs.Taking.{lowest-ext}
 use Rattle.add.specs.Add.{isNew, addBytes, addWords, addChange}
 use Rattle.add.specs.declared.Cursors.{Cursors}
 use Rattle.add.specs.declared.Range.{Range}
-use Rattle.add.specs.Walking.{unheld, newIn, spare, NoneBelow, nextUnheld, copyBytes, bodyBeyond, raiseChange, listChange, Stands}
+use Rattle.add.specs.Walking.{unheld, newIn, NoneBelow, nextUnheld, copyBytes, bodyBeyond, raiseChange, listChange, Stands}
 
--- ---- a cursor over the numbers that pass a test, r of which it has passed
-
-module _ (f : ℕ → Bool) (n at r : ℕ) (low : at ≤ n) (passed : count at f ≡ r) where
-  at-nth : firstFrom n at f ≡ nth n f r
-  at-nth = sym (nth-from n f r at passed low)
-
-  module _ (left : r < count n f) where
-    next-below : firstFrom n at f < n
-    next-below = rw at-nth (nth-below n f r left)
-
-    next-passed : count (firstFrom n at f + 1) f ≡ r + 1
-    next-passed = rw at-nth (count-more (nth n f r) f ∙ rw (nth-holds n f r left, nth-rank n f r left))
-
-  -- there is one left exactly where one is found
-  next-left : firstFrom n at f < n → r < count n f
-  next-left h = omega (arith, from-passed n at f h, count-mono f (suc (firstFrom n at f)) n h)
-
-  next-none : n ≤ firstFrom n at f → count n f ≤ r
-  next-none h = by-le (count n f) r (λ l. l) (λ l. absurd (above (from-left n at f low (omega arith)) h))
-    where
-      above : {a b : ℕ} → a < b → b ≤ a → ⊥
-      above p q = omega arith
-
--- the bodies without a mark
-module _ (used : List ℕ) (b from r : ℕ) (low : from ≤ b) (passed : count from (spare used) ≡ r) where
-  pub body-at : unmarkedFrom b used from ≡ nth b (spare used) r
-  unfolding unmarkedFrom
-  body-at = at-nth (spare used) b from r low passed
-
-  module _ (left : r < count b (spare used)) where
-    pub body-below : unmarkedFrom b used from < b
-    unfolding unmarkedFrom
-    body-below = next-below (spare used) b from r low passed left
-
-    pub body-passed : count (unmarkedFrom b used from + 1) (spare used) ≡ r + 1
-    unfolding unmarkedFrom
-    body-passed = next-passed (spare used) b from r low passed left
+-- ---- the next body without a mark, and the next new cell
 
 -- below the first body without a mark there is none
 pub start-none : (used : List ℕ) (b k start : ℕ) → start ≡ bodyBeyond used b k 0 → k ≡ 0 → NoneBelow used b start
 unfolding unmarkedFrom count
 start-none used b k start q z =
-    let here : start ≡ firstFrom b 0 (spare used) = q ∙ rw (eq-eqb k 0 z) in
+    let here : start ≡ firstFrom b 0 (unmarked used) = q ∙ rw (eq-eqb k 0 z) in
     record {
-      within = rw here (from-le b 0 (spare used) (omega arith));
-      none = rw here (count-stop (firstFrom b 0 (spare used)) 0 (spare used) (omega arith) (from-miss b 0 (spare used)));
+      within = rw here (from-le b 0 (unmarked used) (omega arith));
+      none = rw here (count-stop (firstFrom b 0 (unmarked used)) 0 (unmarked used) (omega arith) (from-miss b 0 (unmarked used)));
     }
 
 -- the body of a new entry, or the number of bodies where none is left; 0 for via parent
@@ -77,14 +43,14 @@ pub body-small : (used : List ℕ) (b k from : ℕ) → (k ≡ 0 → from ≤ b)
 unfolding unmarkedFrom
 body-small used b k from low =
     by-bool (eqb k 0)
-    (λ z. rw z (from-le b from (spare used) (low (eqb-true k 0 z))))
+    (λ z. rw z (from-le b from (unmarked used) (low (eqb-true k 0 z))))
     (λ z. rw z (omega arith))
 
 -- the new cells of the range
 module _ (held : List ℕ) (d base n at r : ℕ) (low : at ≤ n) (passed : count at (unheld held d base) ≡ r) where
   cell-at : nextUnheld held d base n at ≡ nth n (unheld held d base) r
   unfolding nextUnheld
-  cell-at = at-nth (unheld held d base) n at r low passed
+  cell-at = next-nth (unheld held d base) n at r low passed
 
   cell-left : nextUnheld held d base n at < n → r < count n (unheld held d base)
   unfolding nextUnheld
@@ -103,7 +69,7 @@ module _ (held : List ℕ) (d base n at r : ℕ) (low : at ≤ n) (passed : coun
 module _ (b : ℕ) (memory held used : List ℕ) (d base n : ℕ) where
   -- the stores of the j-th cell
   abbrev pub copyPlanOf : ℕ → List Store
-  copyPlanOf j = cond (unheld held d base j) (cellPlan memory (base + j) (nth b (spare used) (count j (unheld held d base)))) []
+  copyPlanOf j = cond (unheld held d base j) (cellPlan memory (base + j) (lowestFree b (unmarked used) (unheld held d base) j)) []
 
   pub copy-bytes : (k : ℕ) → k ≡ 0 → copyBytes b memory held used d base n k ≡ gather n copyPlanOf
   unfolding copyBytes
@@ -113,32 +79,33 @@ module _ (b : ℕ) (memory held used : List ℕ) (d base n : ℕ) where
   unfolding copyBytes
   copy-none k z = rw (ne-eqb k 0 z) (gather-none n (λ j. []) (λ j l. refl))
 
-  module _ (room : count n (unheld held d base) ≤ count b (spare used)) (j from : ℕ) (l : j < n) (low : from ≤ b)
-      (passed : count from (spare used) ≡ count j (unheld held d base)) where
-    left : unheld held d base j ≡ true → count j (unheld held d base) < count b (spare used)
+  module _ (room : count n (unheld held d base) ≤ count b (unmarked used)) (j from : ℕ) (l : j < n) (low : from ≤ b)
+      (passed : count from (unmarked used) ≡ count j (unheld held d base)) where
+    left : unheld held d base j ≡ true → count j (unheld held d base) < count b (unmarked used)
     left h = omega (arith, count-below (unheld held d base) j n l h)
 
     -- there is a body for a new cell
     pub copy-room : unheld held d base j ≡ true → unmarkedFrom b used from < b
-    copy-room h = body-below used b from (count j (unheld held d base)) low passed (left h)
+    copy-room h = unmarked-below used b from (count j (unheld held d base)) low passed (left h)
 
     pub copy-plan : cond (unheld held d base j) (cellPlan memory (base + j) (unmarkedFrom b used from)) [] ≡ copyPlanOf j
-    copy-plan = rw (body-at used b from (count j (unheld held d base)) low passed)
+    unfolding lowestFree
+    copy-plan = rw (unmarked-nth used b from (count j (unheld held d base)) low passed)
 
     pub copy-length : 64 * cond (unheld held d base j) 1 0 ≡ length (copyPlanOf j)
     copy-length =
         by-bool (unheld held d base j)
-        (λ h. rw h (sym (length-cellPlan memory (base + j) (nth b (spare used) (count j (unheld held d base))))))
+        (λ h. rw h (sym (length-cellPlan memory (base + j) (lowestFree b (unmarked used) (unheld held d base) j))))
         (λ h. rw h)
 
     pub copy-next : (r : ℕ) → r ≡ cond (unheld held d base j) (unmarkedFrom b used from + 1) from
-        → (r ≤ b) × (count r (spare used) ≡ count (j + 1) (unheld held d base))
+        → (r ≤ b) × (count r (unmarked used) ≡ count (j + 1) (unheld held d base))
     copy-next r q =
         by-bool (unheld held d base j)
         (λ h.
         let e : r ≡ unmarkedFrom b used from + 1 = q ∙ rw h in (
           rw e (omega (arith, copy-room h)),
-          rw (e, body-passed used b from (count j (unheld held d base)) low passed (left h), count-more j (unheld held d base), h),
+          rw (e, unmarked-passed used b from (count j (unheld held d base)) low passed (left h), count-more j (unheld held d base), h),
         ))
         (λ h.
         let e : r ≡ from = q ∙ rw h in
@@ -200,10 +167,10 @@ module _ (held used : List ℕ) (e b : ℕ) (t : List ℕ) (r : Range) where
         cells-here : count (c .at) (unheld held (live t) (r .first)) ≡ rank
         cells-here = s .cells ∙ here
 
-        body-is : bodyBeyond used b (r .kind) (c .from) ≡ cond (eqb (r .kind) 0) (nth b (spare used) rank) 0
+        body-is : bodyBeyond used b (r .kind) (c .from) ≡ cond (eqb (r .kind) 0) (nth b (unmarked used) rank) 0
         body-is =
             by-bool (eqb (r .kind) 0)
-            (λ z. let q = eqb-true (r .kind) 0 z in rw (z, body-at used b (c .from) rank (s .body q) (s .bodies q ∙ here)))
+            (λ z. let q = eqb-true (r .kind) 0 z in rw (z, unmarked-nth used b (c .from) rank (s .body q) (s .bodies q ∙ here)))
             (λ z. rw z)
 
         pub taken-change : listChange held used e b t r i ≡ put (entryWord (live t) (r .kind) (r .label) (r .first + j)) x
@@ -216,21 +183,21 @@ module _ (held used : List ℕ) (e b : ℕ) (t : List ℕ) (r : Range) where
               body ∙ body-is,
             )
 
-        pub taken-stands : (r .kind ≡ 0 → newIn held (live t) r ≤ count b (spare used)) → Stands held used e b t r (i + 1) (record { at = j + 1; from = x + 1 })
+        pub taken-stands : (r .kind ≡ 0 → newIn held (live t) r ≤ count b (unmarked used)) → Stands held used e b t r (i + 1) (record { at = j + 1; from = x + 1 })
         taken-stands room =
             let step : min (count (i + 1) (slotFree e t)) (newIn held (live t) r) ≡ rank + 1 = omega (arith, rank-next, ranked) in
             record {
               cell = omega (arith, more);
               cells = rw found (cell-passed held (live t) (r .first) (r .count) (c .at) rank (s .cell) cells-here ranked ∙ sym step);
-              body = λ z. rw (body, eq-eqb (r .kind) 0 z) (omega (arith, body-below used b (c .from) rank (s .body z) (s .bodies z ∙ here) (omega (arith, room z, ranked))));
-              bodies = λ z. rw (body, eq-eqb (r .kind) 0 z) (body-passed used b (c .from) rank (s .body z) (s .bodies z ∙ here) (omega (arith, room z, ranked)) ∙ sym step);
+              body = λ z. rw (body, eq-eqb (r .kind) 0 z) (omega (arith, unmarked-below used b (c .from) rank (s .body z) (s .bodies z ∙ here) (omega (arith, room z, ranked))));
+              bodies = λ z. rw (body, eq-eqb (r .kind) 0 z) (unmarked-passed used b (c .from) rank (s .body z) (s .bodies z ∙ here) (omega (arith, room z, ranked)) ∙ sym step);
             }
 
 -- ---- right marks: the walks' plans are the call's
 
 module _ (held used : List ℕ) (b : ℕ) (t : List ℕ) (r : Range)
     (new : (j : ℕ) → j < r .count → unheld held (live t) (r .first) j ≡ isNew (slotsOf (length t)) t (r .first) j)
-    (free : (x : ℕ) → x < b → spare used x ≡ bodyFree (slotsOf (length t)) t x) where
+    (free : (x : ℕ) → x < b → unmarked used x ≡ bodyFree (slotsOf (length t)) t x) where
   same-count : (j : ℕ) → j ≤ r .count → count j (unheld held (live t) (r .first)) ≡ count j (isNew (slotsOf (length t)) t (r .first))
   same-count j h = count-ext j (unheld held (live t) (r .first)) (isNew (slotsOf (length t)) t (r .first)) (λ i l. new i (omega arith))
 
@@ -238,7 +205,7 @@ module _ (held used : List ℕ) (b : ℕ) (t : List ℕ) (r : Range)
   unfolding copyBytes addBytes
   bytes-are memory =
       gather-ext (r .count) _ _ (λ j l.
-      rw (new j l, same-count j (omega arith), nth-ext b (spare used) (bodyFree (slotsOf (length t)) t) (count j (isNew (slotsOf (length t)) t (r .first))) free))
+      rw (new j l, lowest-ext b (unmarked used) (bodyFree (slotsOf (length t)) t) (unheld held (live t) (r .first)) (isNew (slotsOf (length t)) t (r .first)) j free (λ i h. new i (omega arith))))
 
   pub words-are : entryChanges (slotsOf (length t)) (listChange held used (slotsOf (length t)) b t r) ≡ addWords b t (r .first) (r .count) (r .kind) (r .label)
   unfolding listChange raiseChange addWords addChange
@@ -247,5 +214,5 @@ module _ (held used : List ℕ) (b : ℕ) (t : List ℕ) (r : Range)
       rw (
         same-count (r .count) (omega arith),
         nth-ext (r .count) (unheld held (live t) (r .first)) (isNew (slotsOf (length t)) t (r .first)) (count i (slotFree (slotsOf (length t)) t)) new,
-        nth-ext b (spare used) (bodyFree (slotsOf (length t)) t) (count i (slotFree (slotsOf (length t)) t)) free,
+        nth-ext b (unmarked used) (bodyFree (slotsOf (length t)) t) (count i (slotFree (slotsOf (length t)) t)) free,
       ))

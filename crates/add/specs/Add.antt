@@ -11,7 +11,7 @@ use Rattle.words.specs.Stores.{Store, gather}
 use Rattle.table.specs.Entry.{word1, word2, depthOf, cellOf, writableOf, entryWord, writable, innermost, parent, holdsIn, parentHas}
 use Rattle.table.specs.Changes.{Change, keep, put, entryChanges}
 use Rattle.search.specs.Search.{valueIn}
-use Rattle.search.specs.Free.{slotFree, bodyFree, usedSlots, copies}
+use Rattle.search.specs.Free.{slotFree, bodyFree, usedSlots, copies, lowestFree}
 use Rattle.model.specs.Answer.{ask, orElse, View}
 use Rattle.model.specs.Holdings.{askRange, inRange, addEffect}
 use Rattle.store.specs.Outcome.{Buffers, Call, perform, unless, changePlan}
@@ -34,6 +34,13 @@ addCheck memory bodies t h first n k l =
     || sameCell (valueIn (slotsOf (length t)) t bodies (parent (innermost t)) (first + j)) (cellBytes memory (first + j)))) 12
     (ask (leb (usedSlots (slotsOf (length t)) t + count n (isNew (slotsOf (length t)) t first)) (slotsOf (length t))) 16
     (ask (eqb k 1 || leb (copies (slotsOf (length t)) t + count n (isNew (slotsOf (length t)) t first)) (bodiesOf (length bodies))) 17 0)))))))
+
+-- the slot and the body that the j-th cell of the range takes, where it is newly held: the lowest free ones, in the order of the cells
+abbrev pub slotFor : ℕ → List ℕ → (first : ℕ) → ℕ → ℕ
+slotFor e t first = lowestFree e (slotFree e t) (isNew e t first)
+
+abbrev pub bodyFor : (e b : ℕ) → List ℕ → (first : ℕ) → ℕ → ℕ
+bodyFor e b t first = lowestFree b (bodyFree e t) (isNew e t first)
 
 -- the r-th new cell; the body that it takes, the lowest free bodies first, none for via parent
 abbrev pub newCell : ℕ → List ℕ → (first n r : ℕ) → ℕ
@@ -58,7 +65,7 @@ addWords b t first n k l = entryChanges (slotsOf (length t)) (addChange (slotsOf
 unfoldable pub addBytes : (b : ℕ) → List ℕ → List ℕ → (first n k : ℕ) → List Store
 addBytes b memory t first n k =
     gather n (λ j. cond (eqb k 0 && isNew (slotsOf (length t)) t first j)
-    (cellPlan memory (first + j) (nth b (bodyFree (slotsOf (length t)) t) (count j (isNew (slotsOf (length t)) t first)))) [])
+    (cellPlan memory (first + j) (bodyFor (slotsOf (length t)) b t first j)) [])
 
 unfoldable pub addCall : (h first n k l : ℕ) → Buffers → Call
 addCall h first n k l b =

@@ -1,7 +1,7 @@
 -- Document 01, "What the statements have to decide": "Two things are left free: which entries and bodies a call takes, though each was free before
 -- the call". An add takes an entry slot for each newly held cell, and a body for each that is held by copy: `slot j` and `body j` are those of the
 -- j-th cell of the range. The call made with any such places means the same (proofs/Added); the contract's call takes the lowest free ones,
--- `slotFor` and `bodyFor`.
+-- `slotFor` and `bodyFor` (Add).
 use Prim.Native.Nat.{ℕ, _+_}
 use mathlib.Core.Bool.{cond, _&&_}
 use mathlib.Core.List.{List, []}
@@ -9,13 +9,11 @@ use mathlib.Core.Path.{_≡_}
 use lib.Dec.{ltb, eqb}
 use lib.ListN.{length}
 use Rattle.words.specs.Layout.{bodiesOf, slotsOf, pairsAt}
-use Rattle.words.specs.Scan as scan
-use Rattle.words.specs.Scan.{count, nth}
 use Rattle.words.specs.Cells.{cellPlan}
 use Rattle.words.specs.Stores.{Store, gather}
 use Rattle.table.specs.Entry.{word1, word2, entryWord, innermost}
 use Rattle.table.specs.Changes.{Change, put, entryChanges}
-use Rattle.search.specs.Free.{slotFree, bodyFree, TakesFree}
+use Rattle.search.specs.Free.{slotFree, bodyFree, TakesFree, takerOf}
 use Rattle.store.specs.Outcome.{Buffers, Call, perform, unless, changePlan}
 use Rattle.add.specs.Add.{isNew, addCheck}
 use Rattle.add.specs.Walking.{raiseChange}
@@ -25,22 +23,15 @@ pub record Choice (e b : ℕ) (t : List ℕ) (first n k : ℕ) (slot body : ℕ 
   pub slots : TakesFree n (isNew e t first) e (slotFree e t) slot
   pub bodies : k ≡ 0 → TakesFree n (isNew e t first) b (bodyFree e t) body
 
--- the lowest free ones, in the order of the cells
-unfoldable pub slotFor : ℕ → List ℕ → (first j : ℕ) → ℕ
-slotFor e t first j = nth e (slotFree e t) (count j (isNew e t first))
-
-unfoldable pub bodyFor : (e b : ℕ) → List ℕ → (first j : ℕ) → ℕ
-bodyFor e b t first j = nth b (bodyFree e t) (count j (isNew e t first))
-
 -- the newly held cell of the range that takes slot i, or n
-unfoldable pub takerOf : ℕ → List ℕ → (first n : ℕ) (slot : ℕ → ℕ) → ℕ → ℕ
-takerOf e t first n slot i = scan.first n (λ j. isNew e t first j && eqb (slot j) i)
+abbrev pub cellFor : ℕ → List ℕ → (first n : ℕ) (slot : ℕ → ℕ) → ℕ → ℕ
+cellFor e t first n slot i = takerOf n (isNew e t first) slot i
 
 -- the change of entry i: its slot is taken by a cell, with a body or none; else its label rises, or it stays
 unfoldable pub changeWith : ℕ → List ℕ → (first n k l : ℕ) (slot body : ℕ → ℕ) → ℕ → Change
 changeWith e t first n k l slot body i =
-    cond (ltb (takerOf e t first n slot i) n)
-    (put (entryWord (innermost t) k l (first + takerOf e t first n slot i)) (cond (eqb k 0) (body (takerOf e t first n slot i)) 0))
+    cond (ltb (cellFor e t first n slot i) n)
+    (put (entryWord (innermost t) k l (first + cellFor e t first n slot i)) (cond (eqb k 0) (body (cellFor e t first n slot i)) 0))
     (raiseChange (innermost t) first n l (word1 e t i) (word2 e t i))
 
 abbrev pub wordsWith : List ℕ → (first n k l : ℕ) (slot body : ℕ → ℕ) → List Store

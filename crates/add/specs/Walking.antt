@@ -1,22 +1,21 @@
 -- Add's questions and changes as its code goes through them: over marks, one for each cell and one for each body.
 -- d is the depth of the domain that is added to.
-use Prim.Native.Nat.{ℕ, _+_, _-_, _*_, _≤_, _<_, min}
+use Prim.Native.Nat.{ℕ, _+_, _-_, _≤_, _<_, min}
 use mathlib.Core.Path.{_≡_}
 use mathlib.Core.Bool.{Bool, true, false, cond, not, _&&_, _||_}
 use mathlib.Core.List.{List, []}
 use lib.Dec.{ltb, leb, eqb}
-use lib.ListN.{length, getD, take}
-use Rattle.words.specs.Layout.{cellAt, cellsOf, bodiesOf, slotsOf, pairsAt, tableWords, maxLive, maxSlots, maxCells, maxBodies, maxPairs, cellSize}
+use lib.ListN.{length}
+use Rattle.words.specs.Layout.{cellAt, cellsOf, bodiesOf, slotsOf, pairsAt, tableWords, maxLive, maxSlots, maxCells, maxBodies, cellSize}
 use Rattle.words.specs.Scan as scan
 use Rattle.words.specs.Scan.{all, count, nth}
 use Rattle.words.specs.Cells.{cellBytes, sameCell, cellPlan}
-use Rattle.words.specs.Stores.{Store, stores, gather}
-use Rattle.words.specs.Journal.{journal}
+use Rattle.words.specs.Stores.{Store, gather}
 use Rattle.table.specs.Entry.{live, word1, word2, depthOf, cellOf, writableOf, entryWord, writable, innermost, parent, parentHas}
 use Rattle.table.specs.Marks.{markOf, has, Marked}
 use Rattle.table.specs.Changes.{Change, keep, put, entryChanges}
 use Rattle.search.specs.Search.{sourceIn, valueIn}
-use Rattle.search.specs.Free.{slotFree, usedSlots, copies, unmarkedFrom}
+use Rattle.search.specs.Free.{slotFree, usedSlots, copies, lowestFree, unmarked, unmarkedFrom}
 use Rattle.changes.specs.Staged.{Stages}
 use Rattle.model.specs.Answer.{ask, orElse}
 use Rattle.model.specs.Holdings.{askRange, inRange}
@@ -38,14 +37,10 @@ unheld held d base j = lacks held d (base + j)
 abbrev pub newIn : List ℕ → ℕ → Range → ℕ
 newIn held d r = count (r .count) (unheld held d (r .first))
 
--- has body k no mark?
-abbrev pub spare : List ℕ → ℕ → Bool
-spare used k = not (eqb (getD used k 0) 1)
-
 -- of b bodies every one below `start` has a mark
 pub record NoneBelow (used : List ℕ) (b start : ℕ) : Type 0 where
   pub within : start ≤ b
-  pub none : count start (spare used) ≡ 0
+  pub none : count start (unmarked used) ≡ 0
 
 -- the lowest cell of the range whose mark lacks depth d, from its at-th on, or n
 unfoldable pub nextUnheld : List ℕ → (d base n at : ℕ) → ℕ
@@ -86,11 +81,11 @@ pub record Source (e : ℕ) (t bodies : List ℕ) (d c : ℕ) : Type 0 where
   pub slot : sourceIn e t d c < e
   pub fits : cellAt (word2 e t (sourceIn e t d c)) + cellSize ≤ length bodies
 
--- ---- the bytes: the j-th cell, where it is new, goes into the r-th body without a mark, where r new cells come before it
+-- ---- the bytes: the j-th cell, where it is new, goes into the lowest body without a mark that is left
 
 unfoldable pub copyBytes : (b : ℕ) → List ℕ → List ℕ → List ℕ → (d base n k : ℕ) → List Store
 copyBytes b memory held used d base n k =
-    gather n (λ j. cond (eqb k 0 && unheld held d base j) (cellPlan memory (base + j) (nth b (spare used) (count j (unheld held d base)))) [])
+    gather n (λ j. cond (eqb k 0 && unheld held d base j) (cellPlan memory (base + j) (lowestFree b (unmarked used) (unheld held d base) j)) [])
 
 -- ---- the words
 
@@ -112,7 +107,7 @@ listChange held used e b t r i =
     cond (slotFree e t i)
     (cond (ltb (count i (slotFree e t)) (newIn held (innermost t) r))
     (put (entryWord (innermost t) (r .kind) (r .label) (r .first + nth (r .count) (unheld held (innermost t) (r .first)) (count i (slotFree e t))))
-    (cond (eqb (r .kind) 0) (nth b (spare used) (count i (slotFree e t))) 0)) keep)
+    (cond (eqb (r .kind) 0) (nth b (unmarked used) (count i (slotFree e t))) 0)) keep)
     (raiseChange (innermost t) (r .first) (r .count) (r .label) (word1 e t i) (word2 e t i))
 
 -- ---- the walk over the entries
@@ -128,14 +123,14 @@ pub record Walkable (held used : List ℕ) (e b : ℕ) (t : List ℕ) (r : Range
   pub few : r .first + r .count ≤ maxCells
   pub bodies : b ≤ length used
   pub places : b ≤ maxBodies
-  pub enough : r .kind ≡ 0 → newIn held (innermost t) r ≤ count b (spare used)
+  pub enough : r .kind ≡ 0 → newIn held (innermost t) r ≤ count b (unmarked used)
 
 -- i entries are passed: as many cells and bodies are used as free slots are passed, while there are new cells
 pub record Stands (held used : List ℕ) (e b : ℕ) (t : List ℕ) (r : Range) (i : ℕ) (c : Cursors) : Type 0 where
   pub cell : c .at ≤ r .count
   pub cells : count (c .at) (unheld held (innermost t) (r .first)) ≡ min (count i (slotFree e t)) (newIn held (innermost t) r)
   pub body : r .kind ≡ 0 → c .from ≤ b
-  pub bodies : r .kind ≡ 0 → count (c .from) (spare used) ≡ min (count i (slotFree e t)) (newIn held (innermost t) r)
+  pub bodies : r .kind ≡ 0 → count (c .from) (unmarked used) ≡ min (count i (slotFree e t)) (newIn held (innermost t) r)
 
 -- and their changes are staged
 pub record Walked (held used : List ℕ) (e b : ℕ) (t : List ℕ) (r : Range) (i : ℕ) (c : Cursors) (words bits : List ℕ) : Type 0 where

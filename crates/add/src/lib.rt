@@ -57,14 +57,14 @@ ghost use Rattle.words.specs.Journal.{journal};
 ghost use Rattle.table.specs.Entry.{live, word1, word2, parent};
 ghost use Rattle.table.specs.Marks.{Blank, Marked, AllMarked};
 ghost use Rattle.search.specs.Search.{valueIn};
-ghost use Rattle.search.specs.Free.{unmarkedFrom};
+ghost use Rattle.search.specs.Free.{unmarked, unmarkedFrom};
 ghost use Rattle.changes.specs.Staged.{Stages, Journaled};
 ghost use Rattle.model.specs.Answer.{stepsOf};
 ghost use Rattle.store.specs.Checks.{storeCheck};
 ghost use Rattle.store.specs.Outcome.{buffers, report, Makes};
 ghost use Rattle.store.specs.Means.{Shows};
 ghost use Rattle.add.specs.Add.{addCheck, addCall, addMeans};
-ghost use Rattle.add.specs.Walking.{lacks, newIn, spare, nextUnheld, rangeCheck, parentCheck, roomCheck, heldCheck, backed, alike, Source, copyBytes};
+ghost use Rattle.add.specs.Walking.{lacks, newIn, nextUnheld, rangeCheck, parentCheck, roomCheck, heldCheck, backed, alike, Source, copyBytes};
 ghost use Rattle.add.specs.Walking.{bodyBeyond, rises, raiseChange, listChange, NoneBelow, StagesOn, Walkable, Walked, Stageable, Skips, Ready, bytesOf, wordsOf, callOf};
 ghost use Rattle.add.specs.Walking.{rangeWords};
 
@@ -344,7 +344,7 @@ fn copy_new(
 ) -> usize
     requires { ⌜ (range .first + range .count ≤ length (now held)) × (depth ≤ maxLive) × (range .first + range .count ≤ maxCells)
         × (cellAt (range .first + range .count) ≤ length (now memory)) × (bodiesOf (length (now bodies)) ≤ length (now used)) ⌝ }
-    requires { ⌜ (range .kind ≡ 0 → newIn (now held) depth range ≤ count (bodiesOf (length (now bodies))) (spare (now used))) ⌝ }
+    requires { ⌜ (range .kind ≡ 0 → newIn (now held) depth range ≤ count (bodiesOf (length (now bodies))) (unmarked (now used))) ⌝ }
     requires { ⌜ (range .kind ≡ 0 → NoneBelow (now used) (bodiesOf (length (now bodies))) start) ⌝ }
     ensures bytes { λ _. ⌜ now (bodies .exit) ≡ stores (take budget (copyBytes (bodiesOf (length (now (bodies .entry)))) (now (memory .entry))
         (now (held .entry)) (now (used .entry)) depth (range .first) (range .count) (range .kind))) (now (bodies .entry)) ⌝ }

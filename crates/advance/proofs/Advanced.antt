@@ -2,7 +2,7 @@
 -- different free bodies; the call takes the lowest ones. Assumes nothing.
 use Prim.Native.Nat.{ℕ, suc, _+_, _-_, _*_, _≤_, _<_}
 use mathlib.Core.Bool.{true, not, _||_}
-use mathlib.Core.List.{List, [], _∷_, map}
+use mathlib.Core.List.{List, [], map}
 use mathlib.Core.Option.{Option}
 use mathlib.Core.Path.{_≡_, refl, sym, ap, subst, _∙_}
 use native.Mathlib.Omega.{arith}
@@ -15,16 +15,16 @@ use Rattle.words.specs.Stores.{Store, stores}
 use Rattle.words.specs.Journal.{pending, namesOk, journal}
 use Rattle.words.proofs.Scan.{by-bool, by-le, all-ext, count-ext, count-le}
 use Rattle.words.proofs.Plans.{Each}
+use Rattle.words.proofs.Copies.{copies-length, copies-stored}
 use Rattle.words.proofs.Names.{names-make, names-below}
 use Rattle.words.proofs.Places.{pendingAt-below}
-use Rattle.table.specs.Entry.{live, word2, parent, holdsIn}
+use Rattle.table.specs.Entry.{live, parent, holdsIn}
 use Rattle.table.specs.Changes.{isChanged}
 use Rattle.table.proofs.Rule.{Rule}
 use Rattle.table.proofs.Entries.{changes-count, changes-names}
 use Rattle.search.specs.Domain.{depthNamed}
 use Rattle.search.specs.Free.{copies}
 use Rattle.search.proofs.Domain.{depth-small}
-use Rattle.search.proofs.Value.{Copy}
 use Rattle.model.specs.State.{State}
 use Rattle.model.specs.Answer.{Report, refused, ended, ask, orElse, view, stepsOf, View}
 use Rattle.model.specs.Calls.{viewed, change, orRefuse}
@@ -38,24 +38,17 @@ use Rattle.store.proofs.Outcome.{refuses}
 use Rattle.store.proofs.Domains.{state-named, state-holding, domains-count, held-holds, held-writable}
 use Rattle.store.proofs.InUse.{copies-in-use}
 use Rattle.store.proofs.Means.{by-check, t-long, store-standing}
-use Rattle.store.proofs.Changes.{Spares, change-length, change-performed, change-seen}
+use Rattle.store.proofs.Changes.{Spares, spared, front-spares, copies-spare, change-length, change-performed, change-seen}
 use Rattle.store.proofs.Pending.{performed-pending, call-pending}
 use Rattle.store.proofs.Reopened.{changes-shaped, shape-reopens, unless-reopens}
 use Rattle.store.proofs.Standing.{standing-opens}
 use Rattle.advance.specs.Choice.{Choice, changeWith, bytesWith, wordsWith, advanceWith, MayTake}
 use Rattle.advance.specs.Advance.{advances, advanceCheck, bodyFor, advanceChange, advanceWords, advanceBytes, advanceCall, advanceMeans}
-use Rattle.store.proofs.Raw.{raw-rule, raw-state, raw-next, raw-after, front-copy, front-second}
+use Rattle.store.proofs.Raw.{raw-rule, raw-state, raw-next, raw-after}
 use Rattle.advance.specs.Notes.{performed}
-use Rattle.advance.proofs.Copying.{Outside, cell-kept, copies-length, copies-outside, copies-stored}
-use Rattle.advance.proofs.Turning.{advances-cell, words-count, takes-below, takes-free, takes-own, turned-rule, turned-state}
+use Rattle.advance.proofs.Turning.{advances-cell, words-count, takes-below, takes-own, turned-rule, turned-state}
 use Rattle.advance.proofs.Choosing.{chosen}
 use Rattle.advance.proofs.Noting.{cellsCheck}
-use Rattle.table.proofs.Marks.{owns-make}
-
--- stores that keep out of every body in use spare them
-each-spares : (e : ℕ) (t : List ℕ) (ps : List Store) → ((i : ℕ) → Copy e t i → Each (Outside (word2 e t i)) ps) → Each (Spares e t) ps
-each-spares e t [] h = tt
-each-spares e t (p ∷ ps) h = ((λ i c. h i c .0), each-spares e t ps (λ i c. h i c .1))
 
 -- ---- for any choice of bodies
 
@@ -86,20 +79,15 @@ module _ (memory bodies t : List ℕ) (yes : storeCheck (length memory) (length 
   long : pairsAt e ≤ length t
   long = omega (arith, t-long memory bodies t yes)
 
-  -- the bytes keep out of the bodies in use
-  outside : (i : ℕ) → Copy e t i → Each (Outside (word2 e t i)) bytes
-  outside i c =
-      copies-outside memory (advances e t) body m (word2 e t i)
-      (λ k l goes q. takes-free m e b t ok body choice k goes i (c .slot) (owns-make _ (c .used) (c .copy)) q)
+  -- the bytes spare the bodies in use
+  spares : Each (Spares e t) bytes
+  spares = copies-spare e t memory (advances e t) (λ c. c) body m (choice .was-free)
 
   pub with-spares : Each (Spares (slotsOf (length t)) (take (pairsAt (slotsOf (length t))) t)) bytes
-  with-spares =
-      each-spares e head bytes (λ i c.
-      let old = front-copy e t i c in
-      subst (λ (k : ℕ). Each (Outside k) bytes) (sym (front-second e t i (c .slot))) (outside i old))
+  with-spares = front-spares e t bytes spares
 
   pub with-bytes : length bytes ≡ 64 * count (cellsOf (length memory)) (advances (slotsOf (length t)) t)
-  with-bytes = copies-length memory (advances e t) body m
+  with-bytes = copies-length memory (advances e t) (λ c. c) body m
 
   pub with-words : length words ≡ 2 * count (cellsOf (length memory)) (advances (slotsOf (length t)) t)
   with-words = words-count m e b t ok body low
@@ -123,11 +111,11 @@ module _ (memory bodies t : List ℕ) (yes : storeCheck (length memory) (length 
       let f = shape-facts (length memory) (length bodies) t (store-shape (length memory) (length bodies) t yes) in
       raw-after memory bodies t yes words below (turned-rule m e b t ok long body choice) (stores bytes bodies)
       ∙ turned-state m e b t ok long body choice memory bodies (stores bytes bodies)
-      (λ i c. cell-kept bytes bodies (word2 e t i) (outside i c))
+      (spared e t bytes bodies spares)
       (λ c goes.
       let small : c < m = advances-cell m e b t ok c goes in
       let fits : body c < b = takes-below m e b t ok body choice c goes in
-      copies-stored memory (advances e t) body m c bodies small goes (omega arith) (omega arith) (λ k l other q. takes-own m e b t ok body choice c k goes other q))
+      copies-stored memory (advances e t) (λ c. c) body m c bodies small goes (omega arith) (omega arith) (λ k l other q. takes-own m e b t ok body choice c k goes other q))
       ∙ ap (advance memory) (sym (raw-state memory bodies t yes))
 
   pub with-seen : (k : ℕ) → visibleOf (outcome (perform (changePlan (pairsAt (slotsOf (length t))) bytes words) 0) k (buffers memory bodies t))

@@ -5,7 +5,8 @@ use native.Mathlib.Omega.{arith}
 use Rattle.words.specs.Scan.{count}
 use Rattle.table.proofs.Rule.{Rule}
 use Rattle.search.specs.Free.{bodyFree, copies}
-use Rattle.search.proofs.Free.{bodies-all, lowest-free}
+use Rattle.search.proofs.Free.{bodies-all}
+use Rattle.search.proofs.Taking.{lowest-free}
 use Rattle.advance.specs.Advance.{advances, bodyFor}
 use Rattle.advance.specs.Choice.{Choice}
 
@@ -14,5 +15,4 @@ module _ (m e b : ℕ) (t : List ℕ) (ok : Rule m e b t) (room : copies e t + c
   enough = omega (arith, bodies-all m e b t ok)
 
   pub chosen : Choice m e b t (bodyFor e b t)
-  unfolding bodyFor
   chosen = lowest-free m (advances e t) b (bodyFree e t) enough

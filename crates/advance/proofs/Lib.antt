@@ -1,5 +1,4 @@
 -- Laws that belong to no one function.
-pub mod Copying
 pub mod Turning
 pub mod Choosing
 pub mod Bits

@@ -1,6 +1,6 @@
--- Laws of the list of the entries that advance: it is made in a pass over the entries, and gone through in the order of the cells; each place takes
--- the next free body. Assumes nothing.
-use Prim.Native.Nat.{ℕ, zero, suc, _+_, _*_, _≤_, _<_}
+-- Laws of the list of the entries that advance: it is made in a pass over the entries, and gone through in the order of the cells. Assumes
+-- nothing.
+use Prim.Native.Nat.{ℕ, zero, suc, _+_, _*_, _<_}
 use mathlib.Core.Bool.{Bool, true, cond}
 use mathlib.Core.List.{List, [], _++_, append-nil}
 use mathlib.Core.Path.{_≡_, refl, sym, ap, subst, _∙_}
@@ -13,27 +13,20 @@ use lib.Seq.{getD-set-same, getD-set-other}
 use Rattle.words.specs.Scan.{count, nth}
 use Rattle.words.specs.Stores.{Store, gather}
 use Rattle.words.specs.Cells.{cellPlan}
-use Rattle.words.proofs.Scan.{by-bool, by-le, true≢, count-more}
-use Rattle.words.proofs.Nth.{count-below, nth-below, nth-holds, nth-rank, nth-from}
+use Rattle.words.proofs.Scan.{by-bool, by-le, true≢}
+use Rattle.words.proofs.Nth.{same-rank}
 use Rattle.words.proofs.Plans.{length-cellPlan}
 use Rattle.words.proofs.Gather.{gather-length}
 use Rattle.table.specs.Entry.{live, word1, asCopy}
 use Rattle.table.specs.Marks.{cellIn}
 use Rattle.table.specs.Changes.{keep, put}
 use Rattle.table.proofs.Marks.{split}
-use Rattle.search.specs.Free.{unmarkedFrom}
+use Rattle.search.specs.Free.{unmarked}
 use Rattle.changes.specs.Staged.{isSet, but}
 use Rattle.advance.specs.Advance.{turns}
-use Rattle.advance.specs.Notes.{OwnBits, listSlot, Listed, rankOf, InOrder, unmarked, changeTo}
+use Rattle.advance.specs.Notes.{OwnBits, listSlot, Listed, rankOf, InOrder, changeTo}
 
 -- ---- the list is made
-
--- cells of which f holds have ranks of their own
-rank-apart : (f : ℕ → Bool) (c d : ℕ) → f c ≡ true → f d ≡ true → count c f ≡ count d f → c ≡ d
-rank-apart f c d p q same =
-    by-le c d
-    (λ l. by-le d c (λ h. omega arith) (λ h. absurd (omega (arith, count-below f c d h p))))
-    (λ h. absurd (omega (arith, count-below f d c h q)))
 
 module _ (e : ℕ) (t : List ℕ) (n : ℕ) where
   pub listed-none : (f : ℕ → Bool) (places : List ℕ) → Listed e t n f 0 places
@@ -53,7 +46,7 @@ module _ (e : ℕ) (t : List ℕ) (n : ℕ) where
             (λ p.
             getD-set-other places (count (cellIn e t k) (isSet groups)) (count (cellIn e t i) (isSet groups)) k 0
             (λ q.
-            let one = own .apart i k (omega arith) l z y (rank-apart (isSet groups) (cellIn e t i) (cellIn e t k) (own .here i (omega arith) z) (own .here k l y) q) in
+            let one = own .apart i k (omega arith) l z y (same-rank (isSet groups) (cellIn e t i) (cellIn e t k) (own .here i (omega arith) z) (own .here k l y) q) in
             omega arith)
             ∙ old .place i p z);
       }))
@@ -81,20 +74,6 @@ plans-length memory from to (suc r) =
     let z : 64 * suc r ≡ 64 * r + 64 = omega arith in
     let q : r + 1 ≡ suc r = omega arith in
     z ∙ s ∙ ap (λ (x : ℕ). length (gather x f)) q
-
--- the next body: r bodies without a mark lie before `at`
-module _ (b r at n : ℕ) (used : List ℕ) (here : r < n) (room : n ≤ count b (unmarked used)) (low : at ≤ b) (passed : count at (unmarked used) ≡ r) where
-  pub body-is : unmarkedFrom b used at ≡ nth b (unmarked used) r
-  unfolding unmarkedFrom
-  body-is = sym (nth-from b (unmarked used) r at passed low)
-
-  pub body-low : unmarkedFrom b used at < b
-  body-low = rw body-is (nth-below b (unmarked used) r (omega arith))
-
-  pub body-passed : count (unmarkedFrom b used at + 1) (unmarked used) ≡ r + 1
-  body-passed =
-      rw body-is
-      (rw (count-more, nth-holds b (unmarked used) r (omega arith), nth-rank b (unmarked used) r (omega arith)))
 
 -- ---- what is staged on the way
 

@@ -20,14 +20,14 @@ use Rattle.table.proofs.Entry.{find-hit, holds-found}
 use Rattle.table.proofs.Rule.{Rule}
 use Rattle.table.proofs.Single.{only-one}
 use Rattle.table.proofs.Marks.{marked-holds}
-use Rattle.search.specs.Free.{isCopy, bodyUsed, bodyFree, copies}
+use Rattle.search.specs.Free.{isCopy, bodyFree, copies, lowestFree, unmarked}
 use Rattle.search.proofs.From.{count-stop}
 use Rattle.search.proofs.Counts.{count-entries}
-use Rattle.search.proofs.Free.{body-used, body-user}
+use Rattle.search.proofs.Free.{unmarked-free}
 use Rattle.changes.specs.Staged.{isSet}
 use Rattle.model.specs.Answer.{ask}
-use Rattle.advance.specs.Advance.{advances, bodyFor, advanceChange, advanceBytes, turns}
-use Rattle.advance.specs.Notes.{FreeFrom, entriesCheck, Turned, OwnBits, Listed, rankOf, InOrder, unmarked, changeTo}
+use Rattle.advance.specs.Advance.{advances, advanceChange, advanceBytes, turns}
+use Rattle.advance.specs.Notes.{FreeFrom, entriesCheck, Turned, OwnBits, Listed, rankOf, InOrder, changeTo}
 use Rattle.advance.specs.Choice.{turnsAt}
 use Rattle.advance.proofs.Turning.{advances-of, advances-cell}
 use Rattle.advance.proofs.Choosing.{enough}
@@ -209,22 +209,10 @@ module _ (m e b : ℕ) (t : List ℕ) (ok : Rule m e b t) where
   listed-inside n places list r l =
       advances-cell m e b t ok (cellIn e t (getD places r 0)) (advances-of m e b t ok (getD places r 0) (list .slot r l) (list .goes r l))
 
--- ---- the bodies
-
-unmarked-body : (e : ℕ) (t used : List ℕ) → Marks (IsCopy e t) (word2 e t) 1 e used → (k : ℕ) → unmarked used k ≡ bodyFree e t k
-unmarked-body e t used m k =
-    ap not
-    (by-bool (bodyUsed e t k)
-    (λ p.
-    let f = body-user e t k p in
-    is-true (eqb (getD used k 0) 1) (λ z. m .clear k (eqb-false _ _ z) (f .0) (f .1) (f .2) (f .3)) ∙ sym p)
-    (λ p.
-    is-false (eqb (getD used k 0) 1) (λ z. let f = m .found k (eqb-true _ _ z) in true≢ (body-used e t k (f .0) (f .1) (f .2) (f .3)) p) ∙ sym p))
-
--- there is one for each cell that advances
+-- ---- the bodies: there is one for each cell that advances
 pub room-unmarked : (m e b : ℕ) (t used : List ℕ) → Rule m e b t → copies e t + count m (advances e t) ≤ b → Marks (IsCopy e t) (word2 e t) 1 e used → count m (advances e t) ≤ count b (unmarked used)
 room-unmarked m e b t used ok room marks =
-    let y = count-ext b (unmarked used) (bodyFree e t) (λ k h. unmarked-body e t used marks k) in
+    let y = count-ext b (unmarked used) (bodyFree e t) (λ k h. unmarked-free e t used marks k) in
     let z = enough m e b t ok room in
     omega arith
 
@@ -237,11 +225,11 @@ module _ (m b n : ℕ) (t used places : List ℕ) (ok : Rule m (slotsOf (length 
   e = slotsOf (length t)
 
   nth-free : (r : ℕ) → nth b (unmarked used) r ≡ nth b (bodyFree e t) r
-  nth-free r = nth-ext b (unmarked used) (bodyFree e t) r (λ k h. unmarked-body e t used marks k)
+  nth-free r = nth-ext b (unmarked used) (bodyFree e t) r (λ k h. unmarked-free e t used marks k)
 
   pub listed-bytes : (memory : List ℕ) → InOrder (slotsOf (length t)) t n places
       → gather n (λ r. cellPlan memory (cellIn (slotsOf (length t)) t (getD places r 0)) (nth b (unmarked used) r)) ≡ advanceBytes m b memory t
-  unfolding advanceBytes bodyFor
+  unfolding advanceBytes lowestFree
   listed-bytes memory list =
       ap (λ (x : ℕ). gather x (λ r. cellPlan memory (cellIn e t (getD places r 0)) (nth b (unmarked used) r))) number
       ∙ gather-listed (advances e t) (λ c r. cellPlan memory c (nth b (unmarked used) r)) (λ r. cellIn e t (getD places r 0)) m listed-cell
@@ -256,7 +244,7 @@ module _ (m b n : ℕ) (t used places : List ℕ) (ok : Rule m (slotsOf (length 
 
   -- once all are staged, the changes are the call's
   pub change-all : (i : ℕ) → i < slotsOf (length t) → changeTo (slotsOf (length t)) b t used n i ≡ advanceChange (slotsOf (length t)) b t i
-  unfolding changeTo advanceChange bodyFor
+  unfolding changeTo advanceChange lowestFree
   change-all i l =
       by-bool (turnsAt e t i)
       (λ z.

@@ -14,6 +14,7 @@ use Rattle.table.specs.Marks.{cellIn}
 use Rattle.table.specs.Changes.{entryChanges}
 use Rattle.table.proofs.Checks.{Lengths}
 use Rattle.table.proofs.Rule.{Rule}
+use Rattle.search.specs.Free.{unmarked}
 use Rattle.changes.specs.Staged.{isSet, staged, Stages}
 use Rattle.changes.proofs.Staging.{stages-ext, stages-words}
 use Rattle.model.specs.Answer.{Report, ended}
@@ -21,7 +22,7 @@ use Rattle.store.specs.Outcome.{buffers, outcome, leaves}
 use Rattle.store.proofs.Checks.{shape-facts, store-shape}
 use Rattle.store.proofs.Raw.{raw-rule}
 use Rattle.advance.specs.Advance.{advances, advanceWords}
-use Rattle.advance.specs.Notes.{CellBits, Ready, performed, OwnBits, Listed, InOrder, unmarked, changeTo}
+use Rattle.advance.specs.Notes.{CellBits, Ready, performed, OwnBits, Listed, InOrder, changeTo}
 use Rattle.advance.proofs.Listing.{plans-length}
 use Rattle.advance.proofs.Noting.{advances-few, bits-count, own-bits, in-order, listed-inside, room-unmarked, listed-bytes, change-all}
 use Rattle.advance.proofs.Advanced.{advance-performed}

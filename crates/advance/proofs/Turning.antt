@@ -18,14 +18,12 @@ use Rattle.words.specs.Cells.{cellBytes}
 use Rattle.words.proofs.Scan.{by-bool, and-split, and-join, count-ext}
 use Rattle.table.specs.Entry.{live, word1, word2, depthOf, writableOf, cellOf, parent, findIn, holdsIn, asCopy}
 use Rattle.table.specs.Changes.{isChanged, entryChanges}
-use Rattle.table.specs.Marks.{IsCopy}
 use Rattle.table.proofs.Entry.{names-make, find-hit, holds-true, holds-found}
 use Rattle.table.proofs.Made.{copy-made}
 use Rattle.table.proofs.Rule.{Rule, Used}
 use Rattle.table.proofs.Single.{only-one, find-self}
 use Rattle.table.proofs.Entries.{changes-count}
 use Rattle.table.proofs.Head.{all-remain}
-use Rattle.search.proofs.Free.{body-unused}
 use Rattle.search.proofs.Value.{Copy}
 use Rattle.search.proofs.Counts.{count-entries}
 use Rattle.model.specs.State.{Holding}
@@ -84,9 +82,6 @@ module _ (m e b : ℕ) (t : List ℕ) (ok : Rule m e b t) where
 module _ (m e b : ℕ) (t : List ℕ) (ok : Rule m e b t) (body : ℕ → ℕ) (choice : Choice m e b t body) where
   pub takes-below : (c : ℕ) → advances e t c ≡ true → body c < b
   takes-below c h = choice .below c (advances-cell m e b t ok c h) h
-
-  pub takes-free : (c : ℕ) → advances e t c ≡ true → (j : ℕ) → j < e → IsCopy e t j → word2 e t j ≡ body c → ⊥
-  takes-free c h = body-unused e t (body c) (choice .was-free c (advances-cell m e b t ok c h) h)
 
   pub takes-own : (c d : ℕ) → advances e t c ≡ true → advances e t d ≡ true → body c ≡ body d → c ≡ d
   takes-own c d x y = choice .own c d (advances-cell m e b t ok c x) (advances-cell m e b t ok d y) x y

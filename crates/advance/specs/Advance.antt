@@ -5,12 +5,12 @@ use mathlib.Core.List.{List, []}
 use lib.Dec.{leb, eqb}
 use lib.ListN.{length}
 use Rattle.words.specs.Layout.{cellsOf, bodiesOf, slotsOf, pairsAt}
-use Rattle.words.specs.Scan.{all, count, nth}
+use Rattle.words.specs.Scan.{all, count}
 use Rattle.words.specs.Cells.{cellPlan}
 use Rattle.words.specs.Stores.{Store, gather}
 use Rattle.table.specs.Entry.{word1, depthOf, cellOf, writableOf, asCopy, innermost, parent, isOutermost, holdsIn, writesIn}
 use Rattle.table.specs.Changes.{Change, keep, put, entryChanges}
-use Rattle.search.specs.Free.{bodyFree, copies}
+use Rattle.search.specs.Free.{bodyFree, copies, lowestFree}
 use Rattle.model.specs.Answer.{ask, orElse, View}
 use Rattle.model.specs.Holdings.{advanceEffect}
 use Rattle.store.specs.Outcome.{Buffers, Call, perform, unless, changePlan}
@@ -31,8 +31,8 @@ advanceCheck memory bodies t h =
     (ask (leb (copies (slotsOf (length t)) t + count (cellsOf memory) (advances (slotsOf (length t)) t)) (bodiesOf bodies)) 17 0)))
 
 -- the body that the new copy of cell c takes: the lowest free bodies, in the order of the cells
-unfoldable pub bodyFor : (e b : ℕ) → List ℕ → ℕ → ℕ
-bodyFor e b t c = nth b (bodyFree e t) (count c (advances e t))
+abbrev pub bodyFor : (e b : ℕ) → List ℕ → ℕ → ℕ
+bodyFor e b t = lowestFree b (bodyFree e t) (advances e t)
 
 -- an entry with first word w advances where d is the innermost depth: it is of that depth and read-write
 abbrev pub turns : (d w : ℕ) → Bool

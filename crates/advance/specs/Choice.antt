@@ -1,6 +1,6 @@
 -- Document 01, "What the statements have to decide": "Two things are left free: which entries and bodies a call takes, though each was free before
 -- the call". An advance takes bodies: `body c` is the one of the new copy of cell c. The call made with any such bodies means the same
--- (proofs/Chosen); the contract's call takes the lowest free ones, `bodyFor`.
+-- (proofs/Advanced); the contract's call takes the lowest free ones, `bodyFor`.
 use Prim.Native.Nat.{ℕ}
 use mathlib.Core.Bool.{Bool, cond}
 use mathlib.Core.List.{List, []}

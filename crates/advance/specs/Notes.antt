@@ -1,17 +1,17 @@
 -- What the parts of advance's code pass on to each other: which cells advance, as bits; the list of the entries that advance, in the order of
 -- their cells; and what is staged for them.
-use Prim.Native.Nat.{ℕ, _+_, _*_, _/_, _%_, _≤_, _<_}
+use Prim.Native.Nat.{ℕ, _+_, _≤_, _<_}
 use mathlib.Core.Bool.{Bool, true, false, cond, not, _&&_, _||_}
 use mathlib.Core.Path.{_≡_}
 use mathlib.Core.List.{List}
-use lib.Dec.{leb, ltb, eqb}
+use lib.Dec.{leb, ltb}
 use lib.ListN.{length, getD, set}
 use Rattle.words.specs.Layout.{cellsOf, bodiesOf, slotsOf, pairsAt, groupAt, groupOf, inGroup}
 use Rattle.words.specs.Scan.{all, count, nth}
 use Rattle.table.specs.Entry.{live, word1, word2, cellOf, asCopy, innermost, parent, isOutermost, holdsIn}
 use Rattle.table.specs.Marks.{Marks, IsCopy, cellIn}
 use Rattle.table.specs.Changes.{Change, keep, put}
-use Rattle.search.specs.Free.{copies}
+use Rattle.search.specs.Free.{copies, unmarked}
 use Rattle.changes.specs.Staged.{withBit, isSet}
 use Rattle.model.specs.Answer.{ask}
 use Rattle.store.specs.Outcome.{Buffers, Call, perform, changePlan}
@@ -93,10 +93,6 @@ pub record InOrder (e : ℕ) (t : List ℕ) (n : ℕ) (places : List ℕ) : Type
   pub place : (i : ℕ) → i < e → turns (innermost t) (word1 e t i) ≡ true → getD places (rankOf e t i) 0 ≡ i
 
 -- ---- what is staged
-
--- a body that is not marked as in use
-abbrev pub unmarked : List ℕ → ℕ → Bool
-unmarked used k = not (eqb (getD used k 0) 1)
 
 -- the change of entry i once the first r entries of the list are staged: of b bodies, each takes the lowest unmarked one that is left
 unfoldable pub changeTo : (e b : ℕ) → (t used : List ℕ) → (r i : ℕ) → Change

@@ -51,12 +51,12 @@ ghost use Rattle.words.specs.Cells.{cellPlan};
 ghost use Rattle.table.specs.Entry.{live, word1, parent, cellOf, asCopy};
 ghost use Rattle.table.specs.Marks.{Blank, Marked, cellIn, has, markAt, zeros};
 ghost use Rattle.table.specs.Changes.{keep, put};
-ghost use Rattle.search.specs.Free.{copies};
+ghost use Rattle.search.specs.Free.{copies, unmarked};
 ghost use Rattle.changes.specs.Staged.{isSet, Restaged, Stages};
 ghost use Rattle.store.specs.Outcome.{buffers, report, Makes};
 ghost use Rattle.store.specs.Means.{Shows};
 ghost use Rattle.advance.specs.Advance.{advances, advanceCheck, advanceCall, advanceMeans, turns};
-ghost use Rattle.advance.specs.Notes.{FreeFrom, entriesCheck, NoBits, markTurning, Turned, CellBits, Ready, performed, Ends, OwnBits, listSlot, Listed, InOrder, unmarked, changeTo};
+ghost use Rattle.advance.specs.Notes.{FreeFrom, entriesCheck, NoBits, markTurning, Turned, CellBits, Ready, performed, Ends, OwnBits, listSlot, Listed, InOrder, changeTo};
 
 // ---- the entries in use
 

@@ -25,6 +25,7 @@ use Rattle.store.specs.Checks.{openCheck, storeCheck}
 use Rattle.store.specs.State.{StandsFor, slots, effectiveTable, stateOf, standing}
 use Rattle.store.specs.Calls.{makeCall, openCall, openingAfter}
 use Rattle.store.specs.Means.{visibleOf, orRefused, Reopens, makeMeans, openMeans, listMeans, roomOf}
+use Rattle.add.specs.Add as add-calls
 use Rattle.add.specs.Add.{addCall, addMeans}
 use Rattle.add.specs.Choice as adding
 use Rattle.advance.specs.Advance.{advanceCall, bodyFor, advanceMeans}
@@ -192,10 +193,10 @@ pub record Reopened (c : Request) (b left final : Buffers) : Type 0 where
 -- "Two things are left free: which entries and bodies a call takes, though each was free before the call": the lowest free ones, which
 -- the contracts name, and what it is for a call to mean this and to be found after every cut as wholly made or not made
 abbrev pub lowestSlot : (first : ℕ) → Buffers → (j : ℕ) → ℕ
-lowestSlot first b = adding.slotFor (slots b) (b .table) first
+lowestSlot first b = add-calls.slotFor (slots b) (b .table) first
 
 abbrev pub lowestBody : (first : ℕ) → Buffers → (j : ℕ) → ℕ
-lowestBody first b = adding.bodyFor (slots b) (bodiesOf (length (b .bodies))) (b .table) first
+lowestBody first b = add-calls.bodyFor (slots b) (bodiesOf (length (b .bodies))) (b .table) first
 
 abbrev pub advanceBody : Buffers → (c : ℕ) → ℕ
 advanceBody b = bodyFor (slots b) (bodiesOf (length (b .bodies))) (b .table)

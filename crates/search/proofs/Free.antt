@@ -1,20 +1,21 @@
--- Free entry slots and free bodies: who has a body, how many are free, and the lowest of them. Assumes nothing.
+-- Free entry slots and free bodies: who has a body, how many are free, and what marks tell of them. Assumes nothing.
 use Prim.Native.Nat.{ℕ, _+_, _≤_, _<_}
-use mathlib.Core.Bool.{Bool, true, not}
+use mathlib.Core.Bool.{true, not}
 use mathlib.Core.List.{List}
-use mathlib.Core.Path.{_≡_, ap}
+use mathlib.Core.Path.{_≡_, sym, ap, _∙_}
 use native.Mathlib.Omega.{arith}
 use borrow.Author.Tests.{eq-eqb, ne-eqb, eqb-true, eqb-false, not-true}
 use lib.Dec.{eqb}
+use lib.ListN.{getD}
 use Rattle.words.specs.Scan.{count, nth}
-use Rattle.words.proofs.Scan.{and-split, and-join, true≢, count-not}
-use Rattle.words.proofs.Nth.{count-below, nth-below, nth-holds, nth-apart, same-rank}
+use Rattle.words.proofs.Scan.{by-bool, and-split, and-join, is-true, is-false, true≢, count-not}
 use Rattle.words.proofs.Image.{meets, meets-make, meets-some, count-image}
 use Rattle.table.specs.Entry.{word1, word2, viaOf}
-use Rattle.table.specs.Marks.{IsCopy}
+use Rattle.table.specs.Marks.{Marks, IsCopy}
 use Rattle.table.proofs.Rule.{Rule}
-use Rattle.search.specs.Free.{slotFree, isCopy, bodyUsed, bodyFree, usedSlots, copies, TakesFree}
+use Rattle.search.specs.Free.{slotFree, isCopy, bodyUsed, bodyFree, usedSlots, copies, unmarked, unmarkedFrom}
 use Rattle.table.proofs.Marks.{owns-facts}
+use Rattle.search.proofs.From.{next-nth, next-below, next-passed}
 
 -- ---- free slots: an entry is in use or its slot is free
 pub slots-all : (e : ℕ) (t : List ℕ) → usedSlots e t + count e (slotFree e t) ≡ e
@@ -49,17 +50,27 @@ bodies-all m e b t ok =
     }) in
     omega (arith, own, count-not b (bodyUsed e t))
 
--- ---- the lowest free places
+-- ---- marks of the bodies in use
 
--- where there are enough, the r-th that wants one takes the r-th that is free
-pub lowest-free : (n : ℕ) (wants : ℕ → Bool) (high : ℕ) (free : ℕ → Bool) → count n wants ≤ count high free
-    → TakesFree n wants high free (λ j. nth high free (count j wants))
-lowest-free n wants high free enough =
-    record {
-      below = λ j l h. nth-below high free (count j wants) (rank j l h);
-      was-free = λ j l h. nth-holds high free (count j wants) (rank j l h);
-      own = λ i j li lj x y q. same-rank wants i j x y (nth-apart high free (count i wants) (count j wants) (rank i li x) (rank j lj y) q);
-    }
-  where
-    rank : (j : ℕ) → j < n → wants j ≡ true → count j wants < count high free
-    rank j l h = omega (arith, count-below wants j n l h)
+-- they tell which are free
+pub unmarked-free : (e : ℕ) (t used : List ℕ) → Marks (IsCopy e t) (word2 e t) 1 e used → (k : ℕ) → unmarked used k ≡ bodyFree e t k
+unmarked-free e t used m k =
+    ap not
+    (by-bool (bodyUsed e t k)
+    (λ p. let f = body-user e t k p in is-true (eqb (getD used k 0) 1) (λ z. m .clear k (eqb-false _ _ z) (f .0) (f .1) (f .2) (f .3)) ∙ sym p)
+    (λ p. is-false (eqb (getD used k 0) 1) (λ z. let f = m .found k (eqb-true _ _ z) in true≢ (body-used e t k (f .0) (f .1) (f .2) (f .3)) p) ∙ sym p))
+
+-- a walk over the bodies without a mark, r of which it has passed
+module _ (used : List ℕ) (b from r : ℕ) (low : from ≤ b) (passed : count from (unmarked used) ≡ r) where
+  pub unmarked-nth : unmarkedFrom b used from ≡ nth b (unmarked used) r
+  unfolding unmarkedFrom
+  unmarked-nth = next-nth (unmarked used) b from r low passed
+
+  module _ (left : r < count b (unmarked used)) where
+    pub unmarked-below : unmarkedFrom b used from < b
+    unfolding unmarkedFrom
+    unmarked-below = next-below (unmarked used) b from r low passed left
+
+    pub unmarked-passed : count (unmarkedFrom b used from + 1) (unmarked used) ≡ r + 1
+    unfolding unmarkedFrom
+    unmarked-passed = next-passed (unmarked used) b from r low passed left

@@ -2,14 +2,14 @@
 -- Assumes nothing.
 use Prim.Native.Nat.{ℕ, zero, suc, _+_, _-_, _≤_, _<_}
 use mathlib.Core.Bool.{Bool, true, false}
-use mathlib.Core.Path.{_≡_, sym, ap, subst}
+use mathlib.Core.Path.{_≡_, sym, ap, subst, _∙_}
 use native.Mathlib.Omega.{arith}
 use borrow.Author.Tests.{eqb-true, eqb-false, ltb-true, ltb-false}
 use lib.Dec.{ltb, eqb}
 use mir.Val.{boolByte}
-use Rattle.words.specs.Scan.{first, count}
-use Rattle.words.proofs.Scan.{first-at, first-le, first-hit, first-miss, by-bool, by-le}
-use Rattle.words.proofs.Scan.{count-more}
+use Rattle.words.specs.Scan.{first, count, nth}
+use Rattle.words.proofs.Scan.{first-at, first-le, first-hit, first-miss, by-bool, by-le, count-more}
+use Rattle.words.proofs.Nth.{nth-from, nth-below, nth-holds, nth-rank, count-mono}
 
 abbrev pub firstFrom : ℕ → ℕ → (ℕ → Bool) → ℕ
 firstFrom n from f = from + first (n - from) (λ k. f (from + k))
@@ -102,3 +102,27 @@ module _ (n from : ℕ) (f : ℕ → Bool) where
     where
       never : {a b : ℕ} → a ≡ b → b < a → ⊥
       never q l = omega arith
+
+-- ---- a walk over the numbers that pass a test, r of which it has passed
+
+module _ (f : ℕ → Bool) (n at r : ℕ) (low : at ≤ n) (passed : count at f ≡ r) where
+  -- the next is the r-th
+  pub next-nth : firstFrom n at f ≡ nth n f r
+  next-nth = sym (nth-from n f r at passed low)
+
+  module _ (left : r < count n f) where
+    pub next-below : firstFrom n at f < n
+    next-below = rw next-nth (nth-below n f r left)
+
+    pub next-passed : count (firstFrom n at f + 1) f ≡ r + 1
+    next-passed = rw next-nth (count-more (nth n f r) f ∙ rw (nth-holds n f r left, nth-rank n f r left))
+
+  -- there is one left exactly where one is found
+  pub next-left : firstFrom n at f < n → r < count n f
+  next-left h = omega (arith, from-passed n at f h, count-mono f (suc (firstFrom n at f)) n h)
+
+  pub next-none : n ≤ firstFrom n at f → count n f ≤ r
+  next-none h = by-le (count n f) r (λ l. l) (λ l. absurd (above (from-left n at f low (omega arith)) h))
+    where
+      above : {a b : ℕ} → a < b → b ≤ a → ⊥
+      above p q = omega arith

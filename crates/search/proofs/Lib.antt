@@ -5,6 +5,7 @@ pub mod Holders
 pub mod Value
 pub mod Behind
 pub mod Free
+pub mod Taking
 pub mod Domain
 pub mod Counts
 pub mod Writable

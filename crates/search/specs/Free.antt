@@ -5,7 +5,7 @@ use mathlib.Core.List.{List}
 use mathlib.Core.Path.{_≡_}
 use lib.Dec.{ltb, eqb}
 use lib.ListN.{getD}
-use Rattle.words.specs.Scan.{first, count}
+use Rattle.words.specs.Scan.{first, count, nth}
 use Rattle.table.specs.Entry.{word1, word2, ownsBody}
 
 -- an entry's first word is 0 when it is free
@@ -36,6 +36,18 @@ pub record TakesFree (n : ℕ) (wants : ℕ → Bool) (high : ℕ) (free : ℕ �
   pub was-free : (j : ℕ) → j < n → wants j ≡ true → free (place j) ≡ true
   pub own : (i j : ℕ) → i < n → j < n → wants i ≡ true → wants j ≡ true → place i ≡ place j → i ≡ j
 
--- of b bodies, the lowest from `from` on that has not the mark 1 of a body in use, or b
+-- the lowest of them, in order: the number j, if it wants one, takes the free place before which as many are free as numbers before j want one
+unfoldable pub lowestFree : (high : ℕ) (free wants : ℕ → Bool) → ℕ → ℕ
+lowestFree high free wants j = nth high free (count j wants)
+
+-- the number below n that takes place i, or n
+unfoldable pub takerOf : (n : ℕ) (wants : ℕ → Bool) (place : ℕ → ℕ) → ℕ → ℕ
+takerOf n wants place i = first n (λ j. wants j && eqb (place j) i)
+
+-- body k has not the mark 1 of a body in use
+abbrev pub unmarked : List ℕ → ℕ → Bool
+unmarked used k = not (eqb (getD used k 0) 1)
+
+-- of b bodies, the lowest such from `from` on, or b
 unfoldable pub unmarkedFrom : ℕ → List ℕ → ℕ → ℕ
-unmarkedFrom b used from = from + first (b - from) (λ k. not (eqb (getD used (from + k) 0) 1))
+unmarkedFrom b used from = from + first (b - from) (λ k. unmarked used (from + k))

@@ -2,10 +2,10 @@
 -- named by pairs and leave a right table, and the state of that table.
 -- Assumes nothing.
 use Prim.Native.Nat.{ℕ, _+_, _-_, _*_, _≤_, _<_}
-use mathlib.Core.Bool.{true, cond}
+use mathlib.Core.Bool.{Bool, true, cond}
 use mathlib.Core.List.{List, [], _∷_, map}
 use mathlib.Core.Option.{some}
-use mathlib.Core.Path.{_≡_, refl, sym, ap, ap₂, _∙_}
+use mathlib.Core.Path.{_≡_, refl, sym, ap, ap₂, subst, _∙_}
 use native.Mathlib.Nat.{zero-add}
 use native.Mathlib.Omega.{arith}
 use borrow.Author.Tests.{eq-eqb, ne-eqb, lt-ltb, le-ltb}
@@ -13,16 +13,19 @@ use lib.Dec.{ltb}
 use lib.ListN.{length, take, length-append, length-map}
 use lib.Seq.{take-all}
 use Rattle.words.specs.Layout.{cellsOf, bodiesOf, slotsOf, pairsAt, maxPairs}
-use Rattle.words.specs.Stores.{Store, store, stores}
+use Rattle.words.specs.Stores.{Store, store, stores, gather}
 use Rattle.words.specs.Journal.{pending, namesOk, effective, journal}
 use Rattle.words.specs.Cells.{cellBytes}
 use Rattle.words.proofs.Scan.{by-le}
 use Rattle.words.proofs.Plans.{Each, each-take, length-stores, stores-none, each-map, run-take-append, take-map}
 use Rattle.words.proofs.Cells.{Outside, cell-kept}
+use Rattle.words.proofs.Copies.{copyOf, copies-outside}
 use Rattle.words.proofs.Pairs.{length-journal, journal-some, journal-none}
 use Rattle.words.proofs.Journal as law
 use Rattle.table.specs.Entry.{word2}
 use Rattle.table.proofs.Rule.{Rule}
+use Rattle.search.specs.Free.{bodyFree}
+use Rattle.search.proofs.Free.{body-unused}
 use Rattle.search.proofs.Value.{Copy}
 use Rattle.model.specs.State.{State}
 use Rattle.model.specs.Answer.{Report, ended, stepsOf}
@@ -35,6 +38,8 @@ use Rattle.store.proofs.Outcome.{steps-inTable}
 use Rattle.store.proofs.State.{state-kept}
 use Rattle.store.proofs.Cuts.{stands-open, cut, cut-effective, cut-opens}
 use Rattle.store.proofs.Means.{visibleOf, store-effective, store-rule, store-state, t-long}
+use Rattle.table.proofs.Marks.{owns-make}
+use Rattle.store.proofs.Raw.{front-copy, front-second}
 
 -- ---- bytes, then words, under one budget
 
@@ -89,6 +94,23 @@ Spares e t s = (i : ℕ) → Copy e t i → Outside (word2 e t i) s
 pub spared : (e : ℕ) (t : List ℕ) (bytes : List Store) (bodies : List ℕ) → Each (Spares e t) bytes → (i : ℕ) → Copy e t i
     → cellBytes (stores bytes bodies) (word2 e t i) ≡ cellBytes bodies (word2 e t i)
 spared e t bytes bodies free i c = cell-kept bytes bodies (word2 e t i) (each-map (Spares e t) (Outside (word2 e t i)) bytes (λ s f. f i c) free)
+
+-- the words in front of the pairs tell which they are
+pub front-spares : (e : ℕ) (t : List ℕ) (bytes : List Store) → Each (Spares e t) bytes → Each (Spares e (take (pairsAt e) t)) bytes
+front-spares e t bytes free =
+    each-map (Spares e t) (Spares e (take (pairsAt e) t)) bytes
+    (λ s f i c. subst (λ (k : ℕ). Outside k s) (sym (front-second e t i (c .slot))) (f i (front-copy e t i c))) free
+
+-- cells copied into free bodies
+each-spares : (e : ℕ) (t : List ℕ) (bytes : List Store) → ((i : ℕ) → Copy e t i → Each (Outside (word2 e t i)) bytes) → Each (Spares e t) bytes
+each-spares e t [] h = tt
+each-spares e t (s ∷ bytes) h = ((λ i c. h i c .0), each-spares e t bytes (λ i c. h i c .1))
+
+pub copies-spare : (e : ℕ) (t memory : List ℕ) (wants : ℕ → Bool) (from to : ℕ → ℕ) (n : ℕ) → ((j : ℕ) → j < n → wants j ≡ true → bodyFree e t (to j) ≡ true)
+    → Each (Spares e t) (gather n (copyOf memory wants from to))
+copies-spare e t memory wants from to n free =
+    each-spares e t (gather n (copyOf memory wants from to)) (λ i c.
+    copies-outside memory wants from to n (word2 e t i) (λ j l w q. body-unused e t (to j) (free j l w) i (c .slot) (owns-make _ (c .used) (c .copy)) q))
 
 -- ---- the call at every budget
 

@@ -12,3 +12,4 @@ pub mod Unread
 pub mod Gather
 pub mod Image
 pub mod Nth
+pub mod Copies

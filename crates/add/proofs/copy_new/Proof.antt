@@ -10,7 +10,8 @@ use Rattle.words.specs.Scan.{count}
 use Rattle.words.specs.Stores.{Store, store, stores, gather}
 use Rattle.words.proofs.Plans.{stores-none, length-stores}
 use Rattle.words.proofs.Gather.{gather-turn, gather-length}
-use Rattle.add.specs.Walking.{unheld, spare}
+use Rattle.search.specs.Free.{unmarked}
+use Rattle.add.specs.Walking.{unheld}
 use Rattle.add.proofs.Asking.{most-one}
 use Rattle.add.proofs.Walks.{copyPlanOf, copy-bytes, copy-none, copy-room, copy-plan, copy-length, copy-next}
 use Rattle.add.proofs.copy_new.Statement.{statement}
@@ -18,7 +19,7 @@ use Rattle.add.proofs.copy_new.Tie as tie
 
 abbrev Inv-loop : tie.InvT-loop
 Inv-loop memory bodies₀ held depth used range start budget made₀ from₀ j₀ bodies made from j =
-    (j ≤ range .count) × (made ≤ 64 * j) × (length bodies ≡ length bodies₀) × (from ≤ bodiesOf (length bodies₀)) × (count from (spare used) ≡ count j (unheld held depth (range .first)))
+    (j ≤ range .count) × (made ≤ 64 * j) × (length bodies ≡ length bodies₀) × (from ≤ bodiesOf (length bodies₀)) × (count from (unmarked used) ≡ count j (unheld held depth (range .first)))
     × (made ≡ length (gather j (copyPlanOf (bodiesOf (length bodies₀)) memory held used depth (range .first) (range .count))))
     × (bodies ≡ stores (take budget (gather j (copyPlanOf (bodiesOf (length bodies₀)) memory held used depth (range .first) (range .count)))) bodies₀)
 

@@ -1,5 +1,5 @@
 -- `advance::copy_listed` meets its contract. The loop's invariant: the bytes of the cells passed are stored, cut at the budget; their entries are staged; and as many unmarked bodies are passed as cells. Assumes nothing.
-use Prim.Native.Nat.{ℕ, _+_, _-_, _*_, _≤_}
+use Prim.Native.Nat.{ℕ, _+_, _-_, _*_, _≤_, _<_}
 use mathlib.Core.List.{List}
 use mathlib.Core.Path.{_≡_, refl, sym, ap, _∙_}
 use native.Mathlib.Omega.{arith}
@@ -12,11 +12,12 @@ use Rattle.words.specs.Cells.{cellPlan}
 use Rattle.words.proofs.Plans.{stores-none}
 use Rattle.words.proofs.Gather.{gather-turn}
 use Rattle.table.specs.Marks.{cellIn}
-use Rattle.search.specs.Free.{unmarkedFrom}
+use Rattle.search.specs.Free.{unmarked, unmarkedFrom}
+use Rattle.search.proofs.Free.{unmarked-nth, unmarked-below, unmarked-passed}
 use Rattle.changes.specs.Staged.{Stages}
 use Rattle.changes.proofs.Staging.{stages-skip, stages-ext, stages-but}
-use Rattle.advance.specs.Notes.{unmarked, changeTo}
-use Rattle.advance.proofs.Listing.{plans-length, body-is, body-low, body-passed, change-none, change-more}
+use Rattle.advance.specs.Notes.{changeTo}
+use Rattle.advance.proofs.Listing.{plans-length, change-none, change-more}
 use Rattle.advance.proofs.copy_listed.Statement.{statement}
 use Rattle.advance.proofs.copy_listed.Tie as tie
 
@@ -71,7 +72,7 @@ copy-entry-requires c κs =
     let s = c .before .before .before .before .before .before .before .loop in
     let here = c .before .before .before .before .before .before .loop-test .taken in
     let body = c .before .before .before .before .next-free-body .ensures ∙ ap (λ (x : ℕ). unmarkedFrom x (a .used .now) (s .at)) (c .before .before .before .before .before .before .before .before .cells-of .ensures) in
-    let low = body-low (bodiesOf (length (a .bodies .now))) (s .r) (s .at) (a .n) (a .used .now) here (c .before .before .before .before .before .before .before .before .before .before .before .before .before .before .before .before .pre .1 .0 .2) (s .inv .1) (s .inv .2) in
+    let low = unmarked-below (a .used .now) (bodiesOf (length (a .bodies .now))) (s .at) (s .r) (s .inv .1) (s .inv .2) (omega (arith, here, c .before .before .before .before .before .before .before .before .before .before .before .before .before .before .before .before .pre .1 .0 .2)) in
     let list = c .before .before .before .before .before .before .before .before .before .before .before .before .before .before .before .before .pre .1 .1 .0 in (
       (list .0 .slot (s .r) here, c .before .before .before .before .before .before .before .before .before .before .before .before .before .before .before .before .pre .0 .0, c .before .before .before .before .before .before .before .before .before .before .before .before .before .before .before .before .pre .0 .1),
       ((list .1 (s .r) here, omega (arith, low, body, s .inv .3), omega (arith, low, body, c .before .before .before .before .before .before .before .before .before .before .before .before .before .before .before .before .pre .1 .0 .0)), (omega (arith, s .inv .4, c .before .before .before .before .before .before .before .before .before .before .before .before .before .before .before .before .pre .1 .1 .1 .0), omega (arith, s .inv .5, c .before .before .before .before .before .before .before .before .before .before .before .before .before .before .before .before .pre .1 .1 .1 .0))),
@@ -82,7 +83,7 @@ add-at c =
     let a = c .before .before .before .before .before .before .before .before .before .before .before .before .before .before .before .before .before .before .before .before .before .before .before .args in
     let s = c .before .before .before .before .before .before .before .before .before .before .before .before .before .before .loop in
     let body = c .before .before .before .before .before .before .before .before .before .before .before .next-free-body .ensures ∙ ap (λ (x : ℕ). unmarkedFrom x (a .used .now) (s .at)) (c .before .before .before .before .before .before .before .before .before .before .before .before .before .before .before .cells-of .ensures) in
-    let low = body-low (bodiesOf (length (a .bodies .now))) (s .r) (s .at) (a .n) (a .used .now) (c .before .before .before .before .before .before .before .before .before .before .before .before .before .loop-test .taken) (c .before .before .before .before .before .before .before .before .before .before .before .before .before .before .before .before .before .before .before .before .before .before .before .pre .1 .0 .2) (s .inv .1) (s .inv .2) in
+    let low = unmarked-below (a .used .now) (bodiesOf (length (a .bodies .now))) (s .at) (s .r) (s .inv .1) (s .inv .2) (omega (arith, c .before .before .before .before .before .before .before .before .before .before .before .before .before .loop-test .taken, c .before .before .before .before .before .before .before .before .before .before .before .before .before .before .before .before .before .before .before .before .before .before .before .pre .1 .0 .2)) in
     omega (arith, low, body, c .before .before .before .before .before .before .before .before .before .before .before .before .before .before .before .before .before .before .before .before .before .before .before .pre .1 .0 .0)
 
 add-r : tie.Need-add-r Inv-loop μ-loop
@@ -100,15 +101,16 @@ loop-again c =
     let u = a .used .now in
     let list = c .before .before .before .before .before .before .before .before .before .before .before .before .before .before .before .before .before .before .before .before .before .before .before .pre .1 .1 .0 .0 in
     let body = c .before .before .before .before .before .before .before .before .before .before .before .next-free-body .ensures ∙ ap (λ (x : ℕ). unmarkedFrom x u (s .at)) (c .before .before .before .before .before .before .before .before .before .before .before .before .before .before .before .cells-of .ensures) in
-    let low = body-low b (s .r) (s .at) (a .n) u here (c .before .before .before .before .before .before .before .before .before .before .before .before .before .before .before .before .before .before .before .before .before .before .before .pre .1 .0 .2) (s .inv .1) (s .inv .2) in
-    let is = body ∙ body-is b (s .r) (s .at) (a .n) u here (c .before .before .before .before .before .before .before .before .before .before .before .before .before .before .before .before .before .before .before .before .before .before .before .pre .1 .0 .2) (s .inv .1) (s .inv .2) in
+    let left : s .r < count b (unmarked u) = omega (arith, here, c .before .before .before .before .before .before .before .before .before .before .before .before .before .before .before .before .before .before .before .before .before .before .before .pre .1 .0 .2) in
+    let low = unmarked-below u b (s .at) (s .r) (s .inv .1) (s .inv .2) left in
+    let is = body ∙ unmarked-nth u b (s .at) (s .r) (s .inv .1) (s .inv .2) in
     let from : ℕ → ℕ = λ k. cellIn (a .slots) (a .table .now) (getD (a .places .now) k 0) in
     let plan : ℕ → List Store = λ k. cellPlan (a .memory .now) (from k) (nth b (unmarked u) k) in
     let copied = rw (c .before .before .before .before .before .before .before .before .before .before .remaining .ensures, is) at (c .before .before .before .before .before .before .copy-entry .ensures .0) in
     let staged = rw is at (c .before .before .before .before .before .before .copy-entry .ensures .1) in (
       omega (arith, here),
       omega (arith, low, body),
-      ap (λ (x : ℕ). count (x + 1) (unmarked u)) body ∙ body-passed b (s .r) (s .at) (a .n) u here (c .before .before .before .before .before .before .before .before .before .before .before .before .before .before .before .before .before .before .before .before .before .before .before .pre .1 .0 .2) (s .inv .1) (s .inv .2),
+      ap (λ (x : ℕ). count (x + 1) (unmarked u)) body ∙ unmarked-passed u b (s .at) (s .r) (s .inv .1) (s .inv .2) left,
       c .before .before .before .before .before .before .copy-entry .kept .1 .0 ∙ s .inv .3,
       c .before .before .before .before .before .before .copy-entry .kept .1 .1 .1 .1 .1 .1 .0 ∙ s .inv .4,
       c .before .before .before .before .before .before .copy-entry .kept .1 .1 .1 .1 .1 .1 .1 .0 ∙ s .inv .5,

@@ -4,16 +4,14 @@ use mathlib.Core.Path.{sym, ap}
 use mathlib.Core.Bool.{not}
 use borrow.Author.Needs.{needs}
 use borrow.Author.Tests.{eq-eqb, ne-eqb}
-use lib.ListN.{getD}
-use lib.Dec.{eqb}
 use Rattle.words.proofs.Scan.{not-lt}
-use Rattle.search.specs.Free.{unmarkedFrom}
+use Rattle.search.specs.Free.{unmarked, unmarkedFrom}
 use Rattle.search.proofs.From.{Failing, failing-none, failing-more, from-at}
 use Rattle.search.proofs.next_free_body.Statement.{statement}
 use Rattle.search.proofs.next_free_body.Tie as tie
 
 abbrev Inv-loop : tie.InvT-loop
-Inv-loop used bodies from k₀ k = (from ≤ k) × (k ≤ bodies) × Failing (λ j. not (eqb (getD used j 0) 1)) from k
+Inv-loop used bodies from k₀ k = (from ≤ k) × (k ≤ bodies) × Failing (unmarked used) from k
 
 abbrev μ-loop : tie.MeasureT-loop
 μ-loop used bodies from k₀ k = bodies - k
@@ -26,7 +24,7 @@ shared-slice-read-if1 c = search needs
 
 returns : tie.Need-returns Inv-loop μ-loop
 unfolding unmarkedFrom
-returns c = sym (from-at _ _ (λ j. not (eqb (getD (c .before .before .before .before .args .used .now) j 0) 1)) (c .before .before .before .loop .k) (c .before .before .before .loop .inv .0) (c .before .before .before .loop .inv .1) (c .before .before .before .loop .inv .2) (λ _. ap not (ne-eqb _ _ (c .if1 .taken))))
+returns c = sym (from-at _ _ (unmarked (c .before .before .before .before .args .used .now)) (c .before .before .before .loop .k) (c .before .before .before .loop .inv .0) (c .before .before .before .loop .inv .1) (c .before .before .before .loop .inv .2) (λ _. ap not (ne-eqb _ _ (c .if1 .taken))))
 
 add-k : tie.Need-add-k Inv-loop μ-loop
 add-k c = search needs
@@ -39,7 +37,7 @@ loop-again c = (search needs, search needs, failing-more _ _ _ (c .before .befor
 
 returns-2 : tie.Need-returns-2 Inv-loop μ-loop
 unfolding unmarkedFrom
-returns-2 c = sym (from-at _ _ (λ j. not (eqb (getD (c .before .before .args .used .now) j 0) 1)) (c .before .loop .k) (c .before .loop .inv .0) (c .before .loop .inv .1) (c .before .loop .inv .2) (λ l. absurd (not-lt _ _ l (c .loop-test .left))))
+returns-2 c = sym (from-at _ _ (unmarked (c .before .before .args .used .now)) (c .before .loop .k) (c .before .loop .inv .0) (c .before .loop .inv .1) (c .before .loop .inv .2) (λ l. absurd (not-lt _ _ l (c .loop-test .left))))
 
 pub next-free-body-spec : {M : Type 1} → statement M
 next-free-body-spec =
