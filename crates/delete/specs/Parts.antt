@@ -1,13 +1,7 @@
 -- What delete's code asks of an entry, and what it leaves of a table.
 use Prim.Native.Nat.{ℕ}
 use mathlib.Core.Bool.{Bool, _&&_}
-use mathlib.Core.List.{List}
-use mathlib.Core.Path.{_≡_}
 use lib.Dec.{eqb}
-use lib.ListN.{length, take}
-use Rattle.words.specs.Layout.{pairsAt}
-use Rattle.words.specs.Stores.{Store, stores}
-use Rattle.words.specs.Journal.{journal}
 use Rattle.table.specs.Entry.{depthOf, cellOf, isVia}
 use Rattle.model.specs.Holdings.{inRange}
 

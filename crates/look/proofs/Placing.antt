@@ -4,7 +4,7 @@ use mathlib.Core.Bool.{true, false}
 use mathlib.Core.List.{List}
 use mathlib.Core.Path.{_≡_, refl, sym, ap, subst, _∙_}
 use native.Mathlib.Omega.{arith}
-use borrow.Author.Tests.{le-leb, lt-leb, leb-true, ltb-true}
+use borrow.Author.Tests.{leb-true, ltb-true}
 use lib.Dec.{ltb}
 use lib.ListN.{length}
 use Rattle.words.specs.Layout.{cellAt, cellsOf, bodiesOf, slotsOf, pairsAt, maxSlots, maxLive}

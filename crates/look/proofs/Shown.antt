@@ -18,7 +18,6 @@ use Rattle.words.proofs.Cells.{cellBytes-length}
 use Rattle.search.specs.Search.{heldFrom, bodyFrom}
 use Rattle.search.specs.Domain.{depthNamed}
 use Rattle.model.specs.State.{State}
-use Rattle.model.specs.Answer.{refused}
 use Rattle.model.specs.Holdings.{named, isHeld, isLive, rangeOk}
 use Rattle.model.specs.Restore.{Looked, cellOfByte, placeInCell, outermost, restoredCell, restoredByte, restoredMemory}
 use Rattle.store.specs.Outcome.{Buffers}

@@ -8,7 +8,6 @@ use mathlib.Core.Path.{_≡_, refl, ap, _∙_, sym}
 use borrow.Author.Tests.{eq-eqb}
 use lib.Dec.{eqb}
 use lib.ListN.{length, getD, take}
-use Rattle.words.specs.Scan.{count}
 use Rattle.words.proofs.Scan.{or-split, count-none}
 use Rattle.words.proofs.Plans.{take-map}
 use Rattle.model.specs.State.{Label}

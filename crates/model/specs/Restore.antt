@@ -10,7 +10,7 @@ use Rattle.words.specs.Scan.{count}
 use Rattle.words.specs.Stores.{tab}
 use Rattle.words.specs.Cells.{cellBytes}
 use Rattle.model.specs.State.{Holding, Domain, State}
-use Rattle.model.specs.Answer.{Report, done, ended, refused, byNumber, View, view, stepsOf}
+use Rattle.model.specs.Answer.{Report, done, refused, byNumber, View}
 use Rattle.model.specs.Calls.{Effect, change, orRefuse, viewedWith}
 use Rattle.model.specs.Holdings.{named, isHeld, valueOr, askLive, askRange, countHeld}
 

@@ -1,7 +1,7 @@
 -- The marks of all entries and the mask of the domains from a depth inwards: in a table that is right, a cell's mark has one of these domains
 -- exactly if somebody from the depth inwards holds it. Assumes nothing.
 use Prim.Native.Nat.{ℕ, zero, suc, _+_, _-_, _*_, _≤_, _<_, _/_, _%_, _^_, min}
-use mathlib.Core.Bool.{Bool, true, false, cond, not, _||_}
+use mathlib.Core.Bool.{Bool, true, false, cond, not}
 use mathlib.Core.List.{List}
 use mathlib.Core.Path.{_≡_, refl, sym, ap, _∙_}
 use native.Mathlib.Omega.{arith}
@@ -14,7 +14,7 @@ use lib.Seq.{getD-take, getD-drop}
 use lib.Pow.{shr-le}
 use Rattle.words.specs.Layout.{maxLive}
 use Rattle.words.specs.Scan.{first, all}
-use Rattle.words.proofs.Scan.{by-bool, by-le, true≢, is-false, first-miss, all-at, or-split}
+use Rattle.words.proofs.Scan.{by-bool, by-le, true≢, is-false, first-miss, all-at}
 use Rattle.table.specs.Entry.{live, word1, holdsIn}
 use Rattle.table.specs.Marks.{has, zeros, Blank, Marked}
 use Rattle.table.proofs.Digits.{halved}

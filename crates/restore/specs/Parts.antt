@@ -1,12 +1,9 @@
 -- Restore's stores by the parts that the code makes one after another.
-use Prim.Native.Nat.{ℕ, _+_, _*_, _≤_}
+use Prim.Native.Nat.{ℕ, _+_}
 use mathlib.Core.Bool.{cond}
 use mathlib.Core.List.{List, [], _∷_, _++_}
-use mathlib.Core.Path.{_≡_}
-use lib.ListN.{length, take}
-use Rattle.words.specs.Layout.{liveAt, pairsAt, maxPairs}
-use Rattle.words.specs.Stores.{Store, _≔_, stores, gather}
-use Rattle.words.specs.Journal.{journal}
+use Rattle.words.specs.Layout.{liveAt}
+use Rattle.words.specs.Stores.{Store, _≔_, gather}
 use Rattle.words.specs.Cells.{cellPlan}
 use Rattle.table.specs.Changes.{entryChanges}
 use Rattle.search.specs.Search.{heldFrom, bodyFrom}

@@ -4,13 +4,13 @@ use mathlib.Core.Bool.{true, not}
 use mathlib.Core.List.{List}
 use mathlib.Core.Path.{_≡_, sym, ap, _∙_}
 use native.Mathlib.Omega.{arith}
-use borrow.Author.Tests.{eq-eqb, ne-eqb, eqb-true, eqb-false, not-true}
+use borrow.Author.Tests.{eqb-true, eqb-false, not-true}
 use lib.Dec.{eqb}
 use lib.ListN.{getD}
 use Rattle.words.specs.Scan.{count, nth}
-use Rattle.words.proofs.Scan.{by-bool, and-split, and-join, is-true, is-false, true≢, count-not}
+use Rattle.words.proofs.Scan.{by-bool, is-true, is-false, true≢, count-not}
 use Rattle.words.proofs.Image.{meets, meets-make, meets-some, count-image}
-use Rattle.table.specs.Entry.{word1, word2, viaOf}
+use Rattle.table.specs.Entry.{word1, word2}
 use Rattle.table.specs.Marks.{Marks, IsCopy}
 use Rattle.table.proofs.Rule.{Rule}
 use Rattle.search.specs.Free.{slotFree, isCopy, bodyUsed, bodyFree, usedSlots, copies, unmarked, unmarkedFrom}

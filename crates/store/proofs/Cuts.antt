@@ -3,7 +3,7 @@
 use Prim.Native.Nat.{ℕ, zero, suc, _+_, _*_, _≤_, _<_}
 use mathlib.Core.Bool.{true, false, cond}
 use mathlib.Core.List.{List, [], _∷_}
-use mathlib.Core.Option.{none, some}
+use mathlib.Core.Option.{some}
 use mathlib.Core.Path.{_≡_, refl, sym, ap, subst, _∙_}
 use native.Mathlib.Omega.{arith}
 use borrow.Author.Tests.{lt-ltb, le-ltb, eq-eqb}
@@ -11,7 +11,7 @@ use lib.Dec.{ltb}
 use lib.ListN.{length, getD, take}
 use Rattle.words.specs.Layout.{cellsOf, bodiesOf, slotsOf, pairsAt, maxPairs, tableWords, pendingAt, bodiesAt, zeroAt}
 use Rattle.words.specs.Stores.{Store, stores}
-use Rattle.words.specs.Journal.{pending, pairs, nameOk, namesOk, effective, openPlan, journaled, journal, openings}
+use Rattle.words.specs.Journal.{pending, pairs, nameOk, namesOk, effective, openPlan, journaled, openings}
 use Rattle.words.proofs.Scan.{by-le, true≢}
 use Rattle.words.proofs.Plans.{Each, each-map}
 use Rattle.words.proofs.Places.{pendingAt-below}

@@ -1,8 +1,8 @@
 -- Make: what every cut of it leaves. Assumes nothing.
-use Prim.Native.Nat.{ℕ, zero, suc, _+_, _-_, _*_, _≤_, _<_}
+use Prim.Native.Nat.{ℕ, zero, suc, _+_, _-_, _≤_, _<_}
 use mathlib.Core.Bool.{true}
 use mathlib.Core.List.{List, [], _∷_}
-use mathlib.Core.Option.{none, some}
+use mathlib.Core.Option.{some}
 use mathlib.Core.Path.{_≡_, refl, sym, ap, subst, _∙_}
 use native.Mathlib.Nat.{not-suc-le-zero}
 use native.Mathlib.Omega.{arith}
@@ -12,7 +12,7 @@ use lib.ListN.{length, getD, set, take, length-set, length-append}
 use lib.Seq.{getD-set-same, getD-set-other, getD-take, take-append-le, take-all}
 use Rattle.words.specs.Layout.{magic, magicAt, cellsAt, slotsAt, bodiesAt, liveAt, nextAt, pendingAt, zeroAt, handleAt, firstAt, secondAt, pairsAt, maxPairs, tableWords, slotsOf, cellsOf, bodiesOf, lastAt}
 use Rattle.words.specs.Stores.{Store, _≔_, store, stores, tab, tabFrom}
-use Rattle.words.specs.Journal.{pending, pairs, effective}
+use Rattle.words.specs.Journal.{pending, effective}
 use Rattle.words.proofs.Scan.{by-bool}
 use Rattle.words.proofs.Plans.{each-take, each-tab, length-tab, length-stores, getD-stores, run-append, run-take-tab}
 use Rattle.words.proofs.Names.{names-none}

@@ -6,7 +6,6 @@ use borrow.Author.Tests.{eq-eqb, eqb-true, eqb-false, lt-ltb, le-ltb, ltb-true, 
 use mathlib.Core.Bool.{true, false, not}
 use mathlib.Core.List.{List}
 use lib.Dec.{eqb}
-use Rattle.words.specs.Scan.{first}
 use Rattle.words.proofs.Scan.{first-at, first-hit, first-miss, first-ext, and-split, and-join, is-false, true≢, not-lt, not-above, by-bool}
 use Rattle.table.specs.Entry.{word1, depthOf, viaOf, cellOf, isVia, names, findIn, holdsIn, writableOf}
 

@@ -6,7 +6,6 @@ use mathlib.Core.Path.{_≡_}
 use mathlib.Core.List.{List}
 use lib.Dec.{ltb, leb, eqb}
 use lib.ListN.{getD, set, replicate}
-use Rattle.words.specs.Layout.{maxLive}
 use Rattle.words.specs.Scan.{all}
 use Rattle.table.specs.Entry.{word1, word2, depthOf, viaOf, unusedOf, cellOf, ownsBody, parent}
 use Rattle.table.specs.Rule.{entryOk, parentOk}

@@ -1,10 +1,9 @@
 -- Document 01, question 4: the table's rule, in a table for m cells, e entry slots and b bodies.
-use Prim.Native.Nat.{ℕ, _+_, _*_, _-_}
+use Prim.Native.Nat.{ℕ, _-_}
 use mathlib.Core.Bool.{Bool, true, cond, not, _&&_, _||_}
 use mathlib.Core.List.{List}
 use lib.Dec.{ltb, leb, eqb}
-use lib.ListN.{getD}
-use Rattle.words.specs.Layout.{handleAt, maxLive, pairsAt, maxPairs}
+use Rattle.words.specs.Layout.{maxLive, pairsAt, maxPairs}
 use Rattle.words.specs.Scan.{all}
 use Rattle.words.specs.Journal.{pending, pairs, namesOk, effective}
 use Rattle.table.specs.Entry.{live, nextHandle, handle, word1, word2, depthOf, viaOf, unusedOf, cellOf, hasParent, parent, holdsIn}

@@ -3,7 +3,6 @@ use mathlib.Core.Bool.{true, _||_}
 use mathlib.Core.Path.{sym, _∙_}
 use borrow.Author.Tests.{not-true, not-false}
 use borrow.Author.Needs.{needs}
-use lib.ListN.{getD}
 use lib.Dec.{eqb}
 use Rattle.table.specs.Entry.{parent}
 use Rattle.table.specs.Marks.{has}

@@ -1,10 +1,4 @@
 -- `end_domain` meets its contract: what is staged is commit's own change, and it is stored by the journal. Assumes nothing.
-use mathlib.Core.List.{List}
-use mathlib.Core.Path.{ap, _∙_}
-use lib.ListN.{length, take}
-use Rattle.words.specs.Layout.{pairsAt}
-use Rattle.words.specs.Stores.{Store, stores}
-use Rattle.words.specs.Journal.{journal}
 use Rattle.changes.proofs.Staging.{stages-inside, stages-words}
 use borrow.Author.Needs.{needs}
 use Rattle.commit.proofs.end_domain.Statement.{statement}

@@ -1,11 +1,5 @@
 -- `delete::free_staged` meets its contract: what is staged is delete's own change, and the writer stores it by the journal. Assumes nothing.
-use mathlib.Core.List.{List}
-use mathlib.Core.Path.{ap, _∙_}
 use borrow.Author.Needs.{needs}
-use lib.ListN.{length, take}
-use Rattle.words.specs.Layout.{pairsAt}
-use Rattle.words.specs.Stores.{Store, stores}
-use Rattle.words.specs.Journal.{journal}
 use Rattle.changes.proofs.Staging.{stages-inside, stages-words}
 use Rattle.delete.proofs.free_staged.Statement.{statement}
 use Rattle.delete.proofs.free_staged.Tie as tie
