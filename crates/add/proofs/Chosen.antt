@@ -14,7 +14,6 @@ use Rattle.words.proofs.Gather.{gather-ext}
 use Rattle.words.proofs.Nth.{nth-below, nth-rank}
 use Rattle.table.specs.Entry.{live, word1, holdsIn}
 use Rattle.table.specs.Changes.{entryStores, entryChanges}
-use Rattle.table.proofs.Rule.{Rule}
 use Rattle.search.specs.Free.{slotFree, bodyFree, lowestFree}
 use Rattle.search.proofs.Free.{slots-all, bodies-all}
 use Rattle.search.proofs.Taking.{taker-facts, same-place, taker-of, taken-free, lowest-free, lowest-taken, lowest-taker}
@@ -23,7 +22,8 @@ use Rattle.store.proofs.Raw.{raw-rule}
 use Rattle.add.specs.Add.{isNew, slotFor, bodyFor, addChange, addWords, addBytes}
 use Rattle.add.specs.Walking.{raiseChange, Ready}
 use Rattle.add.specs.Choice.{Choice, cellFor, changeWith, wordsWith, bytesWith}
-use Rattle.add.proofs.Choices.{Taking, chosen, range-make, range-low, range-high, rises-free}
+use Rattle.model.proofs.Ranges.{range-both, range-make}
+use Rattle.add.proofs.Choices.{Taking, chosen, rises-free}
 
 -- ---- slot by slot
 
@@ -62,8 +62,8 @@ module _ {e b : ℕ} {t : List ℕ} {base n k : ℕ} {slot body : ℕ → ℕ} (
     where
       covers : (c : ℕ) → inRange base n c ≡ true → holdsIn e t (live t) c ≡ false → (i : ℕ) × (i < e) × (ltb (taker i) n ≡ true) × (base + taker i ≡ c)
       covers c within lacks =
-          let low = range-low base n c within in
-          let high = range-high base n c within in
+          let low = range-both base n c within .0 in
+          let high = range-both base n c within .1 in
           let j : ℕ = c - base in
           let back : base + j ≡ c = omega arith in
           let here : isNew e t base j ≡ true = ap (λ (x : ℕ). not (holdsIn e t (live t) x)) back ∙ ap not lacks in
@@ -91,15 +91,12 @@ module _ (memory bodies t : List ℕ) (base n k l : ℕ) (r : Ready memory bodie
   abbrev new : ℕ → Bool
   new = isNew (slotsOf (length t)) t base
 
-  right : Rule (cellsOf (length memory)) (slotsOf (length t)) (bodiesOf (length bodies)) t
-  right = raw-rule memory bodies t (r .store)
-
   -- there are slots and bodies enough
   pub slots-enough : count n (isNew (slotsOf (length t)) t base) ≤ count (slotsOf (length t)) (slotFree (slotsOf (length t)) t)
   slots-enough = omega (arith, r .slots, slots-all (slotsOf (length t)) t)
 
   pub places-enough : k ≡ 0 → count n (isNew (slotsOf (length t)) t base) ≤ count (bodiesOf (length bodies)) (bodyFree (slotsOf (length t)) t)
-  places-enough z = omega (arith, r .places z, bodies-all (cellsOf (length memory)) (slotsOf (length t)) (bodiesOf (length bodies)) t right)
+  places-enough z = omega (arith, r .places z, bodies-all (cellsOf (length memory)) (slotsOf (length t)) (bodiesOf (length bodies)) t (raw-rule memory bodies t (r .store)))
 
   pub lowest : Choice (slotsOf (length t)) (bodiesOf (length bodies)) t base n k (slotFor (slotsOf (length t)) t base) (bodyFor (slotsOf (length t)) (bodiesOf (length bodies)) t base)
   lowest =

@@ -17,17 +17,18 @@ use Rattle.search.proofs.Free.{unmarked-free}
 use Rattle.model.specs.Answer.{stepsOf}
 use Rattle.store.proofs.Changes.{steps-needed}
 use Rattle.store.proofs.Raw.{raw-rule}
+use Rattle.store.proofs.Checks.{store-lengths}
 use Rattle.add.specs.Add.{isNew}
 use Rattle.add.specs.declared.Range.{Range}
 use Rattle.add.specs.Walking.{unheld, newIn, NoneBelow, copyBytes, Walkable, Stageable, rangeWords, Ready, bytesOf, wordsOf}
-use Rattle.add.proofs.Asking.{lengths, held-new, count-held}
+use Rattle.add.proofs.Asking.{held-new, count-held}
 use Rattle.add.proofs.Walks.{bytes-are, words-are}
 use Rattle.add.proofs.Chosen.{places-enough}
 
 module _ (memory bodies t : List ℕ) (range : Range) (r : Ready memory bodies t (range .first) (range .count) (range .kind) (range .label)) (held used : List ℕ)
     (m : AllMarked (slotsOf (length t)) t held used) where
   pub few : range .first + range .count ≤ maxCells
-  few = let w = lengths memory bodies t (r .store) in omega (arith, r .range, w .cells-high)
+  few = let w = store-lengths _ _ t (r .store) in omega (arith, r .range, w .cells-high)
 
   new-is : (j : ℕ) → j < range .count → unheld held (live t) (range .first) j ≡ isNew (slotsOf (length t)) t (range .first) j
   new-is j q = held-new (slotsOf (length t)) t held (m .cells) (r .inner) (range .first) j
@@ -46,7 +47,7 @@ module _ (memory bodies t : List ℕ) (range : Range) (r : Ready memory bodies t
   -- the walk over the entries may begin
   walkable : range .first + range .count ≤ length held → length used ≡ maxBodies → Walkable held used (slotsOf (length t)) (bodiesOf (length bodies)) t range
   walkable known many =
-      let w = lengths memory bodies t (r .store) in
+      let w = store-lengths _ _ t (r .store) in
       record {
         slots = w .slots-high;
         long = omega (arith, w .table-exact);
@@ -65,7 +66,7 @@ module _ (memory bodies t : List ℕ) (range : Range) (r : Ready memory bodies t
       → Stageable held used (slotsOf (length t)) (bodiesOf (length bodies)) t range start
   stageable known many start none =
       record {
-        exact = lengths memory bodies t (r .store) .table-exact;
+        exact = store-lengths _ _ t (r .store) .table-exact;
         inner = r .inner;
         marks = m .cells;
         walk = walkable known many;
