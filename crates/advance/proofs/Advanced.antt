@@ -40,8 +40,8 @@ use Rattle.store.proofs.Pending.{performed-pending, call-pending}
 use Rattle.store.proofs.Reopened.{changes-shaped, shape-reopens, unless-reopens}
 use Rattle.store.proofs.Standing.{standing-opens}
 use Rattle.store.proofs.Bounds.{change-bound}
-use Rattle.advance.specs.Choice.{Choice, changeWith, bytesWith, wordsWith, advanceWith, MayTake}
-use Rattle.advance.specs.Advance.{advances, advanceCheck, bodyFor, advanceChange, advanceWords, advanceBytes, advanceCall, advanceMeans}
+use Rattle.advance.specs.Choice.{Choice, advanceWith, MayTake}
+use Rattle.advance.specs.Advance.{advances, advanceCheck, bodyFor, changeWith, bytesWith, wordsWith, advanceWords, advanceBytes, advanceCall, advanceMeans}
 use Rattle.store.proofs.Raw.{raw-rule, raw-long, raw-state, raw-next, raw-after}
 use Rattle.advance.specs.Notes.{performed}
 use Rattle.advance.proofs.Turning.{advances-cell, words-count, takes-below, takes-own, turned-rule, turned-state}
@@ -239,7 +239,7 @@ module _ (memory bodies t : List ℕ) (h : ℕ) (pass : advanceCheck (length mem
       (advance-room (length memory) (length bodies) t h pass)
 
   pub advance-bound : stepsOf (length (advanceBytes (cellsOf (length memory)) (bodiesOf (length bodies)) memory t)) (length (advanceWords (bodiesOf (length bodies)) t)) ≤ 70 * slotsOf (length t) + 32
-  unfolding advanceBytes advanceWords advanceChange
+  unfolding advanceBytes advanceWords
   advance-bound =
       with-bound memory bodies t yes (advance-low (length memory) (length bodies) t h pass) (bodyFor (slotsOf (length t)) (bodiesOf (length bodies)) t) lowest
 
@@ -308,7 +308,7 @@ module _ (h : ℕ) (b : Buffers) (body : ℕ → ℕ) (may : MayTake h b body) w
 -- ---- the contract's call, which takes the lowest free bodies
 
 pub advance-is : (h : ℕ) (b : Buffers) → advanceCall h b ≡ advanceWith (bodyFor (slotsOf (length (b .table))) (bodiesOf (length (b .bodies))) (b .table)) h b
-unfolding advanceCall advanceWith advanceBytes advanceWords advanceChange
+unfolding advanceCall advanceWith advanceBytes advanceWords
 advance-is h b = refl
 
 -- they were free before the call, and differ

@@ -16,7 +16,7 @@ use Rattle.store.specs.Checks.{shapeCheck, tableCheck, makeCheck, openCheck, st
 use Rattle.store.specs.Calls.{freshWord, makePlan, makeCall, openCall, createWords, createCall}
 use Rattle.add.specs.Add.{addCheck, addChange, addWords, addBytes, addCall}
 use Rattle.delete.specs.Delete.{deleteCheck, deleteChange, deleteWords, deleteCall}
-use Rattle.advance.specs.Advance.{advanceCheck, advanceChange, advanceWords, advanceBytes, advanceCall}
+use Rattle.advance.specs.Advance.{advanceCheck, advanceWords, advanceBytes, advanceCall}
 use Rattle.restore.specs.Restore.{restoreCheck, restoreBytes, restoreChange, restoreWords, restoreCall}
 use Rattle.demands.specs.Counted.{LinesHold, countedLines}
 
@@ -25,5 +25,5 @@ unfolding all first count nth pairs nameOk namesOk effective journaled applyPlan
     headerOk handleOk headOk entryOk parentOk apart ruleOk pairsOk tableOk stepsIn sourceIn valueIn depthNamed bodyUsed usedSlots
     copies lowestFree ended outcome shapeCheck tableCheck makeCheck openCheck storeCheck createCheck freshWord makePlan makeCall openCall createWords
     createCall addCheck addChange addWords addBytes addCall deleteCheck deleteChange deleteWords deleteCall advanceCheck
-    advanceChange advanceWords advanceBytes advanceCall restoreCheck restoreBytes restoreChange restoreWords restoreCall
+    advanceWords advanceBytes advanceCall restoreCheck restoreBytes restoreChange restoreWords restoreCall
 lines-hold = ((refl, refl), ((refl, refl), ((refl, refl), ((refl, refl), ((refl, refl), ((refl, refl), ((refl, refl), tt)))))))
