@@ -32,12 +32,12 @@ use Rattle.store.proofs.Reopened.{changes-shaped, shape-reopens, unless-reopens
 use Rattle.store.proofs.Standing.{standing-opens}
 use Rattle.store.proofs.Bounds.{change-bound}
 use Rattle.store.proofs.Raw.{raw-rule, raw-long, raw-state, raw-next, raw-after}
-use Rattle.add.specs.Add.{addCheck, slotFor, bodyFor, addBytes, addWords, addCall, addMeans}
+use Rattle.add.specs.Add.{addCheck, slotFor, bodyFor, addBytes, addWords, addCall, addMeans, changeWith, wordsWith, bytesWith}
 use Rattle.add.specs.Walking.{Ready}
-use Rattle.add.specs.Choice.{Choice, changeWith, wordsWith, bytesWith, addWith, MayTake}
+use Rattle.add.specs.Choice.{Choice, addWith, MayTake}
 use Rattle.add.proofs.Asking.{add-ready}
 use Rattle.add.proofs.Meaning.{rule-after, state-after}
-use Rattle.add.proofs.Chosen.{taking, words-told, lowest, words-chosen, bytes-chosen}
+use Rattle.add.proofs.Chosen.{taking, words-told, lowest}
 use Rattle.add.proofs.Filling.{rests-with, bytes-filled, bytes-spare}
 use Rattle.add.proofs.Numbers.{words-many, bytes-many}
 use Rattle.add.proofs.Questions.{asked, questions-same}
@@ -142,30 +142,11 @@ module _ (memory bodies t : List ℕ) (base n k l : ℕ) (r : Ready memory bodie
 
 -- ---- the call, which takes the lowest free slots and bodies
 
-module _ (memory bodies t : List ℕ) (base n k l : ℕ) (r : Ready memory bodies t base n k l) where
-  abbrev ws : List Store
-  ws = addWords (bodiesOf (length bodies)) t base n k l
-
-  abbrev bs : List Store
-  bs = addBytes (bodiesOf (length bodies)) memory t base n k
-
-  abbrev lowestSlot : ℕ → ℕ
-  lowestSlot = slotFor (slotsOf (length t)) t base
-
-  abbrev lowestBody : ℕ → ℕ
-  lowestBody = bodyFor (slotsOf (length t)) (bodiesOf (length bodies)) t base
-
-  -- a law of the stores of every choice is one of the call's
-  of-call : (P : List Store → List Store → Type 0) → P (bytesWith memory t base n k lowestBody) (wordsWith t base n k l lowestSlot lowestBody) → P bs ws
-  of-call P h =
-      subst (λ (x : List Store). P x ws) (sym (bytes-chosen memory bodies t base n k l r))
-      (subst (λ (x : List Store). P (bytesWith memory t base n k lowestBody) x) (sym (words-chosen memory bodies t base n k l r)) h)
-
-  -- "every other call at most 70E + 32"
-  pub add-bound : stepsOf (length (addBytes (bodiesOf (length bodies)) memory t base n k)) (length (addWords (bodiesOf (length bodies)) t base n k l)) ≤ 70 * slotsOf (length t) + 32
-  add-bound =
-      of-call (λ x y. stepsOf (length x) (length y) ≤ 70 * slotsOf (length t) + 32)
-      (with-bound memory bodies t base n k l r (lowest memory bodies t base n k l r))
+-- "every other call at most 70E + 32"
+pub add-bound : (memory bodies t : List ℕ) (base n k l : ℕ) → Ready memory bodies t base n k l
+    → stepsOf (length (addBytes (bodiesOf (length bodies)) memory t base n k)) (length (addWords (bodiesOf (length bodies)) t base n k l)) ≤ 70 * slotsOf (length t) + 32
+unfolding addBytes addWords
+add-bound memory bodies t base n k l r = with-bound memory bodies t base n k l r (lowest memory bodies t base n k l r)
 
 -- ---- the call made with any choice of places
 
@@ -250,19 +231,8 @@ module _ (h base n k l : ℕ) (b : Buffers) where
 
   pub add-is : addCall h base n k l b
       ≡ addWith (slotFor (slotsOf (length (b .table))) (b .table) base) (bodyFor (slotsOf (length (b .table))) (bodiesOf (length (b .bodies))) (b .table) base) h base n k l b
-  unfolding addCall addWith
-  add-is =
-      by-check (λ q. (q ≡ 0 → addCheck (b .memory) (b .bodies) (b .table) h base n k l ≡ 0)
-      → unless q (perform (changePlan (pairsAt (slotsOf (length (b .table)))) (addBytes (bodiesOf (length (b .bodies))) (b .memory) (b .table) base n k) (addWords (bodiesOf (length (b .bodies))) (b .table) base n k l)) 0)
-      ≡ unless q (perform (changePlan (pairsAt (slotsOf (length (b .table))))
-      (bytesWith (b .memory) (b .table) base n k (bodyFor (slotsOf (length (b .table))) (bodiesOf (length (b .bodies))) (b .table) base))
-      (wordsWith (b .table) base n k l (slotFor (slotsOf (length (b .table))) (b .table) base) (bodyFor (slotsOf (length (b .table))) (bodiesOf (length (b .bodies))) (b .table) base))) 0))
-      (addCheck (b .memory) (b .bodies) (b .table) h base n k l)
-      (λ x q go. refl)
-      (λ q go.
-      let r = add-ready (b .memory) (b .bodies) (b .table) h base n k l (go refl) in
-      λ i. perform (changePlan (pairsAt (slotsOf (length (b .table)))) (bytes-chosen (b .memory) (b .bodies) (b .table) base n k l r i) (words-chosen (b .memory) (b .bodies) (b .table) base n k l r i)) 0)
-      (λ q. q)
+  unfolding addCall addWith addBytes addWords
+  add-is = refl
 
 pub add-means : (h base n k l budget : ℕ) (b : Buffers) → seenOf (outcome (addCall h base n k l b) budget b) ≡ addMeans h base n k l budget b
 add-means h base n k l budget b =

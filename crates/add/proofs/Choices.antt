@@ -11,7 +11,7 @@ use Rattle.table.specs.Entry.{live, word1, word2, depthOf, writableOf, cellOf, 
 use Rattle.table.specs.Changes.{Change, keep, put}
 use Rattle.search.specs.Free.{bodyFree}
 use Rattle.model.specs.Holdings.{inRange}
-use Rattle.add.specs.Walking.{rises, raiseChange}
+use Rattle.add.specs.Add.{rises, raiseChange}
 
 -- ---- an entry whose label rises, or not
 

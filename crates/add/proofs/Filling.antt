@@ -20,9 +20,9 @@ use Rattle.table.proofs.Entry.{holds-found}
 use Rattle.search.proofs.Taking.{taker-facts, taken-many}
 use Rattle.store.proofs.Changes.{Spares, copies-spare}
 use Rattle.store.proofs.Checks.{store-lengths}
-use Rattle.add.specs.Add.{isNew}
+use Rattle.add.specs.Add.{isNew, cellFor, bytesWith}
 use Rattle.add.specs.Walking.{Ready}
-use Rattle.add.specs.Choice.{Choice, cellFor, bytesWith}
+use Rattle.add.specs.Choice.{Choice}
 use Rattle.model.proofs.Ranges.{range-both}
 use Rattle.add.proofs.Choices.{Taking}
 use Rattle.add.proofs.Chosen.{taking}

@@ -27,8 +27,8 @@ use Rattle.model.specs.Holdings.{holdingAt, inRange, labelNumbered, kindNumbere
 use Rattle.store.specs.State.{labelOf, heldIn, stateIn}
 use Rattle.store.proofs.Domains.{held-none, held-some, innermost-state}
 use Rattle.store.proofs.Becoming.{atSlot, told, Stays, Value, came, took, rests, Full, Fate, keeps, raises, fills, Becomes, becomes-rule, becomes-held}
-use Rattle.add.specs.Walking.{rises, raiseChange}
 use Rattle.model.proofs.Ranges.{range-both}
+use Rattle.add.specs.Add.{rises, raiseChange}
 use Rattle.add.proofs.Choices.{Taking, chosen, rises-facts}
 use Rattle.add.proofs.Numbers.{outer-value}
 

@@ -21,9 +21,9 @@ use Rattle.model.specs.Holdings.{holdingAt, isHeld, heldReadOnly, valueOr, inRa
 use Rattle.store.specs.State.{heldIn, stateIn}
 use Rattle.store.proofs.Domains.{state-holding, state-zero, domains-count, held-holds, held-writable}
 use Rattle.store.proofs.Raw.{raw-rule}
-use Rattle.add.specs.Add.{isNew}
-use Rattle.add.specs.Walking.{rises, raiseChange, Ready}
-use Rattle.add.specs.Choice.{Choice, wordsWith, bytesWith}
+use Rattle.add.specs.Add.{isNew, rises, raiseChange, wordsWith, bytesWith}
+use Rattle.add.specs.Walking.{Ready}
+use Rattle.add.specs.Choice.{Choice}
 use Rattle.add.proofs.Choices.{Taking, chosen, rises-free}
 use Rattle.add.proofs.Chosen.{taking, words-told}
 use Rattle.add.proofs.Counting.{count-or, count-range}

@@ -19,9 +19,10 @@ use Rattle.table.specs.Changes.{keep}
 use Rattle.search.specs.Free.{slotFree}
 use Rattle.search.proofs.From.{from-ge}
 use Rattle.changes.proofs.Staging.{stages-skip}
+use Rattle.add.specs.Add.{rises}
 use Rattle.add.specs.declared.Cursors.{Cursors}
 use Rattle.add.specs.declared.Range.{Range}
-use Rattle.add.specs.Walking.{unheld, newIn, nextUnheld, rises, listChange, Stands, Walked, Skips}
+use Rattle.add.specs.Walking.{unheld, newIn, nextUnheld, listChange, Stands, Walked, Skips}
 use Rattle.add.proofs.Asking.{or-right}
 use Rattle.model.proofs.Ranges.{range-both}
 use Rattle.add.proofs.Choices.{rises-facts, raise-no}
