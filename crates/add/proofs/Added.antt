@@ -1,23 +1,20 @@
 -- Add, from its stores to what it means and to what opening finds after every cut of it. The laws on stores hold for any choice of different
 -- free slots and bodies; the call takes the lowest ones. Assumes nothing.
-use Prim.Native.Nat.{ℕ, suc, _+_, _-_, _*_, _≤_, _<_}
+use Prim.Native.Nat.{ℕ, suc, _+_, _-_, _*_, _≤_}
 use mathlib.Core.Bool.{true}
-use mathlib.Core.List.{List, []}
+use mathlib.Core.List.{List}
 use mathlib.Core.Option.{Option}
 use mathlib.Core.Path.{_≡_, refl, sym, ap, subst, _∙_}
 use native.Mathlib.Omega.{arith}
-use borrow.Author.Tests.{eq-eqb, ne-eqb}
 use lib.Dec.{eqb}
 use lib.ListN.{length, take}
-use Rattle.words.specs.Layout.{pairsAt, slotsOf, cellsOf, bodiesOf, maxPairs}
+use Rattle.words.specs.Layout.{pairsAt, slotsOf, cellsOf, bodiesOf}
 use Rattle.words.specs.Stores.{Store, stores}
 use Rattle.words.specs.Journal.{pending, namesOk, journal}
-use Rattle.words.proofs.Scan.{by-le, by-bool}
-use Rattle.words.proofs.Places.{pendingAt-below}
-use Rattle.words.proofs.Names.{names-below}
+use Rattle.words.proofs.Scan.{by-bool}
 use Rattle.words.proofs.Plans.{Each}
 use Rattle.table.proofs.Rule.{Rule}
-use Rattle.table.proofs.Entries.{changes-names}
+use Rattle.table.proofs.Entries.{changes-few, entries-names}
 use Rattle.model.specs.State.{State}
 use Rattle.model.specs.Answer.{Report, refused, ended, stepsOf, view, View}
 use Rattle.model.specs.Calls.{viewed, change, orRefuse}
@@ -26,22 +23,23 @@ use Rattle.store.specs.Outcome.{Buffers, buffers, changePlan, outcome, leaves, 
 use Rattle.store.specs.Checks.{storeCheck}
 use Rattle.store.specs.State.{stateIn, stateOf}
 use Rattle.store.specs.Means.{visibleOf, orRefused, callMeans, roomOf, leftPending, pendingAfter, afterPending, Reopens}
-use Rattle.store.proofs.Checks.{orElse-go, orElse-stop}
+use Rattle.store.proofs.Checks.{orElse-go, orElse-stop, store-lengths}
 use Rattle.store.proofs.Outcome.{refuses}
 use Rattle.store.proofs.Means.{by-check, store-standing}
 use Rattle.store.proofs.Changes.{Spares, spared, front-spares, change-performed, change-seen}
 use Rattle.store.proofs.Pending.{performed-pending, call-pending}
 use Rattle.store.proofs.Reopened.{changes-shaped, shape-reopens, unless-reopens}
 use Rattle.store.proofs.Standing.{standing-opens}
-use Rattle.store.proofs.Raw.{raw-rule, raw-state, raw-next, raw-after}
-use Rattle.add.specs.Add.{addCheck, slotFor, bodyFor, addBytes, addWords, addCall, addMeans}
+use Rattle.store.proofs.Bounds.{change-bound}
+use Rattle.store.proofs.Raw.{raw-rule, raw-long, raw-state, raw-next, raw-after}
+use Rattle.add.specs.Add.{addCheck, slotFor, bodyFor, addBytes, addWords, addCall, addMeans, changeWith, wordsWith, bytesWith}
 use Rattle.add.specs.Walking.{Ready}
-use Rattle.add.specs.Choice.{Choice, changeWith, wordsWith, bytesWith, addWith, MayTake}
-use Rattle.add.proofs.Asking.{lengths, add-ready}
+use Rattle.add.specs.Choice.{Choice, addWith, MayTake}
+use Rattle.add.proofs.Asking.{add-ready}
 use Rattle.add.proofs.Meaning.{rule-after, state-after}
-use Rattle.add.proofs.Chosen.{taking, words-told, lowest, words-chosen, bytes-chosen}
+use Rattle.add.proofs.Chosen.{taking, words-told, lowest}
 use Rattle.add.proofs.Filling.{rests-with, bytes-filled, bytes-spare}
-use Rattle.add.proofs.Numbers.{words-many, bytes-many, changed-few}
+use Rattle.add.proofs.Numbers.{words-many, bytes-many}
 use Rattle.add.proofs.Questions.{asked, questions-same}
 
 -- ---- the call, once no question refuses it, for any choice of places
@@ -61,31 +59,24 @@ module _ (memory bodies t : List ℕ) (base n k l : ℕ) (r : Ready memory bodie
   abbrev before : State
   before = stateIn (slotsOf (length t)) t bodies
 
-  long : pairsAt (slotsOf (length t)) ≤ length t
-  long = let w = lengths memory bodies t (r .store) in omega (arith, w .table-exact)
-
   small : cellsOf (length memory) ≤ 65536
-  small = lengths memory bodies t (r .store) .cells-high
+  small = store-lengths _ _ t (r .store) .cells-high
 
   pub with-names : namesOk (pairsAt (slotsOf (length t))) 0 words ≡ true
-  unfolding namesOk
-  with-names = changes-names e (changeWith e t base n k l slot body) [] refl tt
+  with-names = entries-names e (changeWith e t base n k l slot body)
 
-  below : Each (λ s. s .at < pairsAt (slotsOf (length t))) words
-  below = names-below (pairsAt e) 0 words (pendingAt-below e) with-names
-
-  with-few : length words ≤ maxPairs (slotsOf (length t))
-  with-few = rw (words-many memory bodies t base n k l r choice) (omega (arith, changed-few memory bodies t base n k l r choice))
+  with-few : length words ≤ 2 * slotsOf (length t)
+  with-few = changes-few e (changeWith e t base n k l slot body)
 
   rule-whole : Rule (cellsOf (length memory)) (slotsOf (length t)) (bodiesOf (length bodies)) (stores words t)
   rule-whole =
       subst (λ (ws : List Store). Rule (cellsOf (length memory)) (slotsOf (length t)) (bodiesOf (length bodies)) (stores ws t)) (words-told choice l)
-      (rule-after (cellsOf (length memory)) e (bodiesOf (length bodies)) t (raw-rule memory bodies t (r .store)) long base n k l (r .inner) (r .kind) (r .label) (r .range) small
+      (rule-after (cellsOf (length memory)) e (bodiesOf (length bodies)) t (raw-rule memory bodies t (r .store)) (raw-long memory bodies t (r .store)) base n k l (r .inner) (r .kind) (r .label) (r .range) small
       (taking choice) (rests-with memory bodies t base n k l r choice))
 
   -- the new table is right
   pub with-rule : Rule (cellsOf (length memory)) (slotsOf (length t)) (bodiesOf (length bodies)) (stores words (take (pairsAt (slotsOf (length t))) t))
-  with-rule = raw-next memory bodies t (r .store) words below rule-whole
+  with-rule = raw-next memory bodies t (r .store) words with-names rule-whole
 
   -- the bytes spare the bodies in use
   pub with-spares : Each (Spares (slotsOf (length t)) (take (pairsAt (slotsOf (length t))) t)) bytes
@@ -95,7 +86,7 @@ module _ (memory bodies t : List ℕ) (base n k l : ℕ) (r : Ready memory bodie
       ≡ addTo memory base n (kindNumbered k) (labelNumbered l) (stateIn (slotsOf (length t)) t bodies)
   state-new =
       ap (λ (ws : List Store). stateIn e (stores ws t) (stores bytes bodies)) (sym (words-told choice l))
-      ∙ state-after (cellsOf (length memory)) e (bodiesOf (length bodies)) t (raw-rule memory bodies t (r .store)) long base n k l (r .inner) (r .kind) (r .label) (r .range) small
+      ∙ state-after (cellsOf (length memory)) e (bodiesOf (length bodies)) t (raw-rule memory bodies t (r .store)) (raw-long memory bodies t (r .store)) base n k l (r .inner) (r .kind) (r .label) (r .range) small
       (taking choice) (rests-with memory bodies t base n k l r choice) memory bodies (stores bytes bodies)
       (spared e t bytes bodies (bytes-spare memory bodies t base n k l r choice))
       (bytes-filled memory bodies t base n k l r choice)
@@ -104,7 +95,7 @@ module _ (memory bodies t : List ℕ) (base n k l : ℕ) (r : Ready memory bodie
   pub with-state : stateIn (slotsOf (length t)) (stores words (take (pairsAt (slotsOf (length t))) t)) (stores bytes bodies)
       ≡ addTo memory base n (kindNumbered k) (labelNumbered l) (stateOf (buffers memory bodies t))
   with-state =
-      raw-after memory bodies t (r .store) words below rule-whole (stores bytes bodies)
+      raw-after memory bodies t (r .store) words with-names rule-whole (stores bytes bodies)
       ∙ state-new
       ∙ ap (addTo memory base n (kindNumbered k) (labelNumbered l)) (sym (raw-state memory bodies t (r .store)))
 
@@ -120,14 +111,14 @@ module _ (memory bodies t : List ℕ) (base n k l : ℕ) (r : Ready memory bodie
       ≡ viewed (change (64 * newBodies (kindNumbered k) (newlyHeld base n (stateOf (buffers memory bodies t)))) (2 * (newlyHeld base n (stateOf (buffers memory bodies t)) + relabelled base n (labelNumbered l) (stateOf (buffers memory bodies t)))) 0
       (addTo memory base n (kindNumbered k) (labelNumbered l) (stateOf (buffers memory bodies t)))) budget (stateOf (buffers memory bodies t)) memory
   with-seen budget =
-      change-seen memory bodies t (r .store) bytes words with-spares with-few with-names with-rule 0 (addTo memory base n (kindNumbered k) (labelNumbered l) (stateOf (buffers memory bodies t))) with-state budget
+      change-seen memory bodies t (r .store) bytes words with-spares (omega (arith, with-few)) with-names with-rule 0 (addTo memory base n (kindNumbered k) (labelNumbered l) (stateOf (buffers memory bodies t))) with-state budget
       ∙ (λ i. viewed (change (with-bytes i) (with-words i) 0 (addTo memory base n (kindNumbered k) (labelNumbered l) (stateOf (buffers memory bodies t)))) budget (stateOf (buffers memory bodies t)) memory)
 
   -- as many pairs are left pending as its effect says
   pub with-pending : (budget : ℕ) → pending ((outcome (perform (changePlan (pairsAt (slotsOf (length t))) bytes words) 0) budget (buffers memory bodies t)) .buffers .table)
       ≡ pendingAfter (64 * newBodies (kindNumbered k) (newlyHeld base n (stateOf (buffers memory bodies t)))) (2 * (newlyHeld base n (stateOf (buffers memory bodies t)) + relabelled base n (labelNumbered l) (stateOf (buffers memory bodies t)))) budget
   with-pending budget =
-      performed-pending memory bodies t (r .store) bytes words with-few with-names 0 budget
+      performed-pending memory bodies t (r .store) bytes words (omega (arith, with-few)) with-names 0 budget
       ∙ (λ i. pendingAfter (with-bytes i) (with-words i) budget)
 
   -- ---- cuts
@@ -142,43 +133,20 @@ module _ (memory bodies t : List ℕ) (base n k l : ℕ) (r : Ready memory bodie
   -- "every other call at most 70E + 32"
   pub with-bound : stepsOf (length bytes) (length words) ≤ 70 * slotsOf (length t) + 32
   with-bound =
-      let few = changed-few memory bodies t base n k l r choice in
-      let w = words-many memory bodies t base n k l r choice in
-      let b = bytes-many memory bodies t base n k l r choice in
-      let new = new-bodies (newlyHeld base n before) in
-      by-le (length words) 0
-      (λ z. let q : length words ≡ 0 = omega arith in rw (eq-eqb (length words) 0 q) (omega arith))
-      (λ z. rw (ne-eqb (length words) 0 (λ q. omega arith)) (omega arith))
+      rw (bytes-many memory bodies t base n k l r choice)
+      (change-bound (newBodies (kindNumbered k) (newlyHeld base n before)) (length words) e
+      (omega (arith, new-bodies (newlyHeld base n before), words-many memory bodies t base n k l r choice, with-few)) (omega (arith, with-few)))
     where
       new-bodies : (x : ℕ) → newBodies (kindNumbered k) x ≤ x
       new-bodies x = by-bool (eqb k 1) (λ p. rw p (omega arith)) (λ p. rw p (omega arith))
 
 -- ---- the call, which takes the lowest free slots and bodies
 
-module _ (memory bodies t : List ℕ) (base n k l : ℕ) (r : Ready memory bodies t base n k l) where
-  abbrev ws : List Store
-  ws = addWords (bodiesOf (length bodies)) t base n k l
-
-  abbrev bs : List Store
-  bs = addBytes (bodiesOf (length bodies)) memory t base n k
-
-  abbrev lowestSlot : ℕ → ℕ
-  lowestSlot = slotFor (slotsOf (length t)) t base
-
-  abbrev lowestBody : ℕ → ℕ
-  lowestBody = bodyFor (slotsOf (length t)) (bodiesOf (length bodies)) t base
-
-  -- a law of the stores of every choice is one of the call's
-  of-call : (P : List Store → List Store → Type 0) → P (bytesWith memory t base n k lowestBody) (wordsWith t base n k l lowestSlot lowestBody) → P bs ws
-  of-call P h =
-      subst (λ (x : List Store). P x ws) (sym (bytes-chosen memory bodies t base n k l r))
-      (subst (λ (x : List Store). P (bytesWith memory t base n k lowestBody) x) (sym (words-chosen memory bodies t base n k l r)) h)
-
-  -- "every other call at most 70E + 32"
-  pub add-bound : stepsOf (length (addBytes (bodiesOf (length bodies)) memory t base n k)) (length (addWords (bodiesOf (length bodies)) t base n k l)) ≤ 70 * slotsOf (length t) + 32
-  add-bound =
-      of-call (λ x y. stepsOf (length x) (length y) ≤ 70 * slotsOf (length t) + 32)
-      (with-bound memory bodies t base n k l r (lowest memory bodies t base n k l r))
+-- "every other call at most 70E + 32"
+pub add-bound : (memory bodies t : List ℕ) (base n k l : ℕ) → Ready memory bodies t base n k l
+    → stepsOf (length (addBytes (bodiesOf (length bodies)) memory t base n k)) (length (addWords (bodiesOf (length bodies)) t base n k l)) ≤ 70 * slotsOf (length t) + 32
+unfolding addBytes addWords
+add-bound memory bodies t base n k l r = with-bound memory bodies t base n k l r (lowest memory bodies t base n k l r)
 
 -- ---- the call made with any choice of places
 
@@ -263,19 +231,8 @@ module _ (h base n k l : ℕ) (b : Buffers) where
 
   pub add-is : addCall h base n k l b
       ≡ addWith (slotFor (slotsOf (length (b .table))) (b .table) base) (bodyFor (slotsOf (length (b .table))) (bodiesOf (length (b .bodies))) (b .table) base) h base n k l b
-  unfolding addCall addWith
-  add-is =
-      by-check (λ q. (q ≡ 0 → addCheck (b .memory) (b .bodies) (b .table) h base n k l ≡ 0)
-      → unless q (perform (changePlan (pairsAt (slotsOf (length (b .table)))) (addBytes (bodiesOf (length (b .bodies))) (b .memory) (b .table) base n k) (addWords (bodiesOf (length (b .bodies))) (b .table) base n k l)) 0)
-      ≡ unless q (perform (changePlan (pairsAt (slotsOf (length (b .table))))
-      (bytesWith (b .memory) (b .table) base n k (bodyFor (slotsOf (length (b .table))) (bodiesOf (length (b .bodies))) (b .table) base))
-      (wordsWith (b .table) base n k l (slotFor (slotsOf (length (b .table))) (b .table) base) (bodyFor (slotsOf (length (b .table))) (bodiesOf (length (b .bodies))) (b .table) base))) 0))
-      (addCheck (b .memory) (b .bodies) (b .table) h base n k l)
-      (λ x q go. refl)
-      (λ q go.
-      let r = add-ready (b .memory) (b .bodies) (b .table) h base n k l (go refl) in
-      λ i. perform (changePlan (pairsAt (slotsOf (length (b .table)))) (bytes-chosen (b .memory) (b .bodies) (b .table) base n k l r i) (words-chosen (b .memory) (b .bodies) (b .table) base n k l r i)) 0)
-      (λ q. q)
+  unfolding addCall addWith addBytes addWords
+  add-is = refl
 
 pub add-means : (h base n k l budget : ℕ) (b : Buffers) → visibleOf (outcome (addCall h base n k l b) budget b) ≡ addMeans h base n k l budget b
 add-means h base n k l budget b =

@@ -1,10 +1,10 @@
 -- Add's questions as the code puts them: over marks, test by test. Assumes nothing.
-use Prim.Native.Nat.{ℕ, _+_, _-_, _≤_, _<_}
+use Prim.Native.Nat.{ℕ, _+_, _≤_, _<_}
 use mathlib.Core.Bool.{Bool, true, false, cond, not, _&&_, _||_}
 use mathlib.Core.List.{List}
 use mathlib.Core.Path.{_≡_, refl, sym, ap, _∙_}
 use native.Mathlib.Omega.{arith}
-use borrow.Author.Tests.{eq-eqb, ne-eqb, eqb-true, le-leb, lt-leb, lt-ltb, le-ltb, ltb-true, leb-true}
+use borrow.Author.Tests.{eq-eqb, ne-eqb, eqb-true, le-leb, lt-leb, ltb-true, leb-true}
 use lib.Dec.{leb, ltb, eqb}
 use lib.ListN.{length, getD}
 use Rattle.words.specs.Layout.{cellsOf, bodiesOf, slotsOf}
@@ -16,7 +16,6 @@ use Rattle.table.specs.Marks.{has, Marked}
 use Rattle.table.proofs.Digits.{has-zero}
 use Rattle.table.proofs.Marks.{marked-holds}
 use Rattle.table.proofs.Entry.{holds-found}
-use Rattle.table.proofs.Checks.{Lengths}
 use Rattle.search.specs.Search.{sourceIn, valueIn}
 use Rattle.search.specs.Domain.{depthNamed}
 use Rattle.search.specs.Free.{isCopy, usedSlots, copies}
@@ -26,7 +25,7 @@ use Rattle.model.specs.Answer.{ask, orElse}
 use Rattle.model.specs.Holdings.{rangeOk}
 use Rattle.store.specs.Checks.{storeCheck, askInnermostIn}
 use Rattle.store.proofs.Named.{innermost-no, innermost-then}
-use Rattle.store.proofs.Checks.{ask-yes, ask-go, ask-stop, ask-rest, orElse-go, orElse-stop, orElse-both, store-shape, shape-facts}
+use Rattle.store.proofs.Checks.{ask-yes, ask-go, ask-stop, ask-rest, orElse-go, orElse-stop, orElse-both, store-lengths}
 use Rattle.store.proofs.Raw.{raw-rule}
 use Rattle.add.specs.Add.{isNew, addCheck}
 use Rattle.add.specs.Walking.{unheld, rangeCheck, parentCheck, roomCheck, heldCheck, backed, alike, Source, Ready}
@@ -222,15 +221,12 @@ module _ (e : ℕ) (t held : List ℕ) (m : Marked e t e held) (inner : 1 ≤ li
 -- ---- a table that passes questions 1 to 4 is right as it stands
 
 module _ (memory bodies t : List ℕ) (yes : storeCheck (length memory) (length bodies) t ≡ 0) where
-  pub lengths : Lengths (length memory) (length bodies) (length t)
-  lengths = shape-facts (length memory) (length bodies) t (store-shape (length memory) (length bodies) t yes)
-
   -- the copy behind a cell that a domain holds
   pub source-of : (d c : ℕ) → 1 ≤ d → findIn (slotsOf (length t)) t d c < slotsOf (length t) → Source (slotsOf (length t)) t bodies d c
   source-of d c low h =
       let k = ends-in-copy _ (slotsOf (length t)) _ t (raw-rule memory bodies t yes) d c low h in
       let f = body-fits _ (slotsOf (length t)) _ t (raw-rule memory bodies t yes) (sourceIn (slotsOf (length t)) t d c) k in
-      let w = lengths in
+      let w = store-lengths _ _ t yes in
       record { slot = k .slot; fits = omega (arith, w .bodies-exact) }
 
   -- where the parent holds every new cell

@@ -1,28 +1,17 @@
 -- A choice of free slots and bodies for add's new cells, told slot by slot; and which labels rise. Assumes nothing.
-use Prim.Native.Nat.{ℕ, _+_, _≤_, _<_}
+use Prim.Native.Nat.{ℕ, _≤_, _<_}
 use mathlib.Core.Bool.{Bool, true, false, cond, _&&_}
 use mathlib.Core.List.{List}
 use mathlib.Core.Path.{_≡_}
 use native.Mathlib.Omega.{arith}
-use borrow.Author.Tests.{eqb-true, leb-true, ltb-true, le-leb, lt-ltb}
-use lib.Dec.{leb, ltb, eqb}
-use Rattle.words.proofs.Scan.{and-split, and-join, is-false}
+use borrow.Author.Tests.{eqb-true}
+use lib.Dec.{eqb}
+use Rattle.words.proofs.Scan.{and-split, is-false}
 use Rattle.table.specs.Entry.{live, word1, word2, depthOf, writableOf, cellOf, holdsIn, entryWord}
 use Rattle.table.specs.Changes.{Change, keep, put}
 use Rattle.search.specs.Free.{bodyFree}
 use Rattle.model.specs.Holdings.{inRange}
-use Rattle.add.specs.Walking.{rises, raiseChange}
-
--- ---- a cell of the range
-
-pub range-make : (base n c : ℕ) → base ≤ c → c < base + n → inRange base n c ≡ true
-range-make base n c p q = and-join _ _ (le-leb base c p) (lt-ltb c (base + n) q)
-
-pub range-low : (base n c : ℕ) → inRange base n c ≡ true → base ≤ c
-range-low base n c h = leb-true base c (and-split (leb base c) (ltb c (base + n)) h .0)
-
-pub range-high : (base n c : ℕ) → inRange base n c ≡ true → c < base + n
-range-high base n c h = ltb-true c (base + n) (and-split (leb base c) (ltb c (base + n)) h .1)
+use Rattle.add.specs.Add.{rises, raiseChange}
 
 -- ---- an entry whose label rises, or not
 

@@ -1,29 +1,26 @@
 -- A choice of places, told slot by slot; and the lowest free places, which the contract's call takes, are one. Assumes nothing.
 use Prim.Native.Nat.{ℕ, _+_, _-_, _≤_, _<_}
-use mathlib.Core.Bool.{Bool, true, false, cond, not}
+use mathlib.Core.Bool.{true, false, cond, not}
 use mathlib.Core.List.{List}
 use mathlib.Core.Path.{_≡_, refl, ap, _∙_}
 use native.Mathlib.Omega.{arith}
-use borrow.Author.Tests.{eq-eqb, ne-eqb, eqb-true, lt-ltb, ltb-true, not-true}
+use borrow.Author.Tests.{eq-eqb, ne-eqb, eqb-true, lt-ltb, not-true}
 use lib.Dec.{ltb, eqb}
 use lib.ListN.{length}
 use Rattle.words.specs.Layout.{cellsOf, bodiesOf, slotsOf}
-use Rattle.words.specs.Scan.{count, nth}
-use Rattle.words.proofs.Scan.{by-bool, is-false, true≢}
-use Rattle.words.proofs.Gather.{gather-ext}
-use Rattle.words.proofs.Nth.{nth-below, nth-rank}
+use Rattle.words.specs.Scan.{count}
 use Rattle.table.specs.Entry.{live, word1, holdsIn}
-use Rattle.table.specs.Changes.{entryStores, entryChanges}
-use Rattle.table.proofs.Rule.{Rule}
-use Rattle.search.specs.Free.{slotFree, bodyFree, lowestFree}
+use Rattle.table.specs.Changes.{entryChanges}
+use Rattle.search.specs.Free.{slotFree, bodyFree}
 use Rattle.search.proofs.Free.{slots-all, bodies-all}
-use Rattle.search.proofs.Taking.{taker-facts, same-place, taker-of, taken-free, lowest-free, lowest-taken, lowest-taker}
+use Rattle.search.proofs.Taking.{taker-facts, same-place, taker-of, taken-free, lowest-free}
 use Rattle.model.specs.Holdings.{inRange}
 use Rattle.store.proofs.Raw.{raw-rule}
-use Rattle.add.specs.Add.{isNew, slotFor, bodyFor, addChange, addWords, addBytes}
-use Rattle.add.specs.Walking.{raiseChange, Ready}
-use Rattle.add.specs.Choice.{Choice, cellFor, changeWith, wordsWith, bytesWith}
-use Rattle.add.proofs.Choices.{Taking, chosen, range-make, range-low, range-high, rises-free}
+use Rattle.add.specs.Add.{isNew, slotFor, bodyFor, changeWith, cellFor, changeWith}
+use Rattle.add.specs.Walking.{Ready}
+use Rattle.add.specs.Choice.{Choice}
+use Rattle.model.proofs.Ranges.{range-both, range-make}
+use Rattle.add.proofs.Choices.{Taking, chosen}
 
 -- ---- slot by slot
 
@@ -62,8 +59,8 @@ module _ {e b : ℕ} {t : List ℕ} {base n k : ℕ} {slot body : ℕ → ℕ} (
     where
       covers : (c : ℕ) → inRange base n c ≡ true → holdsIn e t (live t) c ≡ false → (i : ℕ) × (i < e) × (ltb (taker i) n ≡ true) × (base + taker i ≡ c)
       covers c within lacks =
-          let low = range-low base n c within in
-          let high = range-high base n c within in
+          let low = range-both base n c within .0 in
+          let high = range-both base n c within .1 in
           let j : ℕ = c - base in
           let back : base + j ≡ c = omega arith in
           let here : isNew e t base j ≡ true = ap (λ (x : ℕ). not (holdsIn e t (live t) x)) back ∙ ap not lacks in
@@ -85,21 +82,12 @@ module _ (memory bodies t : List ℕ) (base n k l : ℕ) (r : Ready memory bodie
   abbrev b : ℕ
   b = bodiesOf (length bodies)
 
-  abbrev free : ℕ → Bool
-  free = slotFree (slotsOf (length t)) t
-
-  abbrev new : ℕ → Bool
-  new = isNew (slotsOf (length t)) t base
-
-  right : Rule (cellsOf (length memory)) (slotsOf (length t)) (bodiesOf (length bodies)) t
-  right = raw-rule memory bodies t (r .store)
-
   -- there are slots and bodies enough
   pub slots-enough : count n (isNew (slotsOf (length t)) t base) ≤ count (slotsOf (length t)) (slotFree (slotsOf (length t)) t)
   slots-enough = omega (arith, r .slots, slots-all (slotsOf (length t)) t)
 
   pub places-enough : k ≡ 0 → count n (isNew (slotsOf (length t)) t base) ≤ count (bodiesOf (length bodies)) (bodyFree (slotsOf (length t)) t)
-  places-enough z = omega (arith, r .places z, bodies-all (cellsOf (length memory)) (slotsOf (length t)) (bodiesOf (length bodies)) t right)
+  places-enough z = omega (arith, r .places z, bodies-all (cellsOf (length memory)) (slotsOf (length t)) (bodiesOf (length bodies)) t (raw-rule memory bodies t (r .store)))
 
   pub lowest : Choice (slotsOf (length t)) (bodiesOf (length bodies)) t base n k (slotFor (slotsOf (length t)) t base) (bodyFor (slotsOf (length t)) (bodiesOf (length bodies)) t base)
   lowest =
@@ -107,34 +95,3 @@ module _ (memory bodies t : List ℕ) (base n k l : ℕ) (r : Ready memory bodie
         slots = lowest-free n (isNew e t base) e (slotFree e t) slots-enough;
         bodies = λ z. lowest-free n (isNew e t base) b (bodyFree e t) (places-enough z);
       }
-
-  -- its change is the call's
-  change-is : (i : ℕ) → i < slotsOf (length t) → addChange (slotsOf (length t)) (bodiesOf (length bodies)) t base n k l i
-      ≡ changeWith (slotsOf (length t)) t base n k l (slotFor (slotsOf (length t)) t base) (bodyFor (slotsOf (length t)) (bodiesOf (length bodies)) t base) i
-  unfolding addChange changeWith raiseChange lowestFree
-  change-is i h =
-      by-bool (free i)
-      (λ p.
-      by-bool (ltb (count i free) (count n new))
-      (λ q.
-      let lt = ltb-true (count i free) (count n new) q in
-      let at = lowest-taker n new e free slots-enough i h p lt in
-      rw (p, q, at, lt-ltb (nth n new (count i free)) n (nth-below n new (count i free) lt), nth-rank n new (count i free) lt))
-      (λ q.
-      let none-takes : ltb (cellFor e t base n (slotFor e t base) i) n ≡ false = is-false _ (λ y. true≢ (lt-ltb (count i free) (count n new) (lowest-taken n new e free slots-enough i y)) q) in
-      rw (p, q, none-takes, eqb-true (word1 e t i) 0 p, rises-free (live t) base n l (r .inner))))
-      (λ p.
-      let none-takes : ltb (cellFor e t base n (slotFor e t base) i) n ≡ false = is-false _ (λ y. true≢ (taken-free (lowest .slots) i y) p) in
-      rw (p, none-takes))
-
-  pub words-chosen : addWords (bodiesOf (length bodies)) t base n k l
-      ≡ wordsWith t base n k l (slotFor (slotsOf (length t)) t base) (bodyFor (slotsOf (length t)) (bodiesOf (length bodies)) t base)
-  unfolding addWords
-  words-chosen =
-      gather-ext e (λ i. entryStores e i (addChange e b t base n k l i)) (λ i. entryStores e i (changeWith e t base n k l (slotFor e t base) (bodyFor e b t base) i))
-      (λ i h. ap (entryStores e i) (change-is i h))
-
-  -- and so are its bytes
-  pub bytes-chosen : addBytes (bodiesOf (length bodies)) memory t base n k ≡ bytesWith memory t base n k (bodyFor (slotsOf (length t)) (bodiesOf (length bodies)) t base)
-  unfolding addBytes
-  bytes-chosen = refl

@@ -19,11 +19,12 @@ use Rattle.table.specs.Entry.{live, parent, findIn, holdsIn}
 use Rattle.table.proofs.Entry.{holds-found}
 use Rattle.search.proofs.Taking.{taker-facts, taken-many}
 use Rattle.store.proofs.Changes.{Spares, copies-spare}
-use Rattle.add.specs.Add.{isNew}
+use Rattle.store.proofs.Checks.{store-lengths}
+use Rattle.add.specs.Add.{isNew, cellFor, bytesWith}
 use Rattle.add.specs.Walking.{Ready}
-use Rattle.add.proofs.Asking.{lengths}
-use Rattle.add.specs.Choice.{Choice, cellFor, bytesWith}
-use Rattle.add.proofs.Choices.{Taking, range-low, range-high}
+use Rattle.add.specs.Choice.{Choice}
+use Rattle.model.proofs.Ranges.{range-both}
+use Rattle.add.proofs.Choices.{Taking}
 use Rattle.add.proofs.Chosen.{taking}
 
 -- ---- of a call that no question refuses
@@ -42,10 +43,10 @@ module _ (memory bodies t : List ℕ) (base n k l : ℕ) (r : Ready memory bodie
 
   -- the place in the range of the cell that a slot takes
   place : (i : ℕ) → i < e → told .taken i ≡ true → base + (told .cell i - base) ≡ told .cell i
-  place i h p = omega (arith, range-low base n (told .cell i) (told .within i h p))
+  place i h p = omega (arith, range-both base n (told .cell i) (told .within i h p) .0)
 
   place-below : (i : ℕ) → i < e → told .taken i ≡ true → told .cell i - base < n
-  place-below i h p = omega (arith, range-high base n (told .cell i) (told .within i h p), range-low base n (told .cell i) (told .within i h p))
+  place-below i h p = omega (arith, range-both base n (told .cell i) (told .within i h p) .1, range-both base n (told .cell i) (told .within i h p) .0)
 
   place-new : (i : ℕ) → i < e → told .taken i ≡ true → new (told .cell i - base) ≡ true
   place-new i h p = ap (λ (x : ℕ). not (holdsIn e t (live t) x)) (place i h p) ∙ ap not (told .new i h p)
@@ -82,7 +83,7 @@ module _ (memory bodies t : List ℕ) (base n k l : ℕ) (r : Ready memory bodie
       → cellBytes (stores (bytesWith memory t base n k body) bodies) ((taking choice) .body i) ≡ cellBytes memory ((taking choice) .cell i)
   unfolding taking
   bytes-filled z i h p =
-      let w = lengths memory bodies t (r .store) in
+      let w = store-lengths _ _ t (r .store) in
       let f = taker-facts n new slot i p in
       let j : ℕ = cellFor e t base n slot i in
       let some = choice .bodies z in

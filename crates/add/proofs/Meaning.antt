@@ -27,8 +27,9 @@ use Rattle.model.specs.Holdings.{holdingAt, inRange, labelNumbered, kindNumbere
 use Rattle.store.specs.State.{labelOf, heldIn, stateIn}
 use Rattle.store.proofs.Domains.{held-none, held-some, innermost-state}
 use Rattle.store.proofs.Becoming.{atSlot, told, Stays, Value, came, took, rests, Full, Fate, keeps, raises, fills, Becomes, becomes-rule, becomes-held}
-use Rattle.add.specs.Walking.{rises, raiseChange}
-use Rattle.add.proofs.Choices.{Taking, chosen, range-high, rises-facts}
+use Rattle.model.proofs.Ranges.{range-both}
+use Rattle.add.specs.Add.{rises, raiseChange}
+use Rattle.add.proofs.Choices.{Taking, chosen, rises-facts}
 use Rattle.add.proofs.Numbers.{outer-value}
 
 module _ (m e b : ℕ) (t : List ℕ) (ok : Rule m e b t) (long : pairsAt e ≤ length t) (base n k l : ℕ)
@@ -45,7 +46,7 @@ module _ (m e b : ℕ) (t : List ℕ) (ok : Rule m e b t) (long : pairsAt e ≤ 
   word i = entryWord (live t) k l (choice .cell i)
 
   made : (i : ℕ) → i < e → choice .taken i ≡ true → Made (word i) (live t) l k 0 (choice .cell i)
-  made i h p = entry-made (live t) k l (choice .cell i) kind label (omega (arith, range-high base n (choice .cell i) (choice .within i h p)))
+  made i h p = entry-made (live t) k l (choice .cell i) kind label (omega (arith, range-both base n (choice .cell i) (choice .within i h p) .1))
 
   takes : (i : ℕ) → choice .taken i ≡ true → chosen choice l i ≡ put (word i) (choice .body i)
   unfolding chosen
@@ -92,7 +93,7 @@ module _ (m e b : ℕ) (t : List ℕ) (ok : Rule m e b t) (long : pairsAt e ≤ 
           low = rw (x .depth) inner;
           high = rw (x .depth) (omega arith);
           spare = x .rest;
-          cell = rw (x .cell) (omega (arith, range-high base n (choice .cell i) (choice .within i h p)));
+          cell = rw (x .cell) (omega (arith, range-both base n (choice .cell i) (choice .within i h p) .1));
           place = came (p, sym (x .cell)) (rw (x .depth, x .cell) (choice .new i h p)) (λ q. ap depthOf (choice .free i h p));
           value = new-value i h p;
         }

@@ -10,22 +10,20 @@ use lib.Dec.{leb, eqb}
 use lib.ListN.{length}
 use Rattle.words.specs.Layout.{cellsOf, bodiesOf, slotsOf}
 use Rattle.words.specs.Scan.{count}
-use Rattle.words.proofs.Scan.{by-bool, by-le, and-split, true≢, count-ext, count-le}
+use Rattle.words.proofs.Scan.{by-bool, by-le, and-split, true≢, count-ext, count-none}
 use Rattle.table.specs.Entry.{live, word1, writableOf, cellOf, parent, findIn, holdsIn, parentHas}
 use Rattle.table.specs.Changes.{isChanged}
-use Rattle.table.proofs.Entry.{find-hit, holds-found}
-use Rattle.table.proofs.Rule.{Rule}
+use Rattle.table.proofs.Entry.{read-only, find-hit, holds-found}
 use Rattle.table.proofs.Entries.{changes-count}
 use Rattle.search.specs.Search.{valueIn}
 use Rattle.search.proofs.Counts.{count-entries}
 use Rattle.model.specs.Holdings.{holdingAt, isHeld, heldReadOnly, valueOr, inRange, labelNumbered, kindNumbered, newlyHeld, relabelled, newBodies}
 use Rattle.store.specs.State.{heldIn, stateIn}
 use Rattle.store.proofs.Domains.{state-holding, state-zero, domains-count, held-holds, held-writable}
-use Rattle.words.proofs.Scan.{count-none}
 use Rattle.store.proofs.Raw.{raw-rule}
-use Rattle.add.specs.Add.{isNew}
-use Rattle.add.specs.Walking.{rises, raiseChange, Ready}
-use Rattle.add.specs.Choice.{Choice, wordsWith, bytesWith}
+use Rattle.add.specs.Add.{isNew, rises, raiseChange, wordsWith, bytesWith}
+use Rattle.add.specs.Walking.{Ready}
+use Rattle.add.specs.Choice.{Choice}
 use Rattle.add.proofs.Choices.{Taking, chosen, rises-free}
 use Rattle.add.proofs.Chosen.{taking, words-told}
 use Rattle.add.proofs.Counting.{count-or, count-range}
@@ -45,13 +43,7 @@ module _ (e : ℕ) (t bodies : List ℕ) (inner : 1 ≤ live t) where
   inner-only c =
       ap heldReadOnly (at-inner c)
       ∙ rw (held-holds e t bodies (live t) c, held-writable e t bodies (live t) c)
-      (by-bool (holdsIn e t (live t) c) (λ p. rw p (bit (word1 e t (findIn e t (live t) c)))) (λ p. rw p))
-    where
-      bit : (w : ℕ) → not (eqb (writableOf w) 1) ≡ eqb (writableOf w) 0
-      bit w =
-          by-bool (eqb (writableOf w) 1)
-          (λ p. let q = eqb-true (writableOf w) 1 p in rw (p, ne-eqb (writableOf w) 0 (λ z. omega arith)))
-          (λ p. let q = eqb-false (writableOf w) 1 p in rw (p, eq-eqb (writableOf w) 0 (omega (arith, q))))
+      (by-bool (holdsIn e t (live t) c) (λ p. rw p (read-only (word1 e t (findIn e t (live t) c)))) (λ p. rw p))
 
   outer-at : (c : ℕ) → 2 ≤ live t → holdingAt (stateIn e t bodies .domains) (length (stateIn e t bodies .domains) - 1) c ≡ heldIn e t bodies (parent (live t)) c
   outer-at c deep = ap (λ (d : ℕ). holdingAt (stateIn e t bodies .domains) (d - 1) c) (domains-count e t bodies) ∙ state-holding e t bodies (parent (live t)) c (omega arith) (omega arith)
@@ -98,9 +90,6 @@ module _ (memory bodies t : List ℕ) (base n k l : ℕ) (r : Ready memory bodie
   abbrev up : ℕ → Bool
   up i = rises (live t) base n l (word1 (slotsOf (length t)) t i)
 
-  right : Rule (cellsOf (length memory)) (slotsOf (length t)) (bodiesOf (length bodies)) t
-  right = raw-rule memory bodies t (r .store)
-
   changed-is : (i : ℕ) → isChanged (chosen told l i) ≡ (told .taken i || rises (live t) base n l (word1 (slotsOf (length t)) t i))
   unfolding chosen raiseChange
   changed-is i =
@@ -111,7 +100,7 @@ module _ (memory bodies t : List ℕ) (base n k l : ℕ) (r : Ready memory bodie
   raised-many =
       let P : ℕ → Bool = λ w. inRange base n (cellOf w) && (eqb l 1 && eqb (writableOf w) 0) in
       let Q : ℕ → Bool = λ c. holdsIn e t (live t) c && (eqb l 1 && eqb (writableOf (word1 e t (findIn e t (live t) c))) 0) in
-      count-entries (cellsOf (length memory)) e (bodiesOf (length bodies)) t right (live t) (r .inner) P
+      count-entries (cellsOf (length memory)) e (bodiesOf (length bodies)) t (raw-rule memory bodies t (r .store)) (live t) (r .inner) P
       ∙ count-ext (cellsOf (length memory)) (λ c. holdsIn e t (live t) c && P (word1 e t (findIn e t (live t) c))) (λ c. inRange base n c && Q c)
       (λ c h.
       by-bool (holdsIn e t (live t) c)
@@ -138,10 +127,3 @@ module _ (memory bodies t : List ℕ) (base n k l : ℕ) (r : Ready memory bodie
       (by-bool (eqb k 1)
       (λ p. let q = eqb-true k 1 p in rw (p, ne-eqb k 0 (λ z. omega arith)) (ap (λ (x : ℕ). 64 * x) (count-none n (λ j. false) (λ i h. refl))))
       (λ p. let q = eqb-false k 1 p in let small = r .kind in rw (p, eq-eqb k 0 (omega (arith, q)))))
-
-  -- at most as many entries change as there are
-  pub changed-few : newlyHeld base n (stateIn (slotsOf (length t)) t bodies) + relabelled base n (labelNumbered l) (stateIn (slotsOf (length t)) t bodies) ≤ slotsOf (length t)
-  changed-few =
-      let many = words-many in
-      let c = sym (ap length (words-told choice l)) ∙ changes-count e (chosen told l) in
-      omega (arith, count-le e (λ i. isChanged (chosen told l i)))

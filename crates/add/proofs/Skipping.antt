@@ -19,11 +19,13 @@ use Rattle.table.specs.Changes.{keep}
 use Rattle.search.specs.Free.{slotFree}
 use Rattle.search.proofs.From.{from-ge}
 use Rattle.changes.proofs.Staging.{stages-skip}
+use Rattle.add.specs.Add.{rises}
 use Rattle.add.specs.declared.Cursors.{Cursors}
 use Rattle.add.specs.declared.Range.{Range}
-use Rattle.add.specs.Walking.{unheld, newIn, nextUnheld, rises, listChange, Stands, Walked, Skips}
+use Rattle.add.specs.Walking.{unheld, newIn, nextUnheld, listChange, Stands, Walked, Skips}
 use Rattle.add.proofs.Asking.{or-right}
-use Rattle.add.proofs.Choices.{rises-facts, range-low, range-high, raise-no}
+use Rattle.model.proofs.Ranges.{range-both}
+use Rattle.add.proofs.Choices.{rises-facts, raise-no}
 use Rattle.add.proofs.Walks.{kept-change, kept-stands, none-change, none-stands}
 
 -- a count that leaves nothing out
@@ -42,8 +44,8 @@ module _ (held used : List ℕ) (e b : ℕ) (t : List ℕ) (r : Range) where
       (λ y.
       let f = rises-facts (live t) (r .first) (r .count) (r .label) (word1 e t i) y in
       let c : ℕ = cellOf (word1 e t i) in
-      let low = range-low (r .first) (r .count) c (f .cell) in
-      let high = range-high (r .first) (r .count) c (f .cell) in
+      let low = range-both (r .first) (r .count) c (f .cell) .0 in
+      let high = range-both (r .first) (r .count) c (f .cell) .1 in
       let back : r .first + (c - r .first) ≡ c = omega arith in
       by-bool (eqb (r .label) 0)
       (λ z. zero-one (eqb-true (r .label) 0 z) (f .label))

@@ -12,19 +12,19 @@ use Rattle.words.specs.Scan.{count, nth}
 use Rattle.words.specs.Cells.{cellPlan}
 use Rattle.words.specs.Stores.{Store, gather}
 use Rattle.words.proofs.Scan.{by-bool, count-more, count-ext}
-use Rattle.words.proofs.Nth.{nth-ext, count-below}
+use Rattle.words.proofs.Nth.{count-below}
 use Rattle.words.proofs.Gather.{gather-ext, gather-none}
 use Rattle.words.proofs.Plans.{length-cellPlan}
 use Rattle.table.specs.Entry.{live, word1, word2, entryWord}
-use Rattle.table.specs.Changes.{keep, put, entryChanges}
+use Rattle.table.specs.Changes.{keep, put}
 use Rattle.search.specs.Free.{slotFree, bodyFree, lowestFree, unmarked, unmarkedFrom}
 use Rattle.search.proofs.From.{firstFrom, from-le, from-miss, count-stop, next-nth, next-passed, next-left, next-none}
 use Rattle.search.proofs.Free.{unmarked-nth, unmarked-below, unmarked-passed}
 use Rattle.search.proofs.Taking.{lowest-ext}
-use Rattle.add.specs.Add.{isNew, addBytes, addWords, addChange}
+use Rattle.add.specs.Add.{isNew, addBytes, raiseChange}
 use Rattle.add.specs.declared.Cursors.{Cursors}
 use Rattle.add.specs.declared.Range.{Range}
-use Rattle.add.specs.Walking.{unheld, newIn, NoneBelow, nextUnheld, copyBytes, bodyBeyond, raiseChange, listChange, Stands}
+use Rattle.add.specs.Walking.{unheld, newIn, NoneBelow, nextUnheld, copyBytes, bodyBeyond, listChange, Stands}
 
 -- ---- the next body without a mark, and the next new cell
 
@@ -193,7 +193,7 @@ module _ (held used : List ℕ) (e b : ℕ) (t : List ℕ) (r : Range) where
               bodies = λ z. rw (body, eq-eqb (r .kind) 0 z) (unmarked-passed used b (c .from) rank (s .body z) (s .bodies z ∙ here) (omega (arith, room z, ranked)) ∙ sym step);
             }
 
--- ---- right marks: the walks' plans are the call's
+-- ---- right marks: the walk's bytes are the call's
 
 module _ (held used : List ℕ) (b : ℕ) (t : List ℕ) (r : Range)
     (new : (j : ℕ) → j < r .count → unheld held (live t) (r .first) j ≡ isNew (slotsOf (length t)) t (r .first) j)
@@ -206,13 +206,3 @@ module _ (held used : List ℕ) (b : ℕ) (t : List ℕ) (r : Range)
   bytes-are memory =
       gather-ext (r .count) _ _ (λ j l.
       rw (new j l, lowest-ext b (unmarked used) (bodyFree (slotsOf (length t)) t) (unheld held (live t) (r .first)) (isNew (slotsOf (length t)) t (r .first)) j free (λ i h. new i (omega arith))))
-
-  pub words-are : entryChanges (slotsOf (length t)) (listChange held used (slotsOf (length t)) b t r) ≡ addWords b t (r .first) (r .count) (r .kind) (r .label)
-  unfolding listChange raiseChange addWords addChange
-  words-are =
-      gather-ext (slotsOf (length t)) _ _ (λ i l.
-      rw (
-        same-count (r .count) (omega arith),
-        nth-ext (r .count) (unheld held (live t) (r .first)) (isNew (slotsOf (length t)) t (r .first)) (count i (slotFree (slotsOf (length t)) t)) new,
-        nth-ext b (unmarked used) (bodyFree (slotsOf (length t)) t) (count i (slotFree (slotsOf (length t)) t)) free,
-      ))

@@ -5,13 +5,13 @@ use mathlib.Core.List.{List, []}
 use lib.Dec.{ltb, leb, eqb}
 use lib.ListN.{length}
 use Rattle.words.specs.Layout.{cellsOf, bodiesOf, slotsOf, pairsAt}
-use Rattle.words.specs.Scan.{all, count, nth}
+use Rattle.words.specs.Scan.{all, count}
 use Rattle.words.specs.Cells.{cellBytes, sameCell, cellPlan}
 use Rattle.words.specs.Stores.{Store, gather}
 use Rattle.table.specs.Entry.{word1, word2, depthOf, cellOf, writableOf, entryWord, writable, innermost, parent, holdsIn, parentHas}
 use Rattle.table.specs.Changes.{Change, keep, put, entryChanges}
 use Rattle.search.specs.Search.{valueIn}
-use Rattle.search.specs.Free.{slotFree, bodyFree, usedSlots, copies, lowestFree}
+use Rattle.search.specs.Free.{slotFree, bodyFree, usedSlots, copies, lowestFree, takerOf}
 use Rattle.model.specs.Answer.{ask, orElse, View}
 use Rattle.model.specs.Holdings.{askRange, inRange, addEffect}
 use Rattle.store.specs.Outcome.{Buffers, Call, perform, unless, changePlan}
@@ -35,37 +35,44 @@ addCheck memory bodies t h first n k l =
     (ask (leb (usedSlots (slotsOf (length t)) t + count n (isNew (slotsOf (length t)) t first)) (slotsOf (length t))) 16
     (ask (eqb k 1 || leb (copies (slotsOf (length t)) t + count n (isNew (slotsOf (length t)) t first)) (bodiesOf (length bodies))) 17 0)))))))
 
--- the slot and the body that the j-th cell of the range takes, where it is newly held: the lowest free ones, in the order of the cells
+-- does the label of an entry with first word w rise, d being the innermost depth? It is one of the range's read-only entries, and the label is read-write
+abbrev pub rises : (d first n l w : ℕ) → Bool
+rises d first n l w = eqb (depthOf w) d && (inRange first n (cellOf w) && (eqb l 1 && eqb (writableOf w) 0))
+
+unfoldable pub raiseChange : (d first n l w v : ℕ) → Change
+raiseChange d first n l w v = cond (rises d first n l w) (put (writable w) v) keep
+
+-- where `slot j` and `body j` are those of the j-th cell of the range, if it is newly held: the one that takes slot i, or n
+abbrev pub cellFor : ℕ → List ℕ → (first n : ℕ) (slot : ℕ → ℕ) → ℕ → ℕ
+cellFor e t first n slot i = takerOf n (isNew e t first) slot i
+
+-- the change of entry i: its slot is taken by a cell, with a body or none; else its label rises, or it stays
+unfoldable pub changeWith : ℕ → List ℕ → (first n k l : ℕ) (slot body : ℕ → ℕ) → ℕ → Change
+changeWith e t first n k l slot body i =
+    cond (ltb (cellFor e t first n slot i) n)
+    (put (entryWord (innermost t) k l (first + cellFor e t first n slot i)) (cond (eqb k 0) (body (cellFor e t first n slot i)) 0))
+    (raiseChange (innermost t) first n l (word1 e t i) (word2 e t i))
+
+abbrev pub wordsWith : List ℕ → (first n k l : ℕ) (slot body : ℕ → ℕ) → List Store
+wordsWith t first n k l slot body = entryChanges (slotsOf (length t)) (changeWith (slotsOf (length t)) t first n k l slot body)
+
+-- "bytes first: 64 for each copy taken .., rising by cell and byte"; none for via parent
+abbrev pub bytesWith : List ℕ → List ℕ → (first n k : ℕ) (body : ℕ → ℕ) → List Store
+bytesWith memory t first n k body =
+    gather n (λ j. cond (eqb k 0 && isNew (slotsOf (length t)) t first j) (cellPlan memory (first + j) (body j)) [])
+
+-- the lowest free ones, in the order of the cells
 abbrev pub slotFor : ℕ → List ℕ → (first : ℕ) → ℕ → ℕ
 slotFor e t first = lowestFree e (slotFree e t) (isNew e t first)
 
 abbrev pub bodyFor : (e b : ℕ) → List ℕ → (first : ℕ) → ℕ → ℕ
 bodyFor e b t first = lowestFree b (bodyFree e t) (isNew e t first)
 
--- the r-th new cell; the body that it takes, the lowest free bodies first, none for via parent
-abbrev pub newCell : ℕ → List ℕ → (first n r : ℕ) → ℕ
-newCell e t first n r = first + nth n (isNew e t first) r
-
-abbrev pub newBody : (e b : ℕ) → List ℕ → (k r : ℕ) → ℕ
-newBody e b t k r = cond (eqb k 0) (nth b (bodyFree e t) r) 0
-
--- the r-th free slot takes the r-th new cell; a read-only entry of the range becomes read-write if the label is
-unfoldable pub addChange : (e b : ℕ) → List ℕ → (first n k l i : ℕ) → Change
-addChange e b t first n k l i =
-    cond (slotFree e t i)
-    (cond (ltb (count i (slotFree e t)) (count n (isNew e t first)))
-    (put (entryWord (innermost t) k l (newCell e t first n (count i (slotFree e t)))) (newBody e b t k (count i (slotFree e t)))) keep)
-    (cond (eqb (depthOf (word1 e t i)) (innermost t) && (inRange first n (cellOf (word1 e t i)) && (eqb l 1 && eqb (writableOf (word1 e t i)) 0)))
-    (put (writable (word1 e t i)) (word2 e t i)) keep)
-
 unfoldable pub addWords : (b : ℕ) → List ℕ → (first n k l : ℕ) → List Store
-addWords b t first n k l = entryChanges (slotsOf (length t)) (addChange (slotsOf (length t)) b t first n k l)
+addWords b t first n k l = wordsWith t first n k l (slotFor (slotsOf (length t)) t first) (bodyFor (slotsOf (length t)) b t first)
 
--- "bytes first: 64 for each copy taken .., rising by cell and byte"; none for via parent
 unfoldable pub addBytes : (b : ℕ) → List ℕ → List ℕ → (first n k : ℕ) → List Store
-addBytes b memory t first n k =
-    gather n (λ j. cond (eqb k 0 && isNew (slotsOf (length t)) t first j)
-    (cellPlan memory (first + j) (bodyFor (slotsOf (length t)) b t first j)) [])
+addBytes b memory t first n k = bytesWith memory t first n k (bodyFor (slotsOf (length t)) b t first)
 
 unfoldable pub addCall : (h first n k l : ℕ) → Buffers → Call
 addCall h first n k l b =

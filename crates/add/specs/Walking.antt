@@ -11,17 +11,17 @@ use Rattle.words.specs.Scan as scan
 use Rattle.words.specs.Scan.{all, count, nth}
 use Rattle.words.specs.Cells.{cellBytes, sameCell, cellPlan}
 use Rattle.words.specs.Stores.{Store, gather}
-use Rattle.table.specs.Entry.{live, word1, word2, depthOf, cellOf, writableOf, entryWord, writable, innermost, parent, parentHas}
+use Rattle.table.specs.Entry.{live, word1, word2, entryWord, innermost, parent, parentHas}
 use Rattle.table.specs.Marks.{markOf, has, Marked}
 use Rattle.table.specs.Changes.{Change, keep, put, entryChanges}
 use Rattle.search.specs.Search.{sourceIn, valueIn}
 use Rattle.search.specs.Free.{slotFree, usedSlots, copies, lowestFree, unmarked, unmarkedFrom}
 use Rattle.changes.specs.Staged.{Stages}
 use Rattle.model.specs.Answer.{ask, orElse}
-use Rattle.model.specs.Holdings.{askRange, inRange}
+use Rattle.model.specs.Holdings.{askRange}
 use Rattle.store.specs.Checks.{storeCheck, askInnermostIn}
 use Rattle.store.specs.Outcome.{Buffers, Call}
-use Rattle.add.specs.Add.{isNew, addBytes, addWords, addCall}
+use Rattle.add.specs.Add.{isNew, raiseChange, addBytes, addWords, addCall}
 use Rattle.add.specs.declared.Cursors.{Cursors}
 use Rattle.add.specs.declared.Range.{Range}
 
@@ -89,17 +89,9 @@ copyBytes b memory held used d base n k =
 
 -- ---- the words
 
--- does the label of an entry with first word w rise?
-abbrev pub rises : (d base n l w : ℕ) → Bool
-rises d base n l w = eqb (depthOf w) d && (inRange base n (cellOf w) && (eqb l 1 && eqb (writableOf w) 0))
-
 -- the body of a new entry, from a place among the bodies on; via parent has none
 abbrev pub bodyBeyond : List ℕ → (b k from : ℕ) → ℕ
 bodyBeyond used b k from = cond (eqb k 0) (unmarkedFrom b used from) 0
-
--- an entry in use
-unfoldable pub raiseChange : (d base n l w v : ℕ) → Change
-raiseChange d base n l w v = cond (rises d base n l w) (put (writable w) v) keep
 
 -- the r-th free slot takes the r-th new cell, and the r-th body without a mark
 unfoldable pub listChange : List ℕ → List ℕ → (e b : ℕ) → List ℕ → Range → ℕ → Change

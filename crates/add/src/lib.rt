@@ -63,9 +63,9 @@ ghost use Rattle.model.specs.Answer.{stepsOf};
 ghost use Rattle.store.specs.Checks.{storeCheck};
 ghost use Rattle.store.specs.Outcome.{buffers, report, Makes};
 ghost use Rattle.store.specs.Means.{Shows};
-ghost use Rattle.add.specs.Add.{addCheck, addCall, addMeans};
+ghost use Rattle.add.specs.Add.{addCheck, addCall, addMeans, rises, raiseChange};
 ghost use Rattle.add.specs.Walking.{lacks, newIn, nextUnheld, rangeCheck, parentCheck, roomCheck, heldCheck, backed, alike, Source, copyBytes};
-ghost use Rattle.add.specs.Walking.{bodyBeyond, rises, raiseChange, listChange, NoneBelow, StagesOn, Walkable, Walked, Stageable, Skips, Ready, bytesOf, wordsOf, callOf};
+ghost use Rattle.add.specs.Walking.{bodyBeyond, listChange, NoneBelow, StagesOn, Walkable, Walked, Stageable, Skips, Ready, bytesOf, wordsOf, callOf};
 ghost use Rattle.add.specs.Walking.{rangeWords};
 
 // What an add names: `count` cells from `first` on, to be held as copies (kind 0) or via parent (kind 1), read-only (label 0) or read-write

@@ -2,26 +2,23 @@
 -- different free bodies; the call takes the lowest ones. Assumes nothing.
 use Prim.Native.Nat.{ℕ, suc, _+_, _-_, _*_, _≤_, _<_}
 use mathlib.Core.Bool.{true, not, _||_}
-use mathlib.Core.List.{List, [], map}
+use mathlib.Core.List.{List, map}
 use mathlib.Core.Option.{Option}
 use mathlib.Core.Path.{_≡_, refl, sym, ap, subst, _∙_}
 use native.Mathlib.Omega.{arith}
-use borrow.Author.Tests.{eq-eqb, ne-eqb, ltb-true, leb-true, leb-false}
+use borrow.Author.Tests.{ltb-true, leb-true, leb-false}
 use lib.Dec.{leb, ltb, eqb}
 use lib.ListN.{length, take, length-append, length-map}
 use Rattle.words.specs.Layout.{cellsOf, bodiesOf, slotsOf, pairsAt}
 use Rattle.words.specs.Scan.{all, count}
 use Rattle.words.specs.Stores.{Store, stores}
 use Rattle.words.specs.Journal.{pending, namesOk, journal}
-use Rattle.words.proofs.Scan.{by-bool, by-le, all-ext, count-ext, count-le}
+use Rattle.words.proofs.Scan.{by-bool, all-ext, count-ext}
 use Rattle.words.proofs.Plans.{Each}
 use Rattle.words.proofs.Copies.{copies-length, copies-stored}
-use Rattle.words.proofs.Names.{names-make, names-below}
-use Rattle.words.proofs.Places.{pendingAt-below}
 use Rattle.table.specs.Entry.{live, parent, holdsIn}
-use Rattle.table.specs.Changes.{isChanged}
 use Rattle.table.proofs.Rule.{Rule}
-use Rattle.table.proofs.Entries.{changes-count, changes-names}
+use Rattle.table.proofs.Entries.{changes-few, entries-names}
 use Rattle.search.specs.Domain.{depthNamed}
 use Rattle.search.specs.Free.{copies}
 use Rattle.search.proofs.Domain.{depth-small}
@@ -33,18 +30,19 @@ use Rattle.store.specs.Outcome.{Buffers, buffers, inBodies, inTable, changePlan
 use Rattle.store.specs.Checks.{storeCheck}
 use Rattle.store.specs.State.{stateIn, stateOf}
 use Rattle.store.specs.Means.{visibleOf, orRefused, callMeans, roomOf, leftPending, pendingAfter, afterPending, Reopens}
-use Rattle.store.proofs.Checks.{ask-yes, ask-stop, ask-rest, orElse-both, orElse-go, shape-facts, store-shape}
+use Rattle.store.proofs.Checks.{ask-yes, ask-stop, ask-rest, orElse-both, orElse-go, store-lengths}
 use Rattle.store.proofs.Outcome.{refuses}
 use Rattle.store.proofs.Domains.{state-named, state-holding, domains-count, held-holds, held-writable}
 use Rattle.store.proofs.InUse.{copies-in-use}
-use Rattle.store.proofs.Means.{by-check, t-long, store-standing}
+use Rattle.store.proofs.Means.{by-check, store-standing}
 use Rattle.store.proofs.Changes.{Spares, spared, front-spares, copies-spare, change-length, change-performed, change-seen}
 use Rattle.store.proofs.Pending.{performed-pending, call-pending}
 use Rattle.store.proofs.Reopened.{changes-shaped, shape-reopens, unless-reopens}
 use Rattle.store.proofs.Standing.{standing-opens}
-use Rattle.advance.specs.Choice.{Choice, changeWith, bytesWith, wordsWith, advanceWith, MayTake}
-use Rattle.advance.specs.Advance.{advances, advanceCheck, bodyFor, advanceChange, advanceWords, advanceBytes, advanceCall, advanceMeans}
-use Rattle.store.proofs.Raw.{raw-rule, raw-state, raw-next, raw-after}
+use Rattle.store.proofs.Bounds.{change-bound}
+use Rattle.advance.specs.Choice.{Choice, advanceWith, MayTake}
+use Rattle.advance.specs.Advance.{advances, advanceCheck, bodyFor, changeWith, bytesWith, wordsWith, advanceWords, advanceBytes, advanceCall, advanceMeans}
+use Rattle.store.proofs.Raw.{raw-rule, raw-long, raw-state, raw-next, raw-after}
 use Rattle.advance.specs.Notes.{performed}
 use Rattle.advance.proofs.Turning.{advances-cell, words-count, takes-below, takes-own, turned-rule, turned-state}
 use Rattle.advance.proofs.Choosing.{chosen}
@@ -76,9 +74,6 @@ module _ (memory bodies t : List ℕ) (yes : storeCheck (length memory) (length 
   ok : Rule m e b t
   ok = raw-rule memory bodies t yes
 
-  long : pairsAt e ≤ length t
-  long = omega (arith, t-long memory bodies t yes)
-
   -- the bytes spare the bodies in use
   spares : Each (Spares e t) bytes
   spares = copies-spare e t memory (advances e t) (λ c. c) body m (choice .was-free)
@@ -93,24 +88,21 @@ module _ (memory bodies t : List ℕ) (yes : storeCheck (length memory) (length 
   with-words = words-count m e b t ok body low
 
   with-few : length words ≤ 2 * e
-  with-few = omega (arith, changes-count e (changeWith e t body), count-le e (λ i. isChanged (changeWith e t body i)))
+  with-few = changes-few e (changeWith e t body)
 
   pub with-names : namesOk (pairsAt (slotsOf (length t))) 0 words ≡ true
-  with-names = changes-names e (changeWith e t body) [] (names-make (pairsAt e) 0 [] tt tt tt) tt
-
-  below : Each (λ s. s .at < pairsAt (slotsOf (length t))) words
-  below = names-below (pairsAt e) 0 words (pendingAt-below e) with-names
+  with-names = entries-names e (changeWith e t body)
 
   -- the new table is right
   pub with-rule : Rule (cellsOf (length memory)) (slotsOf (length t)) (bodiesOf (length bodies)) (stores words (take (pairsAt (slotsOf (length t))) t))
-  with-rule = raw-next memory bodies t yes words below (turned-rule m e b t ok long body choice)
+  with-rule = raw-next memory bodies t yes words with-names (turned-rule m e b t ok (raw-long memory bodies t yes) body choice)
 
   -- and stands for the model's state
   pub with-state : stateIn (slotsOf (length t)) (stores words (take (pairsAt (slotsOf (length t))) t)) (stores bytes bodies) ≡ advance memory (stateOf (buffers memory bodies t))
   with-state =
-      let f = shape-facts (length memory) (length bodies) t (store-shape (length memory) (length bodies) t yes) in
-      raw-after memory bodies t yes words below (turned-rule m e b t ok long body choice) (stores bytes bodies)
-      ∙ turned-state m e b t ok long body choice memory bodies (stores bytes bodies)
+      let f = store-lengths (length memory) (length bodies) t yes in
+      raw-after memory bodies t yes words with-names (turned-rule m e b t ok (raw-long memory bodies t yes) body choice) (stores bytes bodies)
+      ∙ turned-state m e b t ok (raw-long memory bodies t yes) body choice memory bodies (stores bytes bodies)
       (spared e t bytes bodies spares)
       (λ c goes.
       let small : c < m = advances-cell m e b t ok c goes in
@@ -144,12 +136,8 @@ module _ (memory bodies t : List ℕ) (yes : storeCheck (length memory) (length 
   -- "every other call at most 70E + 32"
   pub with-bound : stepsOf (length bytes) (length words) ≤ 70 * slotsOf (length t) + 32
   with-bound =
-      let x = with-bytes in
-      let y = with-words in
-      let z = with-few in
-      by-le (length words) 0
-      (λ l. let q : length words ≡ 0 = omega arith in rw (eq-eqb (length words) 0 q) (omega arith))
-      (λ l. rw (ne-eqb (length words) 0 (λ q. omega arith)) (omega arith))
+      let many = count m (advances e t) in
+      rw with-bytes (change-bound many (length words) e (omega (arith, with-words, with-few)) (omega (arith, with-few)))
 
 -- ---- the questions, of words and of a state
 
@@ -251,7 +239,7 @@ module _ (memory bodies t : List ℕ) (h : ℕ) (pass : advanceCheck (length mem
       (advance-room (length memory) (length bodies) t h pass)
 
   pub advance-bound : stepsOf (length (advanceBytes (cellsOf (length memory)) (bodiesOf (length bodies)) memory t)) (length (advanceWords (bodiesOf (length bodies)) t)) ≤ 70 * slotsOf (length t) + 32
-  unfolding advanceBytes advanceWords advanceChange
+  unfolding advanceBytes advanceWords
   advance-bound =
       with-bound memory bodies t yes (advance-low (length memory) (length bodies) t h pass) (bodyFor (slotsOf (length t)) (bodiesOf (length bodies)) t) lowest
 
@@ -320,7 +308,7 @@ module _ (h : ℕ) (b : Buffers) (body : ℕ → ℕ) (may : MayTake h b body) w
 -- ---- the contract's call, which takes the lowest free bodies
 
 pub advance-is : (h : ℕ) (b : Buffers) → advanceCall h b ≡ advanceWith (bodyFor (slotsOf (length (b .table))) (bodiesOf (length (b .bodies))) (b .table)) h b
-unfolding advanceCall advanceWith advanceBytes advanceWords advanceChange
+unfolding advanceCall advanceWith advanceBytes advanceWords
 advance-is h b = refl
 
 -- they were free before the call, and differ

@@ -21,7 +21,7 @@ use Rattle.table.specs.Entry.{live, word1, asCopy}
 use Rattle.table.specs.Marks.{cellIn}
 use Rattle.table.specs.Changes.{keep, put}
 use Rattle.table.proofs.Marks.{split}
-use Rattle.search.specs.Free.{unmarked}
+use Rattle.search.specs.Free.{lowestFree, unmarked}
 use Rattle.changes.specs.Staged.{isSet, but}
 use Rattle.advance.specs.Advance.{turns}
 use Rattle.advance.specs.Notes.{OwnBits, listSlot, Listed, rankOf, InOrder, changeTo}
@@ -80,7 +80,7 @@ plans-length memory from to (suc r) =
 module _ (e b : ℕ) (t used : List ℕ) where
   pub change-none : (i : ℕ) → changeTo e b t used 0 i ≡ keep
   unfolding changeTo
-  change-none i = by-bool (turns (live t) (word1 e t i)) (λ y. rw (y, le-ltb (rankOf e t i) 0 (omega arith))) (λ y. rw y)
+  change-none i = rw (le-ltb (rankOf e t i) 0 (omega arith))
 
   -- one entry more
   module _ (n r : ℕ) (places : List ℕ) (list : InOrder e t n places) (here : r < n) where
@@ -88,19 +88,22 @@ module _ (e b : ℕ) (t used : List ℕ) where
     slot = getD places r 0
 
     pub change-more : (j : ℕ) → j < e → but (changeTo e b t used r) (getD places r 0) (put (asCopy (word1 e t (getD places r 0))) (nth b (unmarked used) r)) j ≡ changeTo e b t used (r + 1) j
-    unfolding changeTo
+    unfolding changeTo lowestFree
     change-more j l =
         by-bool (eqb j slot)
         (λ z.
         let q = eqb-true j slot z in
-        rw (z, q, list .goes r here, list .rank r here, lt-ltb r (r + 1) (omega arith)))
+        rw (z, q, list .rank r here, lt-ltb r (r + 1) (omega arith), list .goes r here))
         (λ z.
         rw z
         (by-bool (turns (live t) (word1 e t j))
         (λ y.
         let other : rankOf e t j ≡ r → ⊥ = λ q. eqb-false j slot z (sym (list .place j l y) ∙ ap (λ (x : ℕ). getD places x 0) q) in
-        rw (y, same-side (rankOf e t j) other))
-        (λ y. rw y)))
+        rw (same-side (rankOf e t j) other))
+        (λ y. rw y (either (ltb (rankOf e t j) r) (ltb (rankOf e t j) (r + 1))))))
       where
         same-side : (k : ℕ) → (k ≡ r → ⊥) → ltb k r ≡ ltb k (r + 1)
         same-side k ne = by-le r k (λ h. le-ltb k r h ∙ sym (le-ltb k (r + 1) (omega (arith, ne)))) (λ h. lt-ltb k r h ∙ sym (lt-ltb k (r + 1) (omega arith)))
+
+        either : (x y : Bool) → cond x keep keep ≡ cond y keep keep
+        either x y = by-bool x (λ p. by-bool y (λ q. rw (p, q)) (λ q. rw (p, q))) (λ p. by-bool y (λ q. rw (p, q)) (λ q. rw (p, q)))

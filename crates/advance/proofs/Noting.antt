@@ -5,7 +5,7 @@ use mathlib.Core.List.{List, []}
 use mathlib.Core.Path.{_≡_, refl, sym, ap, subst, _∙_}
 use native.Mathlib.Omega.{arith}
 use borrow.Author.Tests.{eq-eqb, eqb-true, eqb-false, leb-false, lt-ltb}
-use lib.Dec.{leb, eqb}
+use lib.Dec.{leb, ltb, eqb}
 use lib.ListN.{length, getD}
 use Rattle.words.specs.Layout.{slotsOf}
 use Rattle.words.specs.Scan.{all, count, nth}
@@ -26,9 +26,8 @@ use Rattle.search.proofs.Counts.{count-entries}
 use Rattle.search.proofs.Free.{unmarked-free}
 use Rattle.changes.specs.Staged.{isSet}
 use Rattle.model.specs.Answer.{ask}
-use Rattle.advance.specs.Advance.{advances, advanceChange, advanceBytes, turns}
+use Rattle.advance.specs.Advance.{advances, bodyFor, turns, turnsAt, changeWith, advanceBytes}
 use Rattle.advance.specs.Notes.{FreeFrom, entriesCheck, Turned, OwnBits, Listed, rankOf, InOrder, changeTo}
-use Rattle.advance.specs.Choice.{turnsAt}
 use Rattle.advance.proofs.Turning.{advances-of, advances-cell}
 use Rattle.advance.proofs.Choosing.{enough}
 use Rattle.advance.proofs.Listing.{gather-listed}
@@ -243,12 +242,12 @@ module _ (m b n : ℕ) (t used places : List ℕ) (ok : Rule m (slotsOf (length 
           ap (cellIn e t) same ∙ s .3
 
   -- once all are staged, the changes are the call's
-  pub change-all : (i : ℕ) → i < slotsOf (length t) → changeTo (slotsOf (length t)) b t used n i ≡ advanceChange (slotsOf (length t)) b t i
-  unfolding changeTo advanceChange lowestFree
+  pub change-all : (i : ℕ) → i < slotsOf (length t) → changeTo (slotsOf (length t)) b t used n i ≡ changeWith (slotsOf (length t)) t (bodyFor (slotsOf (length t)) b t) i
+  unfolding changeTo lowestFree
   change-all i l =
       by-bool (turnsAt e t i)
       (λ z.
       let goes = advances-of m e b t ok i l z in
       let less : rankOf e t i < n = omega (arith, count-below (advances e t) (cellIn e t i) m (advances-cell m e b t ok (cellIn e t i) goes) goes, number) in
-      rw (z, lt-ltb (rankOf e t i) n less, nth-free (rankOf e t i)))
-      (λ z. rw z)
+      rw (lt-ltb (rankOf e t i) n less, z, nth-free (rankOf e t i)))
+      (λ z. by-bool (ltb (rankOf e t i) n) (λ y. rw (y, z)) (λ y. rw (y, z)))

@@ -12,14 +12,13 @@ use Rattle.words.specs.Journal.{journal}
 use Rattle.table.specs.Entry.{live}
 use Rattle.table.specs.Marks.{cellIn}
 use Rattle.table.specs.Changes.{entryChanges}
-use Rattle.table.proofs.Checks.{Lengths}
 use Rattle.table.proofs.Rule.{Rule}
 use Rattle.search.specs.Free.{unmarked}
 use Rattle.changes.specs.Staged.{isSet, staged, Stages}
 use Rattle.changes.proofs.Staging.{stages-ext, stages-words}
 use Rattle.model.specs.Answer.{Report, ended}
 use Rattle.store.specs.Outcome.{buffers, outcome, leaves}
-use Rattle.store.proofs.Checks.{shape-facts, store-shape}
+use Rattle.store.proofs.Checks.{}
 use Rattle.store.proofs.Raw.{raw-rule}
 use Rattle.advance.specs.Advance.{advances, advanceWords}
 use Rattle.advance.specs.Notes.{CellBits, Ready, performed, OwnBits, Listed, InOrder, changeTo}
@@ -39,9 +38,6 @@ module _ (memory bodies t used : List ℕ) (ready : Ready (length memory) (lengt
 
   ok : Rule (cellsOf (length memory)) (slotsOf (length t)) (bodiesOf (length bodies)) t
   ok = raw-rule memory bodies t (ready .stands)
-
-  pub ready-sizes : Lengths (length memory) (length bodies) (length t)
-  ready-sizes = shape-facts (length memory) (length bodies) t (store-shape (length memory) (length bodies) t (ready .stands))
 
   -- as many entries advance as cells, and there is a free body for each
   pub ready-few : count (cellsOf (length memory)) (advances (slotsOf (length t)) t) ≤ slotsOf (length t)

@@ -31,8 +31,8 @@ use Rattle.model.specs.Holdings.{advanced, advance}
 use Rattle.store.specs.State.{labelOf, heldIn, stateIn}
 use Rattle.store.proofs.Domains.{held-none, innermost-state}
 use Rattle.store.proofs.Becoming.{atSlot, told, Never, there, took, Fate, keeps, turns, Becomes, becomes-rule, becomes-held}
-use Rattle.advance.specs.Advance.{advances}
-use Rattle.advance.specs.Choice.{Choice, turnsAt, changeWith}
+use Rattle.advance.specs.Advance.{advances, turnsAt, changeWith}
+use Rattle.advance.specs.Choice.{Choice}
 
 -- ---- which cells advance
 

@@ -38,19 +38,25 @@ bodyFor e b t = lowestFree b (bodyFree e t) (advances e t)
 abbrev pub turns : (d w : ℕ) → Bool
 turns d w = eqb (depthOf w) d && eqb (writableOf w) 1
 
--- such an entry becomes a copy with a new body
-unfoldable pub advanceChange : (e b : ℕ) → List ℕ → ℕ → Change
-advanceChange e b t i =
-    cond (turns (innermost t) (word1 e t i))
-    (put (asCopy (word1 e t i)) (bodyFor e b t (cellOf (word1 e t i)))) keep
+abbrev pub turnsAt : ℕ → List ℕ → ℕ → Bool
+turnsAt e t i = turns (innermost t) (word1 e t i)
 
-unfoldable pub advanceWords : (b : ℕ) → List ℕ → List Store
-advanceWords b t = entryChanges (slotsOf (length t)) (advanceChange (slotsOf (length t)) b t)
+-- where `body c` is the one of the new copy of cell c: such an entry becomes a copy in the body of its cell
+abbrev pub changeWith : (e : ℕ) (t : List ℕ) (body : ℕ → ℕ) → ℕ → Change
+changeWith e t body i = cond (turnsAt e t i) (put (asCopy (word1 e t i)) (body (cellOf (word1 e t i)))) keep
+
+abbrev pub wordsWith : List ℕ → (body : ℕ → ℕ) → List Store
+wordsWith t body = entryChanges (slotsOf (length t)) (changeWith (slotsOf (length t)) t body)
 
 -- "bytes first: 64 for each copy taken .., rising by cell and byte"
+abbrev pub bytesWith : (m : ℕ) → List ℕ → List ℕ → (body : ℕ → ℕ) → List Store
+bytesWith m memory t body = gather m (λ c. cond (advances (slotsOf (length t)) t c) (cellPlan memory c (body c)) [])
+
+unfoldable pub advanceWords : (b : ℕ) → List ℕ → List Store
+advanceWords b t = wordsWith t (bodyFor (slotsOf (length t)) b t)
+
 unfoldable pub advanceBytes : (m b : ℕ) → List ℕ → List ℕ → List Store
-advanceBytes m b memory t =
-    gather m (λ c. cond (advances (slotsOf (length t)) t c) (cellPlan memory c (bodyFor (slotsOf (length t)) b t c)) [])
+advanceBytes m b memory t = bytesWith m memory t (bodyFor (slotsOf (length t)) b t)
 
 unfoldable pub advanceCall : (h : ℕ) → Buffers → Call
 advanceCall h b =

@@ -1,22 +1,22 @@
 -- What the parts of advance's code pass on to each other: which cells advance, as bits; the list of the entries that advance, in the order of
 -- their cells; and what is staged for them.
 use Prim.Native.Nat.{ℕ, _+_, _≤_, _<_}
-use mathlib.Core.Bool.{Bool, true, false, cond, not, _&&_, _||_}
+use mathlib.Core.Bool.{Bool, true, false, cond, not, _||_}
 use mathlib.Core.Path.{_≡_}
 use mathlib.Core.List.{List}
 use lib.Dec.{leb, ltb}
 use lib.ListN.{length, getD, set}
 use Rattle.words.specs.Layout.{cellsOf, bodiesOf, slotsOf, pairsAt, groupAt, groupOf, inGroup}
-use Rattle.words.specs.Scan.{all, count, nth}
-use Rattle.table.specs.Entry.{live, word1, word2, cellOf, asCopy, innermost, parent, isOutermost, holdsIn}
+use Rattle.words.specs.Scan.{all, count}
+use Rattle.table.specs.Entry.{live, word1, word2, cellOf, innermost, parent, isOutermost, holdsIn}
 use Rattle.table.specs.Marks.{Marks, IsCopy, cellIn}
-use Rattle.table.specs.Changes.{Change, keep, put}
-use Rattle.search.specs.Free.{copies, unmarked}
+use Rattle.table.specs.Changes.{Change, keep}
+use Rattle.search.specs.Free.{copies, lowestFree, unmarked}
 use Rattle.changes.specs.Staged.{withBit, isSet}
 use Rattle.model.specs.Answer.{ask}
 use Rattle.store.specs.Outcome.{Buffers, Call, perform, changePlan}
 use Rattle.store.specs.Checks.{storeCheck}
-use Rattle.advance.specs.Advance.{advances, turns, advanceBytes, advanceWords}
+use Rattle.advance.specs.Advance.{advances, turns, changeWith, advanceBytes, advanceWords}
 
 -- the entries from the n-th on are free
 abbrev pub FreeFrom : ℕ → List ℕ → ℕ → Type 0
@@ -97,4 +97,4 @@ pub record InOrder (e : ℕ) (t : List ℕ) (n : ℕ) (places : List ℕ) : Type
 -- the change of entry i once the first r entries of the list are staged: of b bodies, each takes the lowest unmarked one that is left
 unfoldable pub changeTo : (e b : ℕ) → (t used : List ℕ) → (r i : ℕ) → Change
 changeTo e b t used r i =
-    cond (turns (innermost t) (word1 e t i) && ltb (rankOf e t i) r) (put (asCopy (word1 e t i)) (nth b (unmarked used) (rankOf e t i))) keep
+    cond (ltb (rankOf e t i) r) (changeWith e t (lowestFree b (unmarked used) (advances e t)) i) keep

@@ -12,10 +12,8 @@ use Rattle.words.specs.Layout.{liveAt, handleAt, pairsAt, tableWords, maxPairs,
 use Rattle.words.specs.Scan.{count}
 use Rattle.words.specs.Stores.{stores}
 use Rattle.words.specs.Journal.{pending, namesOk, nameOk, journal}
-use Rattle.words.proofs.Scan.{by-bool, count-le}
-use Rattle.words.proofs.Plans.{Each}
-use Rattle.words.proofs.Names.{name-live, name-from, names-below}
-use Rattle.words.proofs.Places.{pendingAt-below}
+use Rattle.words.proofs.Scan.{count-le}
+use Rattle.words.proofs.Names.{name-live, name-from}
 use Rattle.table.specs.Entry.{live}
 use Rattle.table.specs.Changes.{isChanged, entryChanges}
 use Rattle.table.specs.Marks.{cellIn, CellsOnce}
@@ -31,10 +29,11 @@ use Rattle.store.specs.Outcome.{Buffers, buffers, changePlan, outcome, leaves, 
 use Rattle.store.specs.Checks.{storeCheck}
 use Rattle.store.specs.State.{stateIn, stateOf}
 use Rattle.store.specs.Means.{orRefused, callMeans}
-use Rattle.store.proofs.Checks.{ask-yes, orElse-both, orElse-go, store-shape, shape-facts}
+use Rattle.store.proofs.Checks.{ask-yes, orElse-both, orElse-go, store-lengths}
 use Rattle.store.proofs.Checked.{checked-once, checked-fits}
 use Rattle.store.proofs.Outcome.{refuses}
 use Rattle.store.proofs.Means.{visibleOf, by-check, store-standing, live-count}
+use Rattle.store.proofs.Bounds.{change-bound}
 use Rattle.store.proofs.Raw.{live-within, raw-rule, raw-state, raw-named, raw-next, raw-after, raw-long}
 use Rattle.store.proofs.Changes.{words-performed, change-seen}
 use Rattle.store.proofs.Pending.{pendingAfter, afterPending, performed-pending, call-pending}
@@ -81,22 +80,19 @@ module _ (memory bodies t : List ℕ) (yes : storeCheck (length memory) (length 
     names : namesOk (pairsAt (slotsOf (length t))) 0 (commitWords t) ≡ true
     names = words-names t some-live (live-within (length memory) (length bodies) t yes)
 
-    below : Each (λ s. s .at < pairsAt (slotsOf (length t))) (commitWords t)
-    below = names-below (pairsAt e) 0 (commitWords t) (pendingAt-below e) names
-
     whole-rule : Rule (cellsOf (length memory)) (slotsOf (length t)) (bodiesOf (length bodies)) (stores (commitWords t) t)
     unfolding commitWords
     whole-rule = commit-rule (cellsOf (length memory)) e (bodiesOf (length bodies)) t (raw-rule memory bodies t yes) (raw-long memory bodies t yes) some-live
 
     -- the new table is right
     pub new-rule : Rule (cellsOf (length memory)) (slotsOf (length t)) (bodiesOf (length bodies)) (stores (commitWords t) (take (pairsAt (slotsOf (length t))) t))
-    new-rule = raw-next memory bodies t yes (commitWords t) below whole-rule
+    new-rule = raw-next memory bodies t yes (commitWords t) names whole-rule
 
     -- and stands for the state without the innermost domain
     pub new-state : stateIn (slotsOf (length t)) (stores (commitWords t) (take (pairsAt (slotsOf (length t))) t)) bodies ≡ commit (stateOf (buffers memory bodies t))
     unfolding commitWords
     new-state =
-        raw-after memory bodies t yes (commitWords t) below whole-rule bodies
+        raw-after memory bodies t yes (commitWords t) names whole-rule bodies
         ∙ commit-state-is (cellsOf (length memory)) e (bodiesOf (length bodies)) t (raw-rule memory bodies t yes) (raw-long memory bodies t yes) some-live bodies
         ∙ ap commit (sym (raw-state memory bodies t yes))
 
@@ -110,10 +106,7 @@ module _ (memory bodies t : List ℕ) (yes : storeCheck (length memory) (length 
     pub commit-bound :
         stepsOf 0 (2 + 2 * (innerCells (cellsOf (length memory)) (stateOf (buffers memory bodies t)) + raisedCells (cellsOf (length memory)) (stateOf (buffers memory bodies t))))
         ≤ 70 * slotsOf (length t) + 32
-    commit-bound = rw (← new-count) (few (length (commitWords t)) e (words-few t))
-      where
-        few : (p e : ℕ) → p ≤ 2 + 2 * e → stepsOf 0 p ≤ 70 * e + 32
-        few p e l = by-bool (eqb p 0) (λ z. rw z (omega arith)) (λ z. rw z (omega arith))
+    commit-bound = rw (← new-count) (change-bound 0 (length (commitWords t)) e (omega arith) (omega (arith, words-few t)))
 
     room : length (commitWords t) ≤ maxPairs (slotsOf (length t))
     room = omega (arith, words-few t)
@@ -191,7 +184,7 @@ module _ (memory bodies : ℕ) (t : List ℕ) (h : ℕ) (passed : commitCheck me
 
   pub commit-ready : {e : ℕ} → e ≡ slotsOf (length t) → Ready memory e t
   commit-ready slots =
-      let f = shape-facts memory bodies t (store-shape memory bodies t commit-store) in
+      let f = store-lengths memory bodies t commit-store in
       rw slots
       (record {
         small = f .slots-high;

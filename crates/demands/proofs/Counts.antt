@@ -9,21 +9,21 @@ use Rattle.table.specs.Checks.{lengthsOk, headerOk}
 use Rattle.table.specs.Rule.{handleOk, headOk, entryOk, parentOk, apart, ruleOk, pairsOk, tableOk}
 use Rattle.search.specs.Search.{stepsIn, sourceIn, valueIn}
 use Rattle.search.specs.Domain.{depthNamed}
-use Rattle.search.specs.Free.{bodyUsed, usedSlots, copies, lowestFree}
+use Rattle.search.specs.Free.{bodyUsed, usedSlots, copies, lowestFree, takerOf}
 use Rattle.model.specs.Answer.{ended}
 use Rattle.store.specs.Outcome.{outcome}
 use Rattle.store.specs.Checks.{shapeCheck, tableCheck, makeCheck, openCheck, storeCheck, createCheck}
 use Rattle.store.specs.Calls.{freshWord, makePlan, makeCall, openCall, createWords, createCall}
-use Rattle.add.specs.Add.{addCheck, addChange, addWords, addBytes, addCall}
+use Rattle.add.specs.Add.{addCheck, raiseChange, changeWith, addWords, addBytes, addCall}
 use Rattle.delete.specs.Delete.{deleteCheck, deleteChange, deleteWords, deleteCall}
-use Rattle.advance.specs.Advance.{advanceCheck, advanceChange, advanceWords, advanceBytes, advanceCall}
+use Rattle.advance.specs.Advance.{advanceCheck, advanceWords, advanceBytes, advanceCall}
 use Rattle.restore.specs.Restore.{restoreCheck, restoreBytes, restoreChange, restoreWords, restoreCall}
 use Rattle.demands.specs.Counted.{LinesHold, countedLines}
 
 pub lines-hold : LinesHold countedLines
 unfolding all first count nth pairs nameOk namesOk effective journaled applyPlan openPlan sameCell cellPlan findIn holdsIn lengthsOk
     headerOk handleOk headOk entryOk parentOk apart ruleOk pairsOk tableOk stepsIn sourceIn valueIn depthNamed bodyUsed usedSlots
-    copies lowestFree ended outcome shapeCheck tableCheck makeCheck openCheck storeCheck createCheck freshWord makePlan makeCall openCall createWords
-    createCall addCheck addChange addWords addBytes addCall deleteCheck deleteChange deleteWords deleteCall advanceCheck
-    advanceChange advanceWords advanceBytes advanceCall restoreCheck restoreBytes restoreChange restoreWords restoreCall
+    copies lowestFree takerOf ended outcome shapeCheck tableCheck makeCheck openCheck storeCheck createCheck freshWord makePlan makeCall openCall createWords
+    createCall addCheck raiseChange changeWith addWords addBytes addCall deleteCheck deleteChange deleteWords deleteCall advanceCheck
+    advanceWords advanceBytes advanceCall restoreCheck restoreBytes restoreChange restoreWords restoreCall
 lines-hold = ((refl, refl), ((refl, refl), ((refl, refl), ((refl, refl), ((refl, refl), ((refl, refl), ((refl, refl), tt)))))))

@@ -18,7 +18,7 @@ use Rattle.store.specs.Checks.{storeCheck, createCheck}
 use Rattle.store.specs.State.{slots}
 use Rattle.store.specs.Calls.{createWords, createCall}
 use Rattle.store.proofs.Checks.{orElse-both}
-use Rattle.store.proofs.Bounds.{create-bound}
+use Rattle.store.proofs.Bounds.{change-bound}
 use Rattle.store.proofs.Changes.{change-length}
 use Rattle.store.proofs.Created.{create-words}
 use Rattle.store.proofs.Reopened.{Shaped, whole-bytes, changes-shaped}
@@ -79,7 +79,7 @@ module _ (b : Buffers) where
   unfolding createCall
   create-planned =
       change-planned _ b (createCheck (length (b .memory)) (length (b .bodies)) (b .table)) [] (createWords (b .table)) (nextHandle (b .table)) (λ k. refl)
-      (λ q. at-most (change-length (pairsAt (slots b)) [] (createWords (b .table)) ∙ ap (stepsOf 0) (create-words (b .table))) (create-bound (slots b)))
+      (λ q. at-most (change-length (pairsAt (slots b)) [] (createWords (b .table)) ∙ ap (stepsOf 0) (create-words (b .table))) (change-bound 0 3 (slots b) (omega arith) (omega arith)))
 
   pub add-planned : (h first n i l : ℕ) → Planned (λ k. outcome (addCall h first n i l b) k b) b
   unfolding addCall

@@ -22,7 +22,7 @@ use Rattle.model.specs.Restore.{Looked, lookedBy, looked, restoredCell}
 use Rattle.store.specs.Outcome.{Buffers, buffers}
 use Rattle.store.specs.Checks.{storeCheck}
 use Rattle.store.specs.State.{stateOf}
-use Rattle.store.proofs.Checks.{ask-yes, ask-rest, orElse-both, store-shape, shape-facts}
+use Rattle.store.proofs.Checks.{ask-yes, ask-rest, orElse-both, store-lengths}
 use Rattle.store.proofs.Means.{by-check}
 use Rattle.store.proofs.Raw.{raw-named, check-rule, live-within}
 use Rattle.store.proofs.Outermost.{store-bytes}
@@ -82,7 +82,7 @@ module _ (memory bodies : ℕ) (t : List ℕ) (h c : ℕ) where
 -- a table that passes questions 1 to 4 has room for its slots
 pub store-room : (memory bodies : ℕ) (t : List ℕ) → storeCheck memory bodies t ≡ 0 → (slotsOf (length t) ≤ maxSlots) × (pairsAt (slotsOf (length t)) ≤ length t)
 store-room memory bodies t pass =
-    let f = shape-facts memory bodies t (store-shape memory bodies t pass) in
+    let f = store-lengths memory bodies t pass in
     (f .slots-high, omega (arith, f .table-exact))
 
 -- ---- the place that look finds
@@ -178,7 +178,7 @@ module _ (h c : ℕ) (b : Buffers) where
   place-within : Accepted (length (b .memory)) (length (b .bodies)) (b .table) h c → placeWithin (placeIn (slotsOf (length (b .table))) (b .table) (depthNamed (b .table) h) c) b
   place-within p =
       let t : List ℕ = b .table in
-      let f = shape-facts (length (b .memory)) (length (b .bodies)) (b .table) (store-shape (length (b .memory)) (length (b .bodies)) (b .table) (p .store)) in
+      let f = store-lengths (length (b .memory)) (length (b .bodies)) (b .table) (p .store) in
       by-bool (heldFrom (slotsOf (length (b .table))) (b .table) (depthNamed (b .table) h) c)
       (λ held.
       subst (λ (x : Place). placeWithin x b) (sym (place-bodies (slotsOf (length (b .table))) (b .table) (depthNamed (b .table) h) c held))

@@ -23,7 +23,7 @@ use Rattle.model.specs.Restore.{Looked, cellOfByte, placeInCell, outermost, res
 use Rattle.store.specs.Outcome.{Buffers}
 use Rattle.store.specs.Checks.{storeCheck}
 use Rattle.store.specs.State.{slots, stateOf}
-use Rattle.store.proofs.Checks.{store-shape, shape-facts, orElse-go, ask-go}
+use Rattle.store.proofs.Checks.{orElse-go, ask-go, store-lengths}
 use Rattle.store.proofs.Raw.{raw-named}
 use Rattle.store.proofs.Outermost.{store-held}
 use Rattle.look.specs.Look.{lookCheck, lookPlace, placePart, placeWithin, lookMeans, placeByState}
@@ -100,7 +100,7 @@ module _ (h c : ℕ) (b : Buffers) (pass : checked h c b ≡ 0) where
       ∙ ap (λ (d : ℕ). restoredCell d (stateOf b) (b .memory) c) (sym (raw-named (b .memory) (b .bodies) (b .table) (passed .store) h))
 
   exact : length (b .memory) ≡ 64 * cellsOf (length (b .memory))
-  exact = shape-facts (length (b .memory)) (length (b .bodies)) (b .table) (store-shape (length (b .memory)) (length (b .bodies)) (b .table) (passed .store)) .memory-exact
+  exact = store-lengths (length (b .memory)) (length (b .bodies)) (b .table) (passed .store) .memory-exact
 
   -- "the 64 bytes that restore would leave there"
   pub look-restores : lookMeans h c b .part ≡ cellBytes (restoredMemory (named h (stateOf b)) (stateOf b) (b .memory)) c

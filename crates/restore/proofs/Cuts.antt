@@ -5,13 +5,12 @@ use mathlib.Core.Bool.{false}
 use mathlib.Core.List.{List}
 use mathlib.Core.Path.{_≡_, sym, ap, subst, _∙_}
 use native.Mathlib.Omega.{arith}
-use lib.Dec.{ltb, eqb}
+use lib.Dec.{ltb}
 use lib.ListN.{length, getD, take}
 use lib.Seq.{take-all}
 use Rattle.words.specs.Layout.{cellsOf, bodiesOf, slotsOf, pairsAt}
 use Rattle.words.specs.Stores.{Store, stores}
 use Rattle.words.specs.Journal.{pending}
-use Rattle.words.proofs.Scan.{by-bool}
 use Rattle.table.specs.Entry.{live}
 use Rattle.search.specs.Domain.{depthNamed}
 use Rattle.search.proofs.Domain.{depth-small}
@@ -28,6 +27,7 @@ use Rattle.store.specs.State.{stateOf}
 use Rattle.store.proofs.Checks.{orElse-both, orElse-go}
 use Rattle.store.proofs.Outermost.{store-held}
 use Rattle.store.proofs.Pending.{pendingAfter, afterPending, change-pending, call-pending}
+use Rattle.store.proofs.Bounds.{change-bound}
 use Rattle.store.proofs.Raw.{raw-rule, raw-state, raw-named}
 use Rattle.restore.specs.Restore.{restoreCheck, restoreBytes, restoreWords, restorePlan, restoreCall}
 use Rattle.restore.proofs.Plan.{restore-steps}
@@ -69,10 +69,7 @@ module _ (memory bodies t : List ℕ) (yes : storeCheck (length memory) (length 
   restore-bound =
       let ok = raw-rule memory bodies t yes in
       let cells : cellsPutBack m d S ≤ e = rw (raw-state memory bodies t yes) (put-few m e b t ok bodies d low high) in
-      rw (← new-words memory bodies t yes d low high) (few (cellsPutBack m d S) (length ws) e cells (words-few t d low (ok .live)))
-    where
-      few : (c p e : ℕ) → c ≤ e → p ≤ 2 * e + 8 → stepsOf (64 * c) p ≤ 70 * e + 32
-      few c p e l h = by-bool (eqb p 0) (λ z. rw z (omega arith)) (λ z. rw z (omega arith))
+      rw (← new-words memory bodies t yes d low high) (change-bound (cellsPutBack m d S) (length ws) e cells (words-few t d low (ok .live)))
 
   -- ---- memory at every budget
 

@@ -1,5 +1,5 @@
 -- Restore, from its stores to what it means at every budget. Assumes nothing.
-use Prim.Native.Nat.{ℕ, suc, _+_, _-_, _*_, _≤_, _<_}
+use Prim.Native.Nat.{ℕ, suc, _+_, _-_, _*_, _≤_}
 use mathlib.Core.Bool.{true, cond}
 use mathlib.Core.List.{List, []}
 use mathlib.Core.Option.{Option, some}
@@ -13,9 +13,7 @@ use Rattle.words.specs.Layout.{cellAt, cellsOf, bodiesOf, slotsOf, pairsAt, max
 use Rattle.words.specs.Stores.{Store, stores}
 use Rattle.words.specs.Journal.{namesOk, journal}
 use Rattle.words.proofs.Scan.{by-bool, by-le}
-use Rattle.words.proofs.Plans.{Each, length-stores}
-use Rattle.words.proofs.Names.{names-below}
-use Rattle.words.proofs.Places.{pendingAt-below}
+use Rattle.words.proofs.Plans.{length-stores}
 use Rattle.table.specs.Entry.{live}
 use Rattle.table.proofs.Rule.{Rule}
 use Rattle.search.specs.Domain.{depthNamed}
@@ -30,7 +28,7 @@ use Rattle.store.specs.Outcome.{Buffers, buffers, outcome, perform, unless}
 use Rattle.store.specs.Checks.{storeCheck}
 use Rattle.store.specs.State.{stateIn, stateOf, standing}
 use Rattle.store.specs.Means.{orRefused}
-use Rattle.store.proofs.Checks.{ask-yes, store-shape, shape-facts}
+use Rattle.store.proofs.Checks.{ask-yes, store-lengths}
 use Rattle.store.proofs.Means.{visibleOf, by-check, store-standing}
 use Rattle.store.proofs.Changes.{change-standing}
 use Rattle.store.proofs.Raw.{raw-rule, raw-state, raw-named, raw-next, raw-after, raw-long}
@@ -73,15 +71,12 @@ module _ (memory bodies t : List ℕ) (yes : storeCheck (length memory) (length 
   few = ok .live
 
   pub whole-cells : length memory ≡ cellAt (cellsOf (length memory))
-  whole-cells = shape-facts (length memory) (length bodies) t (store-shape (length memory) (length bodies) t yes) .memory-exact
+  whole-cells = store-lengths (length memory) (length bodies) t yes .memory-exact
 
   -- ---- the words
 
   pub names : namesOk (pairsAt (slotsOf (length t))) 0 (restoreWords d t) ≡ true
   names = words-names t d few
-
-  below : Each (λ s. s .at < pairsAt (slotsOf (length t))) (restoreWords d t)
-  below = names-below first 0 ws (pendingAt-below e) names
 
   pub room : length (restoreWords d t) ≤ maxPairs (slotsOf (length t))
   room = omega (arith, words-few t d low few)
@@ -100,11 +95,11 @@ module _ (memory bodies t : List ℕ) (yes : storeCheck (length memory) (length 
 
   -- the new table is right
   pub new-rule : Rule (cellsOf (length memory)) (slotsOf (length t)) (bodiesOf (length bodies)) (stores (restoreWords d t) (take (pairsAt (slotsOf (length t))) t))
-  new-rule = raw-next memory bodies t yes ws below whole-rule
+  new-rule = raw-next memory bodies t yes ws names whole-rule
 
   -- and stands for the state without the domains inside
   pub new-state : stateIn (slotsOf (length t)) (stores (restoreWords d t) (take (pairsAt (slotsOf (length t))) t)) bodies ≡ restored d (stateOf (buffers memory bodies t))
-  new-state = raw-after memory bodies t yes ws below whole-rule bodies ∙ whole-state ∙ ap (restored d) (sym (raw-state memory bodies t yes))
+  new-state = raw-after memory bodies t yes ws names whole-rule bodies ∙ whole-state ∙ ap (restored d) (sym (raw-state memory bodies t yes))
 
   -- ---- as many bytes and words as the model says, and its memory
 

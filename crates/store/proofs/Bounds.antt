@@ -4,10 +4,11 @@ use mathlib.Core.List.{List}
 use mathlib.Core.Path.{_≡_}
 use native.Mathlib.Omega.{arith}
 use borrow.Author.Tests.{eq-eqb, ne-eqb}
+use lib.Dec.{eqb}
 use lib.ListN.{length}
 use Rattle.words.specs.Layout.{slotsOf}
 use Rattle.words.specs.Journal.{pending}
-use Rattle.words.proofs.Scan.{by-le}
+use Rattle.words.proofs.Scan.{by-bool, by-le}
 use Rattle.model.specs.Answer.{stepsOf}
 use Rattle.model.specs.Calls.{makeSteps, openSteps}
 use Rattle.store.specs.Checks.{openCheck}
@@ -26,5 +27,6 @@ open-bound memory bodies t h =
 pub make-bound : (e : ℕ) → 1 ≤ e → makeSteps e ≤ 70 * e + 32
 make-bound e l = omega arith
 
-pub create-bound : (e : ℕ) → stepsOf 0 3 ≤ 70 * e + 32
-create-bound e = omega arith
+-- of a call that copies at most one cell for each entry, and changes their words and those of the head
+pub change-bound : (c p e : ℕ) → c ≤ e → p ≤ 2 * e + 8 → stepsOf (64 * c) p ≤ 70 * e + 32
+change-bound c p e l h = by-bool (eqb p 0) (λ z. rw z (omega arith)) (λ z. rw z (omega arith))

@@ -11,7 +11,7 @@ use Rattle.words.proofs.Scan.{by-bool}
 use Rattle.table.specs.Entry.{word1}
 use Rattle.table.specs.Marks.{CellsOnce, cellIn}
 use Rattle.store.specs.Checks.{storeCheck}
-use Rattle.store.proofs.Checks.{shape-facts, store-shape}
+use Rattle.store.proofs.Checks.{store-lengths}
 use Rattle.store.proofs.Raw.{check-rule}
 
 module _ (memory bodies : ℕ) (t : List ℕ) (yes : storeCheck memory bodies t ≡ 0) where
@@ -22,7 +22,7 @@ module _ (memory bodies : ℕ) (t : List ℕ) (yes : storeCheck memory bodies t 
   -- marks for every cell of memory do
   pub checked-fits : (marks : ℕ) → min (cellsOf memory) maxCells ≤ marks → (i : ℕ) → i < slotsOf (length t) → cellIn (slotsOf (length t)) t i < marks
   checked-fits marks enough i l =
-      let f = shape-facts memory bodies t (store-shape memory bodies t yes) in
+      let f = store-lengths memory bodies t yes in
       by-bool (eqb (word1 (slotsOf (length t)) t i) 0)
       (λ z. let free = eqb-true (word1 (slotsOf (length t)) t i) 0 z in omega (arith, free, f .cells-low))
       (λ z.

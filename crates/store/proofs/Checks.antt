@@ -82,6 +82,9 @@ module _ (memory bodies : ℕ) (t : List ℕ) where
   unfolding storeCheck
   store-shape e = orElse-both (shapeCheck memory bodies t) (ask (eqb (pending t) 0) 3 (tableCheck memory bodies t)) e .0
 
+  pub store-lengths : storeCheck memory bodies t ≡ 0 → Lengths memory bodies (length t)
+  store-lengths e = shape-facts (store-shape e)
+
   pub store-idle : storeCheck memory bodies t ≡ 0 → pending t ≡ 0
   unfolding storeCheck
   store-idle e =

@@ -11,9 +11,6 @@ use lib.ListN.{length, take}
 use Rattle.words.specs.Layout.{pairsAt, slotsOf, cellsOf, bodiesOf, maxLive}
 use Rattle.words.specs.Stores.{stores}
 use Rattle.words.specs.Journal.{pending, namesOk, journal}
-use Rattle.words.proofs.Plans.{Each}
-use Rattle.words.proofs.Names.{names-below}
-use Rattle.words.proofs.Places.{pendingAt-below}
 use Rattle.table.specs.Entry.{live, nextHandle}
 use Rattle.table.proofs.Rule.{Rule}
 use Rattle.model.specs.State.{State}
@@ -44,22 +41,19 @@ module _ (memory bodies t : List ℕ) (yes : storeCheck (length memory) (length 
   unfolding createWords
   new-names = create-names first (live t) (nextHandle t) few (omega arith)
 
-  below : Each (λ s. s .at < pairsAt (slotsOf (length t))) (createWords t)
-  below = names-below first 0 (createWords t) (pendingAt-below (slotsOf (length t))) new-names
-
   whole-rule : Rule (cellsOf (length memory)) (slotsOf (length t)) (bodiesOf (length bodies)) (stores (createWords t) t)
   unfolding createWords
   whole-rule = create-rule (cellsOf (length memory)) (slotsOf (length t)) (bodiesOf (length bodies)) t (raw-rule memory bodies t yes) (raw-long memory bodies t yes) few
 
   -- the new table is right
   pub new-rule : Rule (cellsOf (length memory)) (slotsOf (length t)) (bodiesOf (length bodies)) (stores (createWords t) (take (pairsAt (slotsOf (length t))) t))
-  new-rule = raw-next memory bodies t yes (createWords t) below whole-rule
+  new-rule = raw-next memory bodies t yes (createWords t) new-names whole-rule
 
   -- and stands for the state with one domain more
   pub new-state : stateIn (slotsOf (length t)) (stores (createWords t) (take (pairsAt (slotsOf (length t))) t)) bodies ≡ created (stateOf (buffers memory bodies t))
   unfolding createWords
   new-state =
-      raw-after memory bodies t yes (createWords t) below whole-rule bodies
+      raw-after memory bodies t yes (createWords t) new-names whole-rule bodies
       ∙ create-state (cellsOf (length memory)) (slotsOf (length t)) (bodiesOf (length bodies)) t (raw-rule memory bodies t yes) (raw-long memory bodies t yes) few bodies
       ∙ ap created (sym (raw-state memory bodies t yes))
 

@@ -1,5 +1,6 @@
 -- A table that passes questions 1 to 4, read as it is lent: its pairs do not matter. Assumes nothing.
 use Prim.Native.Nat.{ℕ, _<_, _≤_}
+use mathlib.Core.Bool.{true}
 use mathlib.Core.List.{List}
 use mathlib.Core.Path.{_≡_, refl, sym, ap, subst, _∙_}
 use native.Mathlib.Omega.{arith}
@@ -7,7 +8,10 @@ use lib.ListN.{length, take}
 use lib.Seq.{getD-take}
 use Rattle.words.specs.Layout.{cellsOf, bodiesOf, slotsOf, pairsAt, liveAt, nextAt, handleAt, firstAt, secondAt, maxLive}
 use Rattle.words.specs.Stores.{Store, stores}
-use Rattle.words.proofs.Plans.{Each, take-stores}
+use Rattle.words.specs.Journal.{namesOk}
+use Rattle.words.proofs.Plans.{take-stores}
+use Rattle.words.proofs.Names.{names-below}
+use Rattle.words.proofs.Places.{pendingAt-below}
 use Rattle.words.proofs.Journal.{effective-idle}
 use Rattle.table.specs.Entry.{live, word1, word2}
 use Rattle.table.proofs.Rule.{Rule, ok-facts, ok-make}
@@ -79,11 +83,12 @@ module _ (memory bodies t : List ℕ) (yes : storeCheck (length memory) (length 
   pub raw-named : (h : ℕ) → named h (stateOf (buffers memory bodies t)) ≡ depthNamed t h
   raw-named h = ap (named h) raw-state ∙ state-named (slotsOf (length t)) t bodies h
 
-  -- changes of words in front of the pairs
-  module _ (ws : List Store) (below : Each (λ s. s .at < pairsAt (slotsOf (length t))) ws)
+  -- changes of words that pairs may name, which stand in front of the pairs
+  module _ (ws : List Store) (names : namesOk (pairsAt (slotsOf (length t))) 0 ws ≡ true)
       (next : Rule (cellsOf (length memory)) (slotsOf (length t)) (bodiesOf (length bodies)) (stores ws t)) where
     same-stores : take (pairsAt (slotsOf (length t))) (stores ws t) ≡ stores ws (take (pairsAt (slotsOf (length t))) t)
-    same-stores = take-stores ws t (pairsAt (slotsOf (length t))) below
+    same-stores =
+        take-stores ws t (pairsAt (slotsOf (length t))) (names-below (pairsAt (slotsOf (length t))) 0 ws (pendingAt-below (slotsOf (length t))) names)
 
     pub raw-next : Rule (cellsOf (length memory)) (slotsOf (length t)) (bodiesOf (length bodies)) (stores ws (take (pairsAt (slotsOf (length t))) t))
     raw-next =

@@ -13,7 +13,7 @@ use Rattle.words.specs.Layout.{firstAt, secondAt, pairsAt, handleAt, maxLive}
 use Rattle.words.specs.Scan.{count}
 use Rattle.words.specs.Stores.{Store, store, stores, gather}
 use Rattle.words.specs.Journal.{nameOk, namesOk}
-use Rattle.words.proofs.Scan.{by-bool}
+use Rattle.words.proofs.Scan.{by-bool, count-le}
 use Rattle.words.proofs.Plans.{Each, each-map, each-append, length-stores, getD-stores, run-append}
 use Rattle.words.proofs.Names.{name-from, names-make, names-each, names-above, names-rising}
 use Rattle.words.proofs.Plans.{Rising}
@@ -142,6 +142,10 @@ module _ (e : ℕ) (f : ℕ → Change) where
   pub changes-count : length (entryChanges e f) ≡ 2 * count e (λ i. isChanged (f i))
   changes-count = gather-count 2 e (λ i. isChanged (f i)) (λ i. entryStores e i (f i)) (λ i. stores-length i (f i))
 
+  -- at most two words for each entry
+  pub changes-few : length (entryChanges e f) ≤ 2 * e
+  changes-few = omega (arith, changes-count, count-le e (λ i. isChanged (f i)))
+
   rising-one : (i : ℕ) (c : Change) → Rising (entryStores e i c)
   rising-one i keep = tt
   rising-one i (put w v) = ((omega arith, tt), (tt, tt))
@@ -170,3 +174,8 @@ module _ (e : ℕ) (f : ℕ → Change) where
       (rising-append hs (entryChanges e f) (handleAt maxLive) low
       (each-map (λ s. (handleAt maxLive ≤ s .at) × (s .at < firstAt e e)) (λ s. handleAt maxLive ≤ s .at) (entryChanges e f) (λ s b. b .0) (within e))
       (names-rising (pairsAt e) 0 hs h) (rising-all e))
+
+  -- and by themselves
+  pub entries-names : namesOk (pairsAt e) 0 (entryChanges e f) ≡ true
+  unfolding namesOk
+  entries-names = changes-names [] refl tt

@@ -1,7 +1,8 @@
 -- `add::add_marked` meets its contract. Assumes nothing.
 use mathlib.Core.Path.{sym, _∙_}
 use native.Mathlib.Omega.{arith}
-use Rattle.add.proofs.Asking.{lengths, add-ready}
+use Rattle.store.proofs.Checks.{store-lengths}
+use Rattle.add.proofs.Asking.{add-ready}
 use Rattle.add.proofs.Added.{add-refused, add-performed}
 use borrow.Author.Needs.{needs}
 use Rattle.add.proofs.add_marked.Statement.{statement}
@@ -31,7 +32,7 @@ add-stores-requires : tie.Need-add-stores-requires
 add-stores-requires c κs =
     let a = c .before .before .before .before .before .before .before .before .before .before .before .before .before .before .before .before .before .before .before .args in
     let ready = add-ready (a .memory .now) (a .bodies .now) (a .table .now) (a .handle) (a .range .first) (a .range .count) (a .range .kind) (a .range .label) (sym (c .before .before .before .before .before .before .before .before .before .add-check .ensures .0) ∙ c .before .before .before .before .if1 .left) in
-    let f = lengths (a .memory .now) (a .bodies .now) (a .table .now) (ready .store) in (
+    let f = store-lengths _ _ (a .table .now) (ready .store) in (
       ready,
       (
         omega (arith, ready .range, f .cells-high, c .before .before .before .before .before .before .before .before .before .before .before .before .before .before .before .before .before .before .before .pre .0 .0, c .before .before .before .before .before .before .before .before .before .add-check .kept .1 .1 .1 .0),

@@ -3,7 +3,7 @@ use native.Mathlib.Omega.{arith}
 use lib.ListN.{length}
 use Rattle.words.specs.Layout.{bodiesOf}
 use Rattle.store.proofs.Raw.{raw-rule}
-use Rattle.add.proofs.Asking.{lengths}
+use Rattle.store.proofs.Checks.{store-lengths}
 use Rattle.add.proofs.Walks.{start-none}
 use Rattle.add.proofs.Storing.{few, bodies-enough, stageable, stored-bytes, stored-words, stored-steps}
 use borrow.Author.Needs.{needs}
@@ -11,19 +11,19 @@ use Rattle.add.proofs.add_stores.Statement.{statement}
 use Rattle.add.proofs.add_stores.Tie as tie
 
 slice-read-depth : tie.Need-slice-read-depth
-slice-read-depth c = let f = lengths (c .before .before .before .before .before .before .args .memory .now) (c .before .before .before .before .before .before .args .bodies .now) (c .before .before .before .before .before .before .args .table .now) (c .before .before .before .before .before .before .pre .0 .store) in omega (arith, f .table-exact)
+slice-read-depth c = let f = store-lengths _ _ (c .before .before .before .before .before .before .args .table .now) (c .before .before .before .before .before .before .pre .0 .store) in omega (arith, f .table-exact)
 
 cells-of-requires : tie.Need-cells-of-requires
 cells-of-requires c κs = search needs
 
 take-body-requires : tie.Need-take-body-requires
-take-body-requires c κs = let f = lengths (c .before .before .before .before .before .before .before .args .memory .now) (c .before .before .before .before .before .before .before .args .bodies .now) (c .before .before .before .before .before .before .before .args .table .now) (c .before .before .before .before .before .before .before .pre .0 .store) in (λ z. (omega (arith, c .cells-of .ensures, c .before .before .before .before .before .before .before .pre .1 .1, f .bodies-high), omega arith))
+take-body-requires c κs = let f = store-lengths _ _ (c .before .before .before .before .before .before .before .args .table .now) (c .before .before .before .before .before .before .before .pre .0 .store) in (λ z. (omega (arith, c .cells-of .ensures, c .before .before .before .before .before .before .before .pre .1 .1, f .bodies-high), omega arith))
 
 copy-new-requires : tie.Need-copy-new-requires
 copy-new-requires c κs =
     let a = c .before .before .before .before .before .before .before .before .before .args in
     let p = c .before .before .before .before .before .before .before .before .before .pre in
-    let f = lengths (a .memory .now) (a .bodies .now) (a .table .now) (p .0 .store) in
+    let f = store-lengths _ _ (a .table .now) (p .0 .store) in
     let small = few (a .memory .now) (a .bodies .now) (a .table .now) (a .range) (p .0) (a .held .now) (a .used .now) (p .1 .2) in (
       (p .1 .0, raw-rule (a .memory .now) (a .bodies .now) (a .table .now) (p .0 .store) .live, small, omega (arith, p .0 .range, f .memory-exact), omega (arith, p .1 .1, f .bodies-high)),
       (
@@ -47,7 +47,7 @@ add-result : tie.Need-add-result
 add-result c =
     let a = c .before .before .before .before .before .before .before .before .before .before .before .before .before .before .before .before .before .args in
     let p = c .before .before .before .before .before .before .before .before .before .before .before .before .before .before .before .before .before .pre in
-    let f = lengths (a .memory .now) (a .bodies .now) (a .table .now) (p .0 .store) in
+    let f = store-lengths _ _ (a .table .now) (p .0 .store) in
     omega (arith, c .before .before .before .before .before .before .before .copy-new .ensures .1 .1, p .0 .range, f .cells-high, c .before .before .add-words .ensures .few, f .slots-high)
 
 same-length : tie.Need-same-length

@@ -1,13 +1,12 @@
 -- `add::held_check` meets its contract. Assumes nothing.
-use Prim.Native.Nat.{_-_}
 use mathlib.Core.Path.{sym, _∙_}
 use native.Mathlib.Omega.{arith}
 use Rattle.words.proofs.Scan.{count-le}
 use Rattle.table.specs.Entry.{live}
-use Rattle.store.proofs.Checks.{orElse-go, orElse-stop}
+use Rattle.store.proofs.Checks.{orElse-go, orElse-stop, store-lengths}
 use Rattle.store.proofs.Raw.{raw-rule}
 use Rattle.add.specs.Walking.{unheld}
-use Rattle.add.proofs.Asking.{lengths, count-held}
+use Rattle.add.proofs.Asking.{count-held}
 use borrow.Author.Needs.{needs}
 use Rattle.add.proofs.held_check.Statement.{statement}
 use Rattle.add.proofs.held_check.Tie as tie
@@ -19,7 +18,7 @@ returns : tie.Need-returns
 returns c = c .before .parent-check .ensures ∙ sym (orElse-stop _ _ (λ z. c .if1 .taken (c .before .parent-check .ensures ∙ z)))
 
 shared-slice-read-count-new : tie.Need-shared-slice-read-count-new
-shared-slice-read-count-new c = let f = lengths (c .before .before .before .before .before .before .before .args .memory .now) (c .before .before .before .before .before .before .before .args .bodies .now) (c .before .before .before .before .before .before .before .args .table .now) (c .before .before .before .before .before .before .before .pre .0 .0) in omega (arith, f .table-exact)
+shared-slice-read-count-new c = let f = store-lengths _ _ (c .before .before .before .before .before .before .before .args .table .now) (c .before .before .before .before .before .before .before .pre .0 .0) in omega (arith, f .table-exact)
 
 count-new-requires : tie.Need-count-new-requires
 count-new-requires c κs = (c .before .before .before .before .before .before .before .pre .1 .0, raw-rule (c .before .before .before .before .before .before .before .args .memory .now) (c .before .before .before .before .before .before .before .args .bodies .now) (c .before .before .before .before .before .before .before .args .table .now) (c .before .before .before .before .before .before .before .pre .0 .0) .live)
@@ -33,7 +32,7 @@ cells-of-requires c κs = search needs
 room-check-requires : tie.Need-room-check-requires
 room-check-requires c κs =
     let a = c .before .before .before .before .before .before .before .before .before .before .args in
-    let f = lengths (a .memory .now) (a .bodies .now) (a .table .now) (c .before .before .before .before .before .before .before .before .before .before .pre .0 .0) in
+    let f = store-lengths _ _ (a .table .now) (c .before .before .before .before .before .before .before .before .before .before .pre .0 .0) in
     let few = count-le (a .range .count) (unheld (a .held .now) (live (a .table .now)) (a .range .first)) in
     (rw (c .before .slots-of .ensures) (f .slots-high), omega (arith, c .before .slots-of .ensures, f .table-exact), omega (arith, c .before .before .count-new .ensures, c .before .before .before .before .before .before .before .before .before .before .pre .0 .2, f .cells-high, few))
 

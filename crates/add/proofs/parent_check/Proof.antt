@@ -1,12 +1,12 @@
 -- `add::parent_check` meets its contract. Assumes nothing.
-use Prim.Native.Nat.{_-_}
 use mathlib.Core.Path.{sym, _∙_}
 use native.Mathlib.Omega.{arith}
 use borrow.Author.Tests.{not-true, not-false}
 use lib.ListN.{length}
 use Rattle.words.specs.Layout.{slotsOf}
 use Rattle.store.proofs.Raw.{raw-rule}
-use Rattle.add.proofs.Asking.{lengths, parent-0, parent-11, parent-12, parent-yes, covered-is, agreed-is, sources}
+use Rattle.store.proofs.Checks.{store-lengths}
+use Rattle.add.proofs.Asking.{parent-0, parent-11, parent-12, parent-yes, covered-is, agreed-is, sources}
 use borrow.Author.Needs.{needs}
 use Rattle.add.proofs.parent_check.Statement.{statement}
 use Rattle.add.proofs.parent_check.Tie as tie
@@ -15,7 +15,7 @@ returns : tie.Need-returns
 returns c = parent-0 _ (c .before .before .before .before .before .before .args .bodies .now) _ _ _ _ _ (c .if1 .taken)
 
 shared-slice-read-depth : tie.Need-shared-slice-read-depth
-shared-slice-read-depth c = let f = lengths (c .before .before .before .before .before .before .before .args .memory .now) (c .before .before .before .before .before .before .before .args .bodies .now) (c .before .before .before .before .before .before .before .args .table .now) (c .before .before .before .before .before .before .before .pre .0 .0) in omega (arith, f .table-exact)
+shared-slice-read-depth c = let f = store-lengths _ _ (c .before .before .before .before .before .before .before .args .table .now) (c .before .before .before .before .before .before .before .pre .0 .0) in omega (arith, f .table-exact)
 
 parent-holds-requires : tie.Need-parent-holds-requires
 parent-holds-requires c κs = (c .before .before .before .before .before .before .before .pre .1 .0, c .before .before .before .before .before .before .before .pre .0 .1, raw-rule (c .before .before .before .before .before .before .before .args .memory .now) (c .before .before .before .before .before .before .before .args .bodies .now) (c .before .before .before .before .before .before .before .args .table .now) (c .before .before .before .before .before .before .before .pre .0 .0) .live)
@@ -33,7 +33,7 @@ parent-agrees-requires : tie.Need-parent-agrees-requires
 parent-agrees-requires c κs =
     let a = c .before .before .before .before .before .before .before .before .before .before .args in
     let p = c .before .before .before .before .before .before .before .before .before .before .pre in
-    let f = lengths (a .memory .now) (a .bodies .now) (a .table .now) (p .0 .0) in
+    let f = store-lengths _ _ (a .table .now) (p .0 .0) in
     let same = covered-is (slotsOf (length (a .table .now))) (a .table .now) (a .held .now) (p .1 .1) (p .0 .1) (a .memory .now) (a .bodies .now) (a .range .first) (a .range .count) in
     let deep = raw-rule (a .memory .now) (a .bodies .now) (a .table .now) (p .0 .0) .live in (
       (rw (c .slots-of .ensures) (f .slots-high), omega (arith, c .slots-of .ensures, f .table-exact), p .0 .1, omega arith, deep),

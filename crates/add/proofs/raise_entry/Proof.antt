@@ -5,7 +5,7 @@ use borrow.Author.Tests.{not-true, not-false}
 use Rattle.table.specs.Entry.{writable}
 use Rattle.table.specs.Changes.{put}
 use Rattle.changes.proofs.Staging.{stages-kept, stages-put}
-use Rattle.add.specs.Walking.{raiseChange}
+use Rattle.add.specs.Add.{raiseChange}
 use Rattle.add.proofs.Choices.{rises-facts}
 use borrow.Author.Needs.{needs}
 use Rattle.add.proofs.raise_entry.Statement.{statement}

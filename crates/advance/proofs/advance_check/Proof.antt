@@ -4,7 +4,7 @@ use native.Mathlib.Omega.{arith}
 use borrow.Author.Needs.{needs}
 use lib.ListN.{length}
 use Rattle.words.specs.Layout.{cellsOf, bodiesOf, slotsOf}
-use Rattle.store.proofs.Checks.{orElse-go, orElse-stop, shape-facts, store-shape}
+use Rattle.store.proofs.Checks.{orElse-go, orElse-stop, store-lengths}
 use Rattle.store.proofs.Named.{innermost-no, innermost-then, innermost-named}
 use Rattle.store.proofs.Raw.{check-rule}
 use Rattle.advance.specs.Notes.{entriesCheck}
@@ -29,7 +29,7 @@ innermost-check-requires : tie.Need-innermost-check-requires
 innermost-check-requires c κs =
     let a = c .before .before .before .before .before .before .before .before .before .before .before .before .args in
     let pass = sym (c .before .before .before .before .before .store-check .ensures .0) ∙ c .if1 .left in
-    let f = shape-facts _ _ _ (store-shape _ _ _ pass) in
+    let f = store-lengths _ _ _ pass in
     (omega arith, check-rule (a .memory) (a .bodies) (a .table .now) pass .live)
 
 same-length-3 : tie.Need-same-length-3
@@ -53,7 +53,7 @@ entries-check-requires : tie.Need-entries-check-requires
 entries-check-requires c κs =
     let a = c .before .before .before .before .before .before .before .before .before .before .before .before .before .before .before .before .before .before .args in
     let pass = sym (c .before .before .before .before .before .before .before .before .before .before .before .store-check .ensures .0) ∙ c .before .before .before .before .before .before .if1 .left in
-    let f = shape-facts (a .memory) (a .bodies) (a .table .now) (store-shape (a .memory) (a .bodies) (a .table .now) pass) in
+    let f = store-lengths (a .memory) (a .bodies) (a .table .now) pass in
     let ok = check-rule (a .memory) (a .bodies) (a .table .now) pass in
     let low = innermost-named (a .table .now) (a .handle) _ (c .before .before .before .before .before .innermost-check .ensures) (c .before .before .before .before .if2 .left) .1 in
     let q = c .before .before .before .slots-of .ensures in

@@ -2,8 +2,8 @@
 use mathlib.Core.Path.{sym, _∙_}
 use borrow.Author.Needs.{needs}
 use Rattle.table.proofs.Marks.{blank-zeros}
+use Rattle.store.proofs.Checks.{store-lengths}
 use Rattle.advance.proofs.Advanced.{advance-refused, advance-goes}
-use Rattle.advance.proofs.Performing.{ready-sizes}
 use Rattle.advance.proofs.advance_many.Statement.{statement}
 use Rattle.advance.proofs.advance_many.Tie as tie
 
@@ -52,7 +52,7 @@ advance-stored-requires : tie.Need-advance-stored-requires
 advance-stored-requires c κs =
     let a = c .before .before .before .before .before .before .before .before .before .before .before .before .before .before .before .before .before .before .before .before .before .args in
     let ready = c .before .before .before .before .before .before .before .before .before .before .advance-check .ensures .1 (c .before .before .before .before .before .before .if1 .left) in
-    let f = ready-sizes (a .memory .now) (a .bodies .now) (a .table .now) _ (ready .0) in
+    let f = store-lengths _ _ (a .table .now) (ready .0 .stands) in
     ((ready .0, search needs), ((ready .1, search needs), search needs))
 
 same-length-2 : tie.Need-same-length-2

@@ -2,7 +2,8 @@
 use mathlib.Core.Path.{_∙_}
 use native.Mathlib.Omega.{arith}
 use borrow.Author.Needs.{needs}
-use Rattle.advance.proofs.Performing.{ready-sizes, ready-few, ready-own, ready-count, ready-order}
+use Rattle.store.proofs.Checks.{store-lengths}
+use Rattle.advance.proofs.Performing.{ready-few, ready-own, ready-count, ready-order}
 use Rattle.advance.proofs.advance_marked.Statement.{statement}
 use Rattle.advance.proofs.advance_marked.Tie as tie
 
@@ -13,7 +14,7 @@ list-slots-requires : tie.Need-list-slots-requires
 list-slots-requires c κs =
     let a = c .before .before .before .before .before .before .before .before .before .before .before .before .before .args in
     let ready = c .before .before .before .before .before .before .before .before .before .before .before .before .before .pre .0 .0 in
-    let f = ready-sizes (a .memory .now) (a .bodies .now) (a .table .now) (a .used .now) ready in
+    let f = store-lengths _ _ (a .table .now) (ready .stands) in
     let few = ready-few (a .memory .now) (a .bodies .now) (a .table .now) (a .used .now) ready in
     let number = ready-count (a .memory .now) (a .bodies .now) (a .table .now) (a .used .now) ready (a .groups .now) (c .before .before .before .before .before .before .before .before .before .before .before .before .before .pre .1 .0 .0) (c .before .before .before .before .before .before .before .before .before .before .before .before .before .pre .1 .0 .1) in
     rw (c .before .before .slots-of .ensures) (

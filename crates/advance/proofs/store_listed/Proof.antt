@@ -2,7 +2,8 @@
 use native.Mathlib.Omega.{arith}
 use borrow.Author.Needs.{needs}
 use Rattle.changes.proofs.Staging.{stages-inside}
-use Rattle.advance.proofs.Performing.{ready-sizes, ready-few, ready-free, ready-cells, ready-performed}
+use Rattle.store.proofs.Checks.{store-lengths}
+use Rattle.advance.proofs.Performing.{ready-few, ready-free, ready-cells, ready-performed}
 use Rattle.advance.proofs.store_listed.Statement.{statement}
 use Rattle.advance.proofs.store_listed.Tie as tie
 
@@ -13,7 +14,7 @@ copy-listed-requires : tie.Need-copy-listed-requires
 copy-listed-requires c κs =
     let a = c .before .before .before .before .before .before .before .before .before .before .before .before .args in
     let q = c .before .before .before .before .slots-of .ensures in
-    let f = ready-sizes (a .memory .now) (a .bodies .now) (a .table .now) (a .used .now) (c .before .before .before .before .before .before .before .before .before .before .before .before .pre .0 .0) in
+    let f = store-lengths _ _ (a .table .now) (c .before .before .before .before .before .before .before .before .before .before .before .before .pre .0 .0 .stands) in
     let few = ready-few (a .memory .now) (a .bodies .now) (a .table .now) (a .used .now) (c .before .before .before .before .before .before .before .before .before .before .before .before .pre .0 .0) in
     let free = ready-free (a .memory .now) (a .bodies .now) (a .table .now) (a .used .now) (c .before .before .before .before .before .before .before .before .before .before .before .before .pre .0 .0) in
     let number = c .before .before .before .before .before .before .before .before .before .before .before .before .pre .1 .1 .0 in
@@ -26,7 +27,7 @@ copy-listed-requires c κs =
 mul-remaining : tie.Need-mul-remaining
 mul-remaining c =
     let a = c .before .before .before .before .before .before .before .before .before .before .before .before .before .before .before .before .before .before .before .args in
-    let f = ready-sizes (a .memory .now) (a .bodies .now) (a .table .now) (a .used .now) (c .before .before .before .before .before .before .before .before .before .before .before .before .before .before .before .before .before .before .before .pre .0 .0) in
+    let f = store-lengths _ _ (a .table .now) (c .before .before .before .before .before .before .before .before .before .before .before .before .before .before .before .before .before .before .before .pre .0 .0 .stands) in
     omega (arith, ready-few (a .memory .now) (a .bodies .now) (a .table .now) (a .used .now) (c .before .before .before .before .before .before .before .before .before .before .before .before .before .before .before .before .before .before .before .pre .0 .0), c .before .before .before .before .before .before .before .before .before .before .before .before .before .before .before .before .before .before .before .pre .1 .1 .0, f .slots-high)
 
 remaining-requires : tie.Need-remaining-requires
@@ -39,7 +40,7 @@ write-staged-requires : tie.Need-write-staged-requires
 write-staged-requires c κs =
     let a = c .before .before .before .before .before .before .before .before .before .before .before .before .before .before .before .before .before .before .before .before .before .before .before .before .args in
     let q = c .before .before .before .before .before .before .before .before .before .before .before .before .before .before .before .before .slots-of .ensures in
-    let f = ready-sizes (a .memory .now) (a .bodies .now) (a .table .now) (a .used .now) (c .before .before .before .before .before .before .before .before .before .before .before .before .before .before .before .before .before .before .before .before .before .before .before .before .pre .0 .0) in
+    let f = store-lengths _ _ (a .table .now) (c .before .before .before .before .before .before .before .before .before .before .before .before .before .before .before .before .before .before .before .before .before .before .before .before .pre .0 .0 .stands) in
     let words = c .before .before .before .before .before .before .before .before .before .before .before .copy-listed .kept .1 .1 .1 .1 .1 .1 .1 .0 in
     let changed = c .before .before .before .before .before .before .before .before .before .before .before .copy-listed .kept .1 .1 .1 .1 .1 .1 .1 .1 .0 in
     ((omega (arith, q, f .slots-high), rw q (f .table-exact), omega (arith, q, words, c .before .before .before .before .before .before .before .before .before .before .before .before .before .before .before .before .before .before .before .before .before .before .before .before .pre .1 .1 .1 .0), omega (arith, q, changed, c .before .before .before .before .before .before .before .before .before .before .before .before .before .before .before .before .before .before .before .before .before .before .before .before .pre .1 .1 .1 .0)), (c .before .before .no-head .ensures .0, stages-inside (c .before .before .before .before .before .before .before .before .before .before .before .copy-listed .ensures .1)))
@@ -47,13 +48,13 @@ write-staged-requires c κs =
 mul-answer-of : tie.Need-mul-answer-of
 mul-answer-of c =
     let a = c .before .before .before .before .before .before .before .before .before .before .before .before .before .before .before .before .before .before .before .before .before .before .before .before .before .before .before .args in
-    let f = ready-sizes (a .memory .now) (a .bodies .now) (a .table .now) (a .used .now) (c .before .before .before .before .before .before .before .before .before .before .before .before .before .before .before .before .before .before .before .before .before .before .before .before .before .before .before .pre .0 .0) in
+    let f = store-lengths _ _ (a .table .now) (c .before .before .before .before .before .before .before .before .before .before .before .before .before .before .before .before .before .before .before .before .before .before .before .before .before .before .before .pre .0 .0 .stands) in
     omega (arith, ready-few (a .memory .now) (a .bodies .now) (a .table .now) (a .used .now) (c .before .before .before .before .before .before .before .before .before .before .before .before .before .before .before .before .before .before .before .before .before .before .before .before .before .before .before .pre .0 .0), c .before .before .before .before .before .before .before .before .before .before .before .before .before .before .before .before .before .before .before .before .before .before .before .before .before .before .before .pre .1 .1 .0, f .slots-high)
 
 add-answer-of : tie.Need-add-answer-of
 add-answer-of c =
     let a = c .before .before .before .before .before .before .before .before .before .before .before .before .before .before .before .before .before .before .before .before .before .before .before .before .before .before .before .args in
-    let f = ready-sizes (a .memory .now) (a .bodies .now) (a .table .now) (a .used .now) (c .before .before .before .before .before .before .before .before .before .before .before .before .before .before .before .before .before .before .before .before .before .before .before .before .before .before .before .pre .0 .0) in
+    let f = store-lengths _ _ (a .table .now) (c .before .before .before .before .before .before .before .before .before .before .before .before .before .before .before .before .before .before .before .before .before .before .before .before .before .before .before .pre .0 .0 .stands) in
     omega (arith, ready-few (a .memory .now) (a .bodies .now) (a .table .now) (a .used .now) (c .before .before .before .before .before .before .before .before .before .before .before .before .before .before .before .before .before .before .before .before .before .before .before .before .before .before .before .pre .0 .0), c .before .before .before .before .before .before .before .before .before .before .before .before .before .before .before .before .before .before .before .before .before .before .before .before .before .before .before .pre .1 .1 .0, f .slots-high, c .before .before .before .before .before .before .before .before .before .before .before .before .before .before .before .before .before .before .before .slots-of .ensures, c .before .before .write-staged .ensures .few)
 
 answer-of-requires : tie.Need-answer-of-requires

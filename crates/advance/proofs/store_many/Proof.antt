@@ -1,7 +1,7 @@
 -- `advance::store_many` meets its contract. Assumes nothing.
 use borrow.Author.Needs.{needs}
 use Rattle.changes.proofs.Staging.{stages-start}
-use Rattle.advance.proofs.Performing.{ready-sizes}
+use Rattle.store.proofs.Checks.{store-lengths}
 use Rattle.advance.proofs.store_many.Statement.{statement}
 use Rattle.advance.proofs.store_many.Tie as tie
 
@@ -26,7 +26,7 @@ slice-aggregate-advance-marked-3 c = search needs
 advance-marked-requires : tie.Need-advance-marked-requires
 advance-marked-requires c κs =
     let a = c .before .before .before .before .before .before .before .before .before .before .before .before .before .before .before .args in
-    let f = ready-sizes (a .memory .now) (a .bodies .now) (a .table .now) (a .used .now) (c .before .before .before .before .before .before .before .before .before .before .before .before .before .before .before .pre .0 .0) in
+    let f = store-lengths _ _ (a .table .now) (c .before .before .before .before .before .before .before .before .before .before .before .before .before .before .before .pre .0 .0 .stands) in
     (c .before .before .before .before .before .before .before .before .before .before .before .before .before .before .before .pre .0, (c .before .before .before .before .before .before .before .before .before .before .before .before .before .before .before .pre .1 .0, ((search needs, search needs), ((search needs, search needs), stages-start 64 (c .before .before .before .before .before .before .many-bits .ensures)))))
 
 same-length : tie.Need-same-length

@@ -4,7 +4,7 @@ use native.Mathlib.Omega.{arith}
 use borrow.Author.Needs.{needs}
 use lib.ListN.{length}
 use Rattle.table.proofs.Marks.{zeros-length, blank-zeros}
-use Rattle.store.proofs.Checks.{store-shape, shape-facts, orElse-go, orElse-stop}
+use Rattle.store.proofs.Checks.{orElse-go, orElse-stop, store-lengths}
 use Rattle.commit.specs.Commit.{commitCheck}
 use Rattle.store.proofs.Raw.{live-within}
 use Rattle.commit.proofs.commit_check.Statement.{statement}
@@ -29,7 +29,7 @@ returns c = (c .before .before .before .before .store-check .ensures .0 ∙ sym 
 innermost-check-requires : tie.Need-innermost-check-requires
 innermost-check-requires c κs =
     let yes = sym (c .before .before .before .before .store-check .ensures .0) ∙ c .if1 .left in
-    let f = shape-facts _ _ _ (store-shape _ _ _ yes) in
+    let f = store-lengths _ _ _ yes in
     (omega arith, live-within _ _ _ yes)
 
 same-length-2 : tie.Need-same-length-2

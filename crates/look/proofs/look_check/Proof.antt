@@ -1,7 +1,7 @@
 -- `look_check` meets its contract: question by question. Assumes nothing.
 use mathlib.Core.Path.{sym, _∙_}
 use native.Mathlib.Omega.{arith}
-use Rattle.store.proofs.Checks.{store-shape, shape-facts, ask-go, ask-stop, orElse-go, orElse-stop, none-named, some-named}
+use Rattle.store.proofs.Checks.{ask-go, ask-stop, orElse-go, orElse-stop, none-named, some-named, store-lengths}
 use Rattle.store.proofs.Raw.{live-within}
 use Rattle.look.specs.Look.{lookCheck}
 use borrow.Author.Tests.{not-true, not-false}
@@ -19,7 +19,7 @@ returns c = c .before .plain-check .ensures ∙ sym (orElse-stop _ _ (λ e. c .i
 find-domain-requires : tie.Need-find-domain-requires
 find-domain-requires c κs =
     let yes = sym (c .before .plain-check .ensures) ∙ c .if1 .left in
-    let f = shape-facts _ _ _ (store-shape _ _ _ yes) in
+    let f = store-lengths _ _ _ yes in
     (omega arith, live-within _ _ _ yes)
 
 returns-2 : tie.Need-returns-2

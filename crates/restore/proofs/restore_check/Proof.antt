@@ -2,7 +2,7 @@
 use mathlib.Core.Path.{sym, _∙_}
 use native.Mathlib.Omega.{arith}
 use borrow.Author.Needs.{needs}
-use Rattle.store.proofs.Checks.{store-shape, shape-facts, ask-go, ask-stop, orElse-go, orElse-stop, none-named, some-named}
+use Rattle.store.proofs.Checks.{ask-go, ask-stop, orElse-go, orElse-stop, none-named, some-named, store-lengths}
 use Rattle.store.proofs.Raw.{live-within}
 use Rattle.restore.specs.Restore.{restoreCheck}
 use Rattle.restore.proofs.restore_check.Statement.{statement}
@@ -26,7 +26,7 @@ returns c =
 find-domain-requires : tie.Need-find-domain-requires
 find-domain-requires c κs =
     let yes = sym (c .before .before .before .before .before .store-check .ensures .0) ∙ c .if1 .left in
-    let f = shape-facts _ _ _ (store-shape _ _ _ yes) in
+    let f = store-lengths _ _ _ yes in
     (omega (arith, f .table-exact), live-within _ _ _ yes)
 
 same-length-3 : tie.Need-same-length-3

@@ -2,7 +2,7 @@
 use mathlib.Core.Path.{sym, _∙_}
 use native.Mathlib.Omega.{arith}
 use Rattle.search.proofs.Domain.{depth-small}
-use Rattle.store.proofs.Checks.{shape-facts, store-shape}
+use Rattle.store.proofs.Checks.{store-lengths}
 use Rattle.store.proofs.Raw.{live-within}
 use Rattle.restore.proofs.Performed.{rule-passed, restore-store, restore-depth, restore-refused, restore-performed}
 use borrow.Author.Needs.{needs}
@@ -30,7 +30,7 @@ find-domain-requires : tie.Need-find-domain-requires
 find-domain-requires c κs =
     let passed = sym (c .before .before .before .before .before .before .restore-check .ensures .0) ∙ c .before .if1 .left in
     let store = restore-store _ _ _ (c .before .before .before .before .before .before .before .before .before .before .before .before .before .before .before .args .handle) passed in
-    let f = shape-facts _ _ _ (store-shape _ _ _ store) in
+    let f = store-lengths _ _ _ store in
     (omega (arith, f .table-exact), live-within _ _ _ store)
 
 restore-memory-requires : tie.Need-restore-memory-requires
@@ -39,7 +39,7 @@ restore-memory-requires c κs =
     let t = a .table .now in
     let passed = sym (c .before .before .before .before .before .before .before .before .before .before .restore-check .ensures .0) ∙ c .before .before .before .before .before .if1 .left in
     let store = restore-store _ _ t (a .handle) passed in
-    let f = shape-facts _ _ t (store-shape _ _ t store) in
+    let f = store-lengths _ _ t store in
     let named = c .before .before .before .find-domain .ensures in (
       (f .slots-high, omega (arith, f .table-exact), omega (arith, named, restore-depth _ _ t (a .handle) passed), omega (arith, named, depth-small t (a .handle), live-within _ _ t store), f .cells-high, omega (arith, c .before .before .before .before .before .before .before .before .before .before .restore-check .kept .1 .1 .1 .1 .0, c .before .before .before .before .before .before .before .before .before .before .before .before .before .before .before .before .before .before .before .pre .0 .0, f .cells-high)),
       (rule-passed _ _ t store, c .before .before .before .before .before .before .before .before .before .before .restore-check .ensures .1 (c .before .before .before .before .before .if1 .left) .cells),
@@ -54,7 +54,7 @@ restore-words-requires c κs =
     let t = a .table .now in
     let passed = sym (c .before .before .before .before .before .before .before .before .before .before .before .before .before .before .before .restore-check .ensures .0) ∙ c .before .before .before .before .before .before .before .before .before .before .if1 .left in
     let store = restore-store _ _ t (a .handle) passed in
-    let f = shape-facts _ _ t (store-shape _ _ t store) in
+    let f = store-lengths _ _ t store in
     let named = c .before .before .before .before .before .before .before .before .find-domain .ensures in
     (f .slots-high, f .table-exact, omega (arith, named, depth-small t (a .handle)), live-within _ _ t store)
 
@@ -62,7 +62,7 @@ add-answer-of : tie.Need-add-answer-of
 add-answer-of c =
     let a = c .before .before .before .before .before .before .before .before .before .before .before .before .before .before .before .before .before .before .before .before .before .before .before .before .before .before .before .args in
     let passed = sym (c .before .before .before .before .before .before .before .before .before .before .before .before .before .before .before .before .before .before .restore-check .ensures .0) ∙ c .before .before .before .before .before .before .before .before .before .before .before .before .before .if1 .left in
-    let f = shape-facts _ _ (a .table .now) (store-shape _ _ (a .table .now) (restore-store _ _ (a .table .now) (a .handle) passed)) in
+    let f = store-lengths _ _ (a .table .now) (restore-store _ _ (a .table .now) (a .handle) passed) in
     omega (arith, f .slots-high, c .before .before .before .before .before .before .before .restore-memory .ensures .1 .0, c .before .before .restore-words .ensures .few)
 
 answer-of-requires : tie.Need-answer-of-requires

@@ -1,6 +1,6 @@
 use mathlib.Core.Path.{refl, sym, ap, _∙_}
 use native.Mathlib.Omega.{arith}
-use Rattle.store.proofs.Checks.{shape-facts, store-shape, create-store, create-live, create-next}
+use Rattle.store.proofs.Checks.{create-store, create-live, create-next, store-lengths}
 use Rattle.store.proofs.Means.{visibleOf}
 use Rattle.store.proofs.Created.{create-means, create-refused, create-performed}
 use borrow.Author.Needs.{needs}
@@ -29,7 +29,7 @@ returns c =
 -- src/lib.rt:271:18
 slice-read-handle : tie.Need-slice-read-handle
 slice-read-handle c =
-    let f = shape-facts _ _ _ (store-shape _ _ _ (create-store _ _ _ (sym (c .before .before .create-check .ensures) ∙ c .before .if1 .left))) in
+    let f = store-lengths _ _ _ (create-store _ _ _ (sym (c .before .before .create-check .ensures) ∙ c .before .if1 .left)) in
     omega arith
 
 -- src/lib.rt:272:5
@@ -37,7 +37,7 @@ create-words-requires : tie.Need-create-words-requires
 create-words-requires c κs =
     let t = c .before .before .before .before .before .before .before .before .args .table .now in
     let yes10 = sym (c .before .before .before .create-check .ensures) ∙ c .before .before .if1 .left in
-    let f = shape-facts _ _ t (store-shape _ _ t (create-store _ _ t yes10)) in
+    let f = store-lengths _ _ t (create-store _ _ t yes10) in
     ((f .table-exact, f .slots-high), (create-live _ _ t yes10, create-next _ _ t yes10))
 
 -- src/lib.rt:273:5

@@ -2,7 +2,7 @@ use mathlib.Core.Path.{sym, _∙_}
 use native.Mathlib.Omega.{arith}
 use borrow.Author.Tests.{lt-ltb, le-ltb}
 use Rattle.store.specs.Checks.{createCheck}
-use Rattle.store.proofs.Checks.{store-shape, shape-facts, ask-go, ask-stop, orElse-go, orElse-stop}
+use Rattle.store.proofs.Checks.{ask-go, ask-stop, orElse-go, orElse-stop, store-lengths}
 use borrow.Author.Needs.{needs}
 use Rattle.store.proofs.create_check.Statement.{statement}
 use Rattle.store.proofs.create_check.Tie as tie
@@ -22,7 +22,7 @@ returns c = c .before .plain-check .ensures ∙ sym (orElse-stop _ _ (λ e. c .i
 -- src/lib.rt:114:8
 shared-slice-read-if2 : tie.Need-shared-slice-read-if2
 shared-slice-read-if2 c =
-    let f = shape-facts _ _ _ (store-shape _ _ _ (sym (c .before .before .plain-check .ensures) ∙ c .before .if1 .left)) in
+    let f = store-lengths _ _ _ (sym (c .before .before .plain-check .ensures) ∙ c .before .if1 .left) in
     omega arith
 
 -- src/lib.rt:115:9
@@ -33,7 +33,7 @@ returns-2 c = sym (orElse-go _ _ (sym (c .before .before .before .plain-check .e
 -- src/lib.rt:117:8
 shared-slice-read-if3 : tie.Need-shared-slice-read-if3
 shared-slice-read-if3 c =
-    let f = shape-facts _ _ _ (store-shape _ _ _ (sym (c .before .before .before .before .plain-check .ensures) ∙ c .before .before .before .if1 .left)) in
+    let f = store-lengths _ _ _ (sym (c .before .before .before .before .plain-check .ensures) ∙ c .before .before .before .if1 .left) in
     omega arith
 
 -- src/lib.rt:118:9

@@ -1,6 +1,6 @@
 use mathlib.Core.Path.{refl, sym, _∙_}
 use native.Mathlib.Omega.{arith}
-use Rattle.store.proofs.Checks.{shape-facts, store-shape}
+use Rattle.store.proofs.Checks.{store-lengths}
 use Rattle.store.proofs.Handles.{list-refused, list-done}
 use borrow.Author.Needs.{needs}
 use Rattle.store.proofs.list.Statement.{statement}
@@ -21,13 +21,13 @@ returns c = list-refused _ _ (c .before .plain-check .ensures) (c .if1 .taken)
 -- src/lib.rt:305:9
 read-handles-requires : tie.Need-read-handles-requires
 read-handles-requires c κs =
-    let f = shape-facts _ _ _ (store-shape _ _ _ (sym (c .before .plain-check .ensures) ∙ c .if1 .left)) in
+    let f = store-lengths _ _ _ (sym (c .before .plain-check .ensures) ∙ c .if1 .left) in
     omega arith
 
 -- src/lib.rt:308:16
 shared-slice-read-t13 : tie.Need-shared-slice-read-t13
 shared-slice-read-t13 c =
-    let f = shape-facts _ _ _ (store-shape _ _ _ (sym (c .before .before .before .plain-check .ensures) ∙ c .before .before .if1 .left)) in
+    let f = store-lengths _ _ _ (sym (c .before .before .before .plain-check .ensures) ∙ c .before .before .if1 .left) in
     omega arith
 
 -- src/lib.rt:294:1
