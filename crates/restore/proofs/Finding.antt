@@ -83,15 +83,6 @@ module _ (m e : ℕ) (t : List ℕ) (d c : ℕ) (bodies : List ℕ) (ok : ruleOk
 
 -- ---- a group of cells
 
--- one with no held cell has nothing to be put back
-pub put-group-none : (e : ℕ) (t : List ℕ) (d mask : ℕ) (seen bodies memory : List ℕ) (from n k : ℕ) → Tells e t d mask seen
-    → ((j : ℕ) → j < n → heldBy mask (getD seen (from + j) 0) ≡ false)
-    → (0 ≡ length (groupPlan e t d bodies from n)) × ((_≤_ 0 (64 * n)) × (memory ≡ stores (take k (groupPlan e t d bodies from n)) memory))
-put-group-none e t d mask seen bodies memory from n k says clear =
-    let nothing : groupPlan e t d bodies from n ≡ [] =
-    gather-none n (λ j. backPlan e t d bodies (from + j)) (λ j l. rw (sym (says (from + j)) ∙ clear j l)) in
-    rw nothing (refl, (omega arith, stores-none k memory))
-
 -- ---- all cells
 
 pub bytes-are : (m d e : ℕ) (bodies t : List ℕ) → e ≡ slotsOf (length t) → gather m (backPlan e t d bodies) ≡ restoreBytes m d bodies t

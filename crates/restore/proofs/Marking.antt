@@ -1,20 +1,20 @@
 -- The marks of all entries and the mask of the domains from a depth inwards: in a table that is right, a cell's mark has one of these domains
 -- exactly if somebody from the depth inwards holds it. Assumes nothing.
 use Prim.Native.Nat.{ℕ, zero, suc, _+_, _-_, _*_, _≤_, _<_, _/_, _%_, _^_, min}
-use mathlib.Core.Bool.{Bool, true, false, cond, not}
+use mathlib.Core.Bool.{Bool, true, false, cond, not, _||_}
 use mathlib.Core.List.{List}
 use mathlib.Core.Path.{_≡_, refl, sym, ap, _∙_}
 use native.Mathlib.Omega.{arith}
 use borrow.Author.Count.{below-more}
 use borrow.Author.Tests.{eq-eqb, ne-eqb, eqb-true, eqb-false, lt-ltb, le-leb, lt-leb, not-true}
-use lib.Bits.{bitAnd, bitOr, and-shr, and-step, and-le-l, and-le-r, or-add-and}
+use lib.Bits.{bitAnd, and-shr, and-step}
 use lib.Dec.{leb, eqb}
 use lib.ListN.{length, getD, take, drop}
 use lib.Seq.{getD-take, getD-drop}
 use lib.Pow.{shr-le}
 use Rattle.words.specs.Layout.{maxLive}
 use Rattle.words.specs.Scan.{first, all}
-use Rattle.words.proofs.Scan.{by-bool, by-le, true≢, is-false, first-miss, all-at}
+use Rattle.words.proofs.Scan.{by-bool, by-le, true≢, is-false, first-miss, all-at, or-split}
 use Rattle.table.specs.Entry.{live, word1, holdsIn}
 use Rattle.table.specs.Marks.{has, zeros, Blank, Marked}
 use Rattle.table.proofs.Digits.{halved}
@@ -22,7 +22,7 @@ use Rattle.table.proofs.Marks.{zeros-length, blank-zeros, marked-holds}
 use Rattle.table.proofs.Rule.{Rule}
 use Rattle.search.specs.Search.{stepsIn, heldFrom}
 use Rattle.search.proofs.Behind.{steps-within, steps-hold}
-use Rattle.restore.specs.Marks.{inwards, heldBy, Tells}
+use Rattle.restore.specs.Marks.{inwards, heldBy, Unheld, Tells}
 
 -- ---- marks that are lent with none made yet
 
@@ -96,22 +96,32 @@ inwards-only (suc i) (suc j) low high l few h =
 
 -- ---- many marks, asked one after another
 
--- where two numbers have no bit together, neither has one
-none-either : (a b : ℕ) → bitOr a b ≡ 0 → (a ≡ 0) × (b ≡ 0)
-none-either a b h = (omega (arith, or-add-and a b, and-le-r a b), omega (arith, or-add-and a b, and-le-l a b))
-
--- x has the bits of the first j marks that are in the mask
-pub held-more : (marks : List ℕ) (mask j x : ℕ) → (x ≡ 0 → (k : ℕ) → k < j → heldBy mask (getD marks k 0) ≡ false)
-    → bitOr x (bitAnd (getD marks j 0) mask) ≡ 0 → (k : ℕ) → k < j + 1 → heldBy mask (getD marks k 0) ≡ false
-unfolding heldBy
-held-more marks mask j x so-far h k l =
-    let both = none-either x (bitAnd (getD marks j 0) mask) h in
-    below-more (λ i. not (eqb (bitAnd (getD marks i 0) mask) 0) ≡ false) j (so-far (both .0)) (ap not (eq-eqb (bitAnd (getD marks j 0) mask) 0 (both .1))) k l
+-- x says whether one of the first j is held by a domain of the mask
+pub held-more : (marks : List ℕ) (mask j : ℕ) (x y : Bool) → (x ≡ false → (k : ℕ) → k < j → heldBy mask (getD marks k 0) ≡ false)
+    → y ≡ heldBy mask (getD marks j 0) → (x || y) ≡ false → (k : ℕ) → k < j + 1 → heldBy mask (getD marks k 0) ≡ false
+held-more marks mask j x y so-far q h k l =
+    let both = or-split x y h in
+    below-more (λ i. heldBy mask (getD marks i 0) ≡ false) j (so-far (both .0)) (sym q ∙ both .1) k l
 
 -- a mark of the part of 64 from `from` on is one of all
 pub part-held : (seen : List ℕ) (mask from j : ℕ) → j < 64 → heldBy mask (getD (take (from + 64 - from) (drop from seen)) j 0) ≡ false
     → heldBy mask (getD seen (from + j) 0) ≡ false
 part-held seen mask from j l h = rw (getD-take (from + 64 - from) (drop from seen) j 0 (omega arith), getD-drop) at h
+
+-- one group more is passed over
+pub unheld-more : (mask : ℕ) (seen : List ℕ) (from n at : ℕ) → Unheld mask seen from n at → at + 64 ≤ n
+    → ((j : ℕ) → j < 64 → heldBy mask (getD (take (at + 64 - at) (drop at seen)) j 0) ≡ false) → Unheld mask seen from n (at + 64)
+unheld-more mask seen from n at u fits none =
+    record {
+      low = omega (arith, u .low);
+      high = fits;
+      none = λ c a b.
+          by-le at c
+          (λ far.
+          let here : at + (c - at) ≡ c = omega arith in
+          rw here at (part-held seen mask at (c - at) (omega arith) (none (c - at) (omega arith))))
+          (λ near. u .none c a near);
+    }
 
 -- ---- a mark, and somebody who holds the cell
 

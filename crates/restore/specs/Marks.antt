@@ -1,6 +1,6 @@
 -- The cells that restore puts back, by the marks of all entries: those whose marks have one of the domains that it names.
-use Prim.Native.Nat.{ℕ, _-_, _/_, _^_}
-use mathlib.Core.Bool.{Bool, not}
+use Prim.Native.Nat.{ℕ, _-_, _/_, _^_, _≤_, _<_}
+use mathlib.Core.Bool.{Bool, false, not}
 use mathlib.Core.List.{List}
 use mathlib.Core.Path.{_≡_}
 use lib.Bits.{bitAnd}
@@ -19,3 +19,9 @@ heldBy mask mark = not (eqb (bitAnd mark mask) 0)
 -- the marks that have one are those of the cells held by depth d or one inside it
 abbrev pub Tells : ℕ → List ℕ → (d mask : ℕ) → (seen : List ℕ) → Type 0
 Tells e t d mask seen = (c : ℕ) → heldBy mask (markOf seen c) ≡ heldFrom e t d c
+
+-- from `from` on and before r, of n cells, no mark has one
+pub record Unheld (mask : ℕ) (seen : List ℕ) (from n r : ℕ) : Type 0 where
+  pub low : from ≤ r
+  pub high : r ≤ n
+  pub none : (c : ℕ) → from ≤ c → c < r → heldBy mask (markOf seen c) ≡ false

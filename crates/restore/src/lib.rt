@@ -55,7 +55,7 @@ ghost use Rattle.changes.specs.Staged.{Turned, Stages, HeadOk, headStores, Jour
 ghost use Rattle.store.specs.Outcome.{buffers, report, Makes};
 ghost use Rattle.store.specs.Means.{Shows};
 ghost use Rattle.restore.specs.Restore.{restoreCheck, restoreBytes, restoreChange, restoreWords, restoreCall, restoreMeans};
-ghost use Rattle.restore.specs.Marks.{inwards, heldBy, Tells};
+ghost use Rattle.restore.specs.Marks.{inwards, heldBy, Unheld, Tells};
 ghost use Rattle.restore.specs.Parts.{backPlan, groupPlan, headWords, endingWords};
 
 // The questions put to restore: 0, or the number of the first no. It leaves the marks of all entries where it says 0.
@@ -104,25 +104,29 @@ fn any_held(marks: &[u8], mask: u8) -> bool
     requires { ⌜ length (now marks) ≡ groupSize ⌝ }
     ensures { λ r. ⌜ (r ≡ false → (j : ℕ) → j < groupSize → heldBy mask (getD (now (marks .entry)) j 0) ≡ false) ⌝ }
 {
-    let mut any: u8 = 0;
+    let mut any = false;
     let mut j: usize = 0;
     while j < GROUP_SIZE {
-        any = any | (marks[j] & mask);
+        any = any | held_by(mask, marks[j]);
         j += 1;
     }
-    any != 0
+    any
 }
 
-// May a cell of this group be one to be put back? The cells of a group that is not full, which only the last can be, are not asked for all
-// at once.
-fn group_held(seen: &[u8], from: usize, n: usize, mask: u8) -> bool
-    requires { ⌜ (n ≤ groupSize) × (from + n ≤ length (now seen)) ⌝ }
-    ensures { λ r. ⌜ (r ≡ false → (j : ℕ) → j < n → heldBy mask (getD (now (seen .entry)) (from + j) 0) ≡ false) ⌝ }
+// Passes over groups of cells from `from` on of which none is to be put back: most of a large memory's. What is left at the end is less than a
+// group, and is not passed over. It is a loop of its own, so that its numbers stay in registers.
+fn past_unheld(seen: &[u8], from: usize, cells: usize, mask: u8) -> usize
+    requires { ⌜ (from ≤ cells) × (cells ≤ length (now seen)) ⌝ }
+    ensures { λ r. ⌜ Unheld mask (now (seen .entry)) from cells r ⌝ }
 {
-    if n < GROUP_SIZE {
-        return true;
+    let mut at = from;
+    while at + GROUP_SIZE <= cells {
+        if any_held(&seen[at..at + GROUP_SIZE], mask) {
+            return at;
+        }
+        at += GROUP_SIZE;
     }
-    any_held(&seen[from..from + GROUP_SIZE], mask)
+    at
 }
 
 // Puts 64 bytes back into a cell of memory, at most budget of them. It is lent the bytes that the holder holds, and no table.
@@ -184,9 +188,6 @@ fn put_group(
     ensures few { λ r. ⌜ r ≤ cellSize * n ⌝ }
     ensures bytes { λ _. ⌜ now (memory .exit) ≡ stores (take budget (groupPlan slots (now (table .entry)) depth (now (bodies .entry)) from n)) (now (memory .entry)) ⌝ }
 {
-    if !group_held(seen, from, n, mask) {
-        return 0;
-    }
     let mut bytes: usize = 0;
     let mut j: usize = 0;
     while j < n {
@@ -229,7 +230,8 @@ fn put_back(
     let mut bytes: usize = 0;
     let mut cell: usize = 0;
     while cell < cells {
-        let n = least(GROUP_SIZE, cells - cell);
+        let at = past_unheld(seen, cell, cells, mask);
+        let n = least(GROUP_SIZE, cells - at);
         bytes += put_group(
             memory,
             bodies,
@@ -238,11 +240,11 @@ fn put_back(
             depth,
             seen,
             mask,
-            cell,
+            at,
             n,
             remaining(budget, bytes),
         );
-        cell += n;
+        cell = at + n;
     }
     bytes
 }

@@ -14,7 +14,6 @@ use Rattle.words.proofs.Gather.{gather-length, gather-turn}
 use Rattle.words.proofs.Plans.{stores-none}
 use Rattle.table.specs.Rule.{ruleOk}
 use Rattle.restore.specs.Parts.{backPlan, groupPlan}
-use Rattle.restore.proofs.Finding.{put-group-none}
 use Rattle.restore.proofs.put_group.Statement.{statement}
 use Rattle.restore.proofs.put_group.Tie as tie
 
@@ -24,20 +23,11 @@ Inv-loop memory₀ bodies table slots depth seen mask from n budget bytes₀ j�
 abbrev μ-loop : tie.MeasureT-loop
 μ-loop memory₀ bodies table slots depth seen mask from n budget bytes₀ j₀ memory bytes j = n - j
 
-group-held-requires : tie.Need-group-held-requires Inv-loop μ-loop
-group-held-requires c κs = search needs
-
-returns : tie.Need-returns Inv-loop μ-loop
-returns c =
-    let a = c .before .before .before .before .before .before .args in
-    let p = c .before .before .before .before .before .before .pre in
-    put-group-none (a .slots) (a .table .now) (a .depth) (a .mask) (a .seen .now) (a .bodies .now) (a .memory .now) (a .from) (a .n) (a .budget) (p .1 .1) (c .before .group-held .ensures (not-true _ (c .if1 .taken)))
-
 loop-holds : tie.Need-loop-holds Inv-loop μ-loop
-loop-holds c = (search needs, search needs, refl, refl, stores-none (c .before .before .before .before .before .before .args .budget) (c .before .before .before .before .before .before .args .memory .now))
+loop-holds c = (search needs, search needs, refl, refl, stores-none (c .before .before .before .before .args .budget) (c .before .before .before .before .args .memory .now))
 
 add-cell : tie.Need-add-cell Inv-loop μ-loop
-add-cell c = omega (arith, c .before .before .before .before .before .before .before .before .pre .0 .6, c .before .before .before .before .before .before .before .before .pre .0 .3)
+add-cell c = omega (arith, c .before .before .before .before .before .before .pre .0 .6, c .before .before .before .before .before .before .pre .0 .3)
 
 mark-of-requires : tie.Need-mark-of-requires Inv-loop μ-loop
 mark-of-requires c κs = search needs
@@ -50,16 +40,16 @@ remaining-requires c κs = search needs
 
 put-held-requires : tie.Need-put-held-requires Inv-loop μ-loop
 put-held-requires c κs =
-    let a = c .before .before .before .before .before .before .before .before .before .before .before .before .args in
+    let a = c .before .before .before .before .before .before .before .before .before .before .args in
     let s = c .before .before .before .before .before .loop in
     let here = c .before .before .before .before .loop-test .taken in
-    let p = c .before .before .before .before .before .before .before .before .before .before .before .before .pre in (
+    let p = c .before .before .before .before .before .before .before .before .before .before .pre in (
       (p .0 .0, p .0 .1, p .0 .2, omega (arith, p .0 .6, p .0 .3), omega (arith, p .0 .6, s .inv .2)),
       (subst (λ (n : ℕ). ruleOk (cellsOf n) (a .slots) (bodiesOf (length (a .bodies .now))) (a .table .now) ≡ true) (sym (s .inv .2)) (p .1 .0), rw (c .before .before .mark-of .ensures) at (c .before .held-by .ensures) ∙ p .1 .1 (a .from + s .j)),
     )
 
 add-bytes : tie.Need-add-bytes Inv-loop μ-loop
-add-bytes c = omega (arith, c .before .before .put-held .ensures .1 .0, c .before .before .before .before .before .before .before .before .before .before .before .before .before .before .before .pre .0 .6, c .before .before .before .before .before .before .before .before .before .before .before .before .before .before .before .pre .0 .3)
+add-bytes c = omega (arith, c .before .before .put-held .ensures .1 .0, c .before .before .before .before .before .before .before .before .before .before .before .before .before .pre .0 .6, c .before .before .before .before .before .before .before .before .before .before .before .before .before .pre .0 .3)
 
 add-j : tie.Need-add-j Inv-loop μ-loop
 add-j c = search needs
@@ -69,7 +59,7 @@ loop-less c = search needs
 
 loop-again : tie.Need-loop-again Inv-loop μ-loop
 loop-again c =
-    let a = c .before .before .before .before .before .before .before .before .before .before .before .before .before .before .before .args in
+    let a = c .before .before .before .before .before .before .before .before .before .before .before .before .before .args in
     let s = c .before .before .before .before .before .before .before .before .loop in
     let plan : ℕ → List Store = λ j. backPlan (a .slots) (a .table .now) (a .depth) (a .bodies .now) (a .from + j) in
     let r = c .before .before .put-held .ensures in
@@ -84,9 +74,9 @@ loop-again c =
 same-length : tie.Need-same-length Inv-loop μ-loop
 same-length c = c .before .loop .inv .2
 
-returns-2 : tie.Need-returns-2 Inv-loop μ-loop
-returns-2 c =
-    let a = c .before .before .before .before .before .before .before .before .args in
+returns : tie.Need-returns Inv-loop μ-loop
+returns c =
+    let a = c .before .before .before .before .before .before .args in
     let s = c .before .loop in
     let plan : ℕ → List Store = groupPlan (a .slots) (a .table .now) (a .depth) (a .bodies .now) (a .from) in
     let last : s .j ≡ a .n = omega arith in (
@@ -100,8 +90,6 @@ put-group-spec =
     (tie.spec
     Inv-loop
     μ-loop
-    group-held-requires
-    returns
     loop-holds
     add-cell
     mark-of-requires
@@ -113,4 +101,4 @@ put-group-spec =
     loop-less
     loop-again
     same-length
-    returns-2)
+    returns)
