@@ -19,7 +19,7 @@ use Rattle.search.specs.Search.{valueIn}
 use Rattle.search.proofs.Counts.{count-entries}
 use Rattle.model.specs.Holdings.{holdingAt, isHeld, heldReadOnly, valueOr, inRange, labelNumbered, kindNumbered, newlyHeld, relabelled, newBodies}
 use Rattle.store.specs.State.{heldIn, stateIn}
-use Rattle.store.proofs.Domains.{state-holding, state-zero, domains-count, held-holds, held-writable}
+use Rattle.store.proofs.Domains.{inner-holding, outer-holding, state-zero, domains-count, held-holds, held-writable}
 use Rattle.store.proofs.Raw.{raw-rule}
 use Rattle.add.specs.Add.{isNew, rises, raiseChange, wordsWith, bytesWith}
 use Rattle.add.specs.Walking.{Ready}
@@ -32,26 +32,20 @@ use Rattle.add.proofs.Filling.{slots-taken, bytes-length}
 -- ---- the state of a table's words
 
 module _ (e : ℕ) (t bodies : List ℕ) (inner : 1 ≤ live t) where
-  at-inner : (c : ℕ) → holdingAt (stateIn e t bodies .domains) (length (stateIn e t bodies .domains)) c ≡ heldIn e t bodies (live t) c
-  at-inner c = ap (λ (d : ℕ). holdingAt (stateIn e t bodies .domains) d c) (domains-count e t bodies) ∙ state-holding e t bodies (live t) c inner (omega arith)
-
   pub inner-held : (c : ℕ) → isHeld (holdingAt (stateIn e t bodies .domains) (length (stateIn e t bodies .domains)) c) ≡ holdsIn e t (live t) c
-  inner-held c = ap isHeld (at-inner c) ∙ held-holds e t bodies (live t) c
+  inner-held c = ap isHeld (inner-holding e t bodies c inner) ∙ held-holds e t bodies (live t) c
 
   pub inner-only : (c : ℕ) → heldReadOnly (holdingAt (stateIn e t bodies .domains) (length (stateIn e t bodies .domains)) c)
       ≡ (holdsIn e t (live t) c && eqb (writableOf (word1 e t (findIn e t (live t) c))) 0)
   inner-only c =
-      ap heldReadOnly (at-inner c)
+      ap heldReadOnly (inner-holding e t bodies c inner)
       ∙ rw (held-holds e t bodies (live t) c, held-writable e t bodies (live t) c)
       (by-bool (holdsIn e t (live t) c) (λ p. rw p (read-only (word1 e t (findIn e t (live t) c)))) (λ p. rw p))
-
-  outer-at : (c : ℕ) → 2 ≤ live t → holdingAt (stateIn e t bodies .domains) (length (stateIn e t bodies .domains) - 1) c ≡ heldIn e t bodies (parent (live t)) c
-  outer-at c deep = ap (λ (d : ℕ). holdingAt (stateIn e t bodies .domains) (d - 1) c) (domains-count e t bodies) ∙ state-holding e t bodies (parent (live t)) c (omega arith) (omega arith)
 
   pub outer-held : (c : ℕ) → isHeld (holdingAt (stateIn e t bodies .domains) (length (stateIn e t bodies .domains) - 1) c) ≡ parentHas e t (live t) c
   outer-held c =
       by-le 2 (live t)
-      (λ deep. ap isHeld (outer-at c deep) ∙ held-holds e t bodies (parent (live t)) c ∙ rw (le-leb 2 (live t) deep))
+      (λ deep. ap isHeld (outer-holding e t bodies c deep) ∙ held-holds e t bodies (parent (live t)) c ∙ rw (le-leb 2 (live t) deep))
       (λ flat.
       let z : length (stateIn e t bodies .domains) - 1 ≡ 0 = omega (arith, domains-count e t bodies) in
       ap (λ (d : ℕ). isHeld (holdingAt (stateIn e t bodies .domains) d c)) z ∙ ap isHeld (state-zero e t bodies c) ∙ rw (lt-leb 2 (live t) flat))
@@ -61,7 +55,7 @@ module _ (e : ℕ) (t bodies : List ℕ) (inner : 1 ≤ live t) where
   unfolding heldIn
   outer-value c v h =
       let p = and-split (leb 2 (live t)) (holdsIn e t (parent (live t)) c) h in
-      ap (valueOr v) (outer-at c (leb-true 2 (live t) (p .0))) ∙ rw (p .1)
+      ap (valueOr v) (outer-holding e t bodies c (leb-true 2 (live t) (p .0))) ∙ rw (p .1)
 
   -- ---- numbers
 

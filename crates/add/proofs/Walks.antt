@@ -11,7 +11,7 @@ use Rattle.words.specs.Layout.{slotsOf}
 use Rattle.words.specs.Scan.{count, nth}
 use Rattle.words.specs.Cells.{cellPlan}
 use Rattle.words.specs.Stores.{Store, gather}
-use Rattle.words.proofs.Scan.{by-bool, count-more, count-ext}
+use Rattle.words.proofs.Scan.{by-bool, count-more}
 use Rattle.words.proofs.Nth.{count-below}
 use Rattle.words.proofs.Gather.{gather-ext, gather-none}
 use Rattle.words.proofs.Plans.{length-cellPlan}
@@ -198,9 +198,6 @@ module _ (held used : List ℕ) (e b : ℕ) (t : List ℕ) (r : Range) where
 module _ (held used : List ℕ) (b : ℕ) (t : List ℕ) (r : Range)
     (new : (j : ℕ) → j < r .count → unheld held (live t) (r .first) j ≡ isNew (slotsOf (length t)) t (r .first) j)
     (free : (x : ℕ) → x < b → unmarked used x ≡ bodyFree (slotsOf (length t)) t x) where
-  same-count : (j : ℕ) → j ≤ r .count → count j (unheld held (live t) (r .first)) ≡ count j (isNew (slotsOf (length t)) t (r .first))
-  same-count j h = count-ext j (unheld held (live t) (r .first)) (isNew (slotsOf (length t)) t (r .first)) (λ i l. new i (omega arith))
-
   pub bytes-are : (memory : List ℕ) → copyBytes b memory held used (live t) (r .first) (r .count) (r .kind) ≡ addBytes b memory t (r .first) (r .count) (r .kind)
   unfolding copyBytes addBytes
   bytes-are memory =

@@ -32,7 +32,7 @@ use Rattle.store.specs.State.{stateIn, stateOf}
 use Rattle.store.specs.Means.{visibleOf, orRefused, callMeans, roomOf, leftPending, pendingAfter, afterPending, Reopens}
 use Rattle.store.proofs.Checks.{ask-yes, ask-stop, ask-rest, orElse-both, orElse-go, store-lengths}
 use Rattle.store.proofs.Outcome.{refuses}
-use Rattle.store.proofs.Domains.{state-named, state-holding, domains-count, held-holds, held-writable}
+use Rattle.store.proofs.Domains.{state-named, inner-holding, outer-holding, domains-count, held-holds, held-writable}
 use Rattle.store.proofs.InUse.{copies-in-use}
 use Rattle.store.proofs.Means.{by-check, store-standing}
 use Rattle.store.proofs.Changes.{Spares, spared, front-spares, copies-spare, change-length, change-performed, change-seen}
@@ -155,20 +155,14 @@ module _ (e : ℕ) (t bodies : List ℕ) (low : 1 ≤ live t) where
   s = stateIn e t bodies
 
   writable-same : (c : ℕ) → heldWritable (holdingAt (s .domains) (length (s .domains)) c) ≡ advances e t c
-  writable-same c =
-      ap (λ (n : ℕ). heldWritable (holdingAt (s .domains) n c)) (domains-count e t bodies)
-      ∙ ap heldWritable (state-holding e t bodies (live t) c low (omega arith))
-      ∙ held-writable e t bodies (live t) c
+  writable-same c = ap heldWritable (inner-holding e t bodies c low) ∙ held-writable e t bodies (live t) c
 
   cells-same : (m : ℕ) → writableCells m s ≡ count m (advances e t)
   cells-same m =
       count-ext m (λ c. heldWritable (holdingAt (s .domains) (length (s .domains)) c)) (advances e t) (λ c l. writable-same c)
 
   outer-same : (c : ℕ) → 1 < live t → isHeld (holdingAt (s .domains) (length (s .domains) - 1) c) ≡ holdsIn e t (parent (live t)) c
-  outer-same c two =
-      ap (λ (n : ℕ). isHeld (holdingAt (s .domains) (n - 1) c)) (domains-count e t bodies)
-      ∙ ap isHeld (state-holding e t bodies (live t - 1) c (omega arith) (omega arith))
-      ∙ held-holds e t bodies (live t - 1) c
+  outer-same c two = ap isHeld (outer-holding e t bodies c two) ∙ held-holds e t bodies (live t - 1) c
 
   covers-same : (m : ℕ) → parentCovers m s ≡ (leb (live t) 1 || all m (λ c. not (advances e t c) || holdsIn e t (parent (live t)) c))
   covers-same m =

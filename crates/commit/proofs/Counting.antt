@@ -17,8 +17,8 @@ use Rattle.table.proofs.Rule.{Rule}
 use Rattle.search.proofs.Counts.{count-entries}
 use Rattle.model.specs.State.{State}
 use Rattle.model.specs.Holdings.{holdingAt, isHeld, heldWritable, heldReadOnly, innerCells, raisedCells}
-use Rattle.store.specs.State.{heldIn, stateIn}
-use Rattle.store.proofs.Domains.{state-holding, state-zero, domains-count, held-holds, held-writable}
+use Rattle.store.specs.State.{stateIn}
+use Rattle.store.proofs.Domains.{inner-holding, outer-holding, state-zero, domains-count, held-holds, held-writable}
 use Rattle.commit.specs.Commit.{raises, commitChange}
 
 module _ (e : ℕ) (t : List ℕ) (d : ℕ) where
@@ -43,24 +43,19 @@ module _ (m e b : ℕ) (t : List ℕ) (ok : Rule m e b t) (some-live : 1 ≤ liv
   abbrev S : State
   S = stateIn e t bodies
 
-  inner-holding : (c : ℕ) → holdingAt (S .domains) (length (S .domains)) c ≡ heldIn e t bodies (live t) c
-  inner-holding c = rw (domains-count e t bodies) (state-holding e t bodies (live t) c some-live (omega arith))
-
   inner-count : count e (ofInner e t (live t)) ≡ innerCells m (stateIn e t bodies)
   inner-count =
       count-ext e (ofInner e t (live t)) (λ i. eqb (depthOf (word1 e t i)) (live t) && true) (λ i l. sym (and-true (ofInner e t (live t) i)))
       ∙ count-entries m e b t ok (live t) some-live (λ w. true)
       ∙ count-ext m (λ c. holdsIn e t (live t) c && true) (λ c. isHeld (holdingAt (S .domains) (length (S .domains)) c))
-      (λ c l. and-true (holdsIn e t (live t) c) ∙ sym (ap isHeld (inner-holding c) ∙ held-holds e t bodies (live t) c))
+      (λ c l. and-true (holdsIn e t (live t) c) ∙ sym (ap isHeld (inner-holding e t bodies c some-live) ∙ held-holds e t bodies (live t) c))
 
   -- of the parent's cell
   rising-cell : (c : ℕ) → 2 ≤ live t
       → (holdsIn e t (parent (live t)) c && stale e t (live t) (word1 e t (findIn e t (parent (live t)) c)))
       ≡ (heldReadOnly (holdingAt (S .domains) (length (S .domains) - 1) c) && heldWritable (holdingAt (S .domains) (length (S .domains)) c))
   rising-cell c two =
-      let outer : holdingAt (S .domains) (length (S .domains) - 1) c ≡ heldIn e t bodies (live t - 1) c =
-      rw (domains-count e t bodies) (state-holding e t bodies (live t - 1) c (omega arith) (omega arith)) in
-      rw (inner-holding c, outer, held-holds e t bodies (live t - 1) c, held-writable e t bodies (live t - 1) c, held-writable e t bodies (live t) c)
+      rw (inner-holding e t bodies c some-live, outer-holding e t bodies c two, held-holds e t bodies (live t - 1) c, held-writable e t bodies (live t - 1) c, held-writable e t bodies (live t) c)
       (by-bool (holdsIn e t (live t - 1) c)
       (λ p.
       let hit = find-hit e t (live t - 1) c (holds-found e t (live t - 1) c p) in

@@ -1,7 +1,7 @@
 -- Cells put back, one after another: from the bytes of the body that the search answers to the bytes of restore. Assumes nothing.
-use Prim.Native.Nat.{ℕ, _+_, _-_, _*_, _≤_, _<_}
+use Prim.Native.Nat.{ℕ, _+_, _-_, _≤_, _<_}
 use mathlib.Core.Bool.{true, false}
-use mathlib.Core.List.{List, []}
+use mathlib.Core.List.{List}
 use mathlib.Core.Path.{_≡_, refl, sym, ap, subst, _∙_}
 use native.Mathlib.Omega.{arith}
 use borrow.Rule.Slice.PartMut.{putMid, midOf}
@@ -12,7 +12,6 @@ use Rattle.words.specs.Stores.{Store, _≔_, stores, gather}
 use Rattle.words.specs.Cells.{copyPlan, cellPlan}
 use Rattle.words.proofs.Plans.{stores-none, length-cellPlan, tab-below}
 use Rattle.words.proofs.Cells.{copy-part}
-use Rattle.words.proofs.Gather.{gather-none}
 use Rattle.table.specs.Entry.{live}
 use Rattle.table.specs.Rule.{ruleOk}
 use Rattle.table.proofs.Rule.{Rule, ok-facts}
@@ -21,8 +20,7 @@ use Rattle.search.specs.declared.Held.{Held}
 use Rattle.search.specs.declared.Held.the-variants.{InBody}
 use Rattle.search.proofs.Behind.{ValueFacts, value-facts, from-slot, from-fits}
 use Rattle.restore.specs.Restore.{restoreBytes}
-use Rattle.restore.specs.Marks.{heldBy, Tells}
-use Rattle.restore.specs.Parts.{backPlan, groupPlan}
+use Rattle.restore.specs.Parts.{backPlan}
 
 -- ---- one cell
 
@@ -80,8 +78,6 @@ module _ (m e : ℕ) (t : List ℕ) (d c : ℕ) (bodies : List ℕ) (ok : ruleOk
           sym (length-cellPlan bodies (bodyFrom e t d c) c),
           (omega arith, h ∙ ap (λ (ps : List Store). stores (take budget ps) memory) same),
         )
-
--- ---- a group of cells
 
 -- ---- all cells
 

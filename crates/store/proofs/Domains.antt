@@ -13,7 +13,7 @@ use Rattle.words.specs.Scan.{first}
 use Rattle.words.specs.Stores.{tab, tabFrom}
 use Rattle.words.proofs.Scan.{by-bool, by-le}
 use Rattle.words.proofs.Plans.{length-tab, tab-below}
-use Rattle.table.specs.Entry.{live, nextHandle, handle, word1, writableOf, viaOf, findIn, holdsIn}
+use Rattle.table.specs.Entry.{live, nextHandle, handle, word1, writableOf, viaOf, parent, findIn, holdsIn}
 use Rattle.table.proofs.Entry.{holds-true}
 use Rattle.search.specs.Search.{valueIn}
 use Rattle.search.specs.Domain.{placeOf, depthNamed}
@@ -132,6 +132,14 @@ module _ (e : ℕ) (t bodies : List ℕ) where
   unfolding stateIn
   state-holding zero c low high = absurd (not-suc-le-zero low)
   state-holding (suc d) c low high = holding-tab (domainIn e t bodies) (live t) d c high
+
+  -- of the innermost domain, and of its parent
+  pub inner-holding : (c : ℕ) → 1 ≤ live t → holdingAt (stateIn e t bodies .domains) (length (stateIn e t bodies .domains)) c ≡ heldIn e t bodies (live t) c
+  inner-holding c low = ap (λ (d : ℕ). holdingAt (stateIn e t bodies .domains) d c) domains-count ∙ state-holding (live t) c low (omega arith)
+
+  pub outer-holding : (c : ℕ) → 2 ≤ live t → holdingAt (stateIn e t bodies .domains) (length (stateIn e t bodies .domains) - 1) c ≡ heldIn e t bodies (parent (live t)) c
+  outer-holding c two =
+      ap (λ (d : ℕ). holdingAt (stateIn e t bodies .domains) (d - 1) c) domains-count ∙ state-holding (parent (live t)) c (omega arith) (omega arith)
 
   pub state-past : (d c : ℕ) → live t < d → holdingAt (stateIn e t bodies .domains) d c ≡ none
   unfolding stateIn

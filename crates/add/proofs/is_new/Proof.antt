@@ -1,6 +1,4 @@
 -- `add::is_new` meets its contract. Assumes nothing.
-use mathlib.Core.Path.{ap}
-use mathlib.Core.Bool.{not}
 use borrow.Author.Needs.{needs}
 use Rattle.add.proofs.is_new.Statement.{statement}
 use Rattle.add.proofs.is_new.Tie as tie

@@ -1,10 +1,4 @@
 -- `add::write_range` meets its contract: what is staged is stored by the journal. Assumes nothing.
-use mathlib.Core.List.{List}
-use mathlib.Core.Path.{ap, _∙_}
-use lib.ListN.{length, take}
-use Rattle.words.specs.Layout.{pairsAt}
-use Rattle.words.specs.Stores.{Store, stores}
-use Rattle.words.specs.Journal.{journal}
 use Rattle.changes.proofs.Staging.{stages-inside, stages-words}
 use borrow.Author.Needs.{needs}
 use Rattle.add.proofs.write_range.Statement.{statement}

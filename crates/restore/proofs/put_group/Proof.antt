@@ -6,7 +6,6 @@ use mathlib.Core.List.{List}
 use mathlib.Core.Path.{_≡_, refl, sym, ap, subst, _∙_}
 use native.Mathlib.Omega.{arith}
 use borrow.Author.Needs.{needs}
-use borrow.Author.Tests.{not-true}
 use lib.ListN.{length, take}
 use Rattle.words.specs.Layout.{cellsOf, bodiesOf}
 use Rattle.words.specs.Stores.{Store, store, stores}
