@@ -20,7 +20,7 @@ use Rattle.model.specs.Answer.{Report, refused, ended, stepsOf, view, View}
 use Rattle.model.specs.Calls.{viewed, change, orRefuse}
 use Rattle.model.specs.Holdings.{kindNumbered, labelNumbered, newBodies, newlyHeld, relabelled, addChecks, addTo, addEffect}
 use Rattle.store.specs.Outcome.{Buffers, buffers, changePlan, outcome, leaves, Call, perform, unless}
-use Rattle.store.specs.Checks.{storeCheck}
+use Rattle.store.specs.Checks.{storeCheck, lentOf}
 use Rattle.store.specs.State.{stateIn, stateOf}
 use Rattle.store.specs.Means.{visibleOf, orRefused, callMeans, roomOf, leftPending, pendingAfter, afterPending, Reopens}
 use Rattle.store.proofs.Checks.{orElse-go, orElse-stop, store-lengths}
@@ -155,12 +155,12 @@ module _ (h base n k l : ℕ) (b : Buffers) where
   rest : ℕ
   rest = asked (b .memory) (slotsOf (length (b .table))) (b .table) (b .bodies) h base n k l (cellsOf (length (b .memory))) (bodiesOf (length (b .bodies)))
 
-  stops : (x : ℕ) → storeCheck (length (b .memory)) (length (b .bodies)) (b .table) ≡ suc x → addCheck (b .memory) (b .bodies) (b .table) h base n k l ≡ suc x
+  stops : (x : ℕ) → storeCheck (lentOf b) ≡ suc x → addCheck b h base n k l ≡ suc x
   unfolding addCheck
   stops x q = orElse-stop _ _ (λ z. omega (arith, z, q)) ∙ q
 
-  module _ (good : storeCheck (length (b .memory)) (length (b .bodies)) (b .table) ≡ 0) where
-    checks-rest : addCheck (b .memory) (b .bodies) (b .table) h base n k l ≡ rest
+  module _ (good : storeCheck (lentOf b) ≡ 0) where
+    checks-rest : addCheck b h base n k l ≡ rest
     unfolding addCheck rest
     checks-rest = orElse-go _ _ good
 
@@ -183,13 +183,13 @@ module _ (h base n k l : ℕ) (b : Buffers) (slot body : ℕ → ℕ) (may : May
       (addTo (b .memory) base n (kindNumbered k) (labelNumbered l) (stateOf b)))) budget (stateOf b) (b .memory)
 
   abbrev check : ℕ
-  check = addCheck (b .memory) (b .bodies) (b .table) h base n k l
+  check = addCheck b h base n k l
 
   ready : check ≡ 0 → Ready (b .memory) (b .bodies) (b .table) base n k l
   ready = add-ready (b .memory) (b .bodies) (b .table) h base n k l
 
-  passed : (budget : ℕ) → storeCheck (length (b .memory)) (length (b .bodies)) (b .table) ≡ 0
-      → goal (addCheck (b .memory) (b .bodies) (b .table) h base n k l) (addChecks (roomOf b) (b .memory) h base n k l (stateOf b)) budget
+  passed : (budget : ℕ) → storeCheck (lentOf b) ≡ 0
+      → goal (addCheck b h base n k l) (addChecks (roomOf b) (b .memory) h base n k l (stateOf b)) budget
   unfolding outcome
   passed budget good =
       subst (λ (s : ℕ). goal check s budget) (checks-rest h base n k l b good ∙ same-rest h base n k l b good)
@@ -202,14 +202,14 @@ module _ (h base n k l : ℕ) (b : Buffers) (slot body : ℕ → ℕ) (may : May
   pub add-with-means : (budget : ℕ) → visibleOf (outcome (addWith slot body h base n k l b) budget b) ≡ addMeans h base n k l budget b
   unfolding addWith callMeans
   add-with-means budget =
-      by-check (λ q. storeCheck (length (b .memory)) (length (b .bodies)) (b .table) ≡ q
+      by-check (λ q. storeCheck (lentOf b) ≡ q
       → visibleOf (outcome (addWith slot body h base n k l b) budget b) ≡ orRefused q b (viewed (addEffect (roomOf b) (b .memory) h base n k l (stateOf b)) budget (stateOf b) (b .memory)))
-      (storeCheck (length (b .memory)) (length (b .bodies)) (b .table))
+      (storeCheck (lentOf b))
       (λ x q w. ap visibleOf (sym (refuses (suc x) check _ budget b (sym (stops h base n k l b x w)) (λ z. omega arith))))
       (λ q w. passed budget w)
       refl
 
-  module _ (good : storeCheck (length (b .memory)) (length (b .bodies)) (b .table) ≡ 0) where
+  module _ (good : storeCheck (lentOf b) ≡ 0) where
     -- the pairs that it leaves pending
     pub add-with-pending : (budget : ℕ) → leftPending (outcome (addWith slot body h base n k l b) budget b) ≡ afterPending (addEffect (roomOf b) (b .memory) h base n k l (stateOf b)) budget
     unfolding addWith
@@ -239,7 +239,7 @@ add-means h base n k l budget b =
     ap (λ (c : Call). visibleOf (outcome c budget b)) (add-is h base n k l b) ∙ add-with-means h base n k l b _ _ (add-takes h base n k l b) budget
 
 -- the pairs that it leaves pending, at every budget
-pub add-pending : (h base n k l budget : ℕ) (b : Buffers) → storeCheck (length (b .memory)) (length (b .bodies)) (b .table) ≡ 0
+pub add-pending : (h base n k l budget : ℕ) (b : Buffers) → storeCheck (lentOf b) ≡ 0
     → pending ((outcome (addCall h base n k l b) budget b) .buffers .table) ≡ afterPending (addEffect (roomOf b) (b .memory) h base n k l (stateOf b)) budget
 add-pending h base n k l budget b good =
     ap (λ (c : Call). leftPending (outcome c budget b)) (add-is h base n k l b) ∙ add-with-pending h base n k l b _ _ (add-takes h base n k l b) good budget
@@ -247,11 +247,11 @@ add-pending h base n k l budget b good =
 -- ---- what the code cites
 
 module _ (m b t : List ℕ) (h base n k l budget : ℕ) where
-  pub add-refused : (q : ℕ) → q ≡ addCheck m b t h base n k l → (q ≡ 0 → ⊥) → leaves (refused q) (buffers m b t) ≡ outcome (addCall h base n k l (buffers m b t)) budget (buffers m b t)
+  pub add-refused : (q : ℕ) → q ≡ addCheck (buffers m b t) h base n k l → (q ≡ 0 → ⊥) → leaves (refused q) (buffers m b t) ≡ outcome (addCall h base n k l (buffers m b t)) budget (buffers m b t)
   unfolding addCall
-  add-refused q e z = refuses q (addCheck m b t h base n k l) _ budget (buffers m b t) e z
+  add-refused q e z = refuses q (addCheck (buffers m b t) h base n k l) _ budget (buffers m b t) e z
 
-  pub add-performed : (need : ℕ) (b′ t′ : List ℕ) (r : Report) → addCheck m b t h base n k l ≡ 0
+  pub add-performed : (need : ℕ) (b′ t′ : List ℕ) (r : Report) → addCheck (buffers m b t) h base n k l ≡ 0
       → need ≡ stepsOf (length (addBytes (bodiesOf (length b)) m t base n k)) (length (addWords (bodiesOf (length b)) t base n k l))
       → b′ ≡ stores (take budget (addBytes (bodiesOf (length b)) m t base n k)) b
       → t′ ≡ stores (take (budget - length (addBytes (bodiesOf (length b)) m t base n k)) (journal (pairsAt (slotsOf (length t))) (addWords (bodiesOf (length b)) t base n k l))) t

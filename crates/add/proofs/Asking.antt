@@ -7,6 +7,7 @@ use native.Mathlib.Omega.{arith}
 use borrow.Author.Tests.{eq-eqb, ne-eqb, eqb-true, le-leb, lt-leb, ltb-true, leb-true}
 use lib.Dec.{leb, ltb, eqb}
 use lib.ListN.{length, getD}
+use Rattle.store.specs.Outcome.{buffers}
 use Rattle.words.specs.Layout.{cellsOf, bodiesOf, slotsOf}
 use Rattle.words.specs.Scan.{all, count}
 use Rattle.words.specs.Cells.{cellBytes, sameCell}
@@ -23,7 +24,7 @@ use Rattle.search.proofs.Free.{slots-all}
 use Rattle.search.proofs.Value.{ends-in-copy, body-fits}
 use Rattle.model.specs.Answer.{ask, orElse}
 use Rattle.model.specs.Holdings.{rangeOk}
-use Rattle.store.specs.Checks.{storeCheck, askInnermostIn}
+use Rattle.store.specs.Checks.{storeCheck, askInnermostIn, lent}
 use Rattle.store.proofs.Named.{innermost-no, innermost-then}
 use Rattle.store.proofs.Checks.{ask-yes, ask-go, ask-stop, ask-rest, orElse-go, orElse-stop, orElse-both, store-lengths}
 use Rattle.store.proofs.Raw.{raw-rule}
@@ -220,7 +221,7 @@ module _ (e : ℕ) (t held : List ℕ) (m : Marked e t e held) (inner : 1 ≤ li
 
 -- ---- a table that passes questions 1 to 4 is right as it stands
 
-module _ (memory bodies t : List ℕ) (yes : storeCheck (length memory) (length bodies) t ≡ 0) where
+module _ (memory bodies t : List ℕ) (yes : storeCheck (lent (length memory) (length bodies) t) ≡ 0) where
   -- the copy behind a cell that a domain holds
   pub source-of : (d c : ℕ) → 1 ≤ d → findIn (slotsOf (length t)) t d c < slotsOf (length t) → Source (slotsOf (length t)) t bodies d c
   source-of d c low h =
@@ -256,18 +257,18 @@ module _ (memory bodies t : List ℕ) (h base n k l : ℕ) where
   chain true true true true true false rest = refl
   chain true true true true true true rest = refl
 
-  pub add-chain : addCheck memory bodies t h base n k l
-      ≡ orElse (storeCheck (length memory) (length bodies) t)
+  pub add-chain : addCheck (buffers memory bodies t) h base n k l
+      ≡ orElse (storeCheck (lent (length memory) (length bodies) t))
       (orElse (rangeCheck t (cellsOf (length memory)) h base n k l) (heldCheck memory bodies t base n k))
   unfolding addCheck rangeCheck parentCheck roomCheck
-  add-chain = ap (orElse (storeCheck (length memory) (length bodies) t)) (sym
+  add-chain = ap (orElse (storeCheck (lent (length memory) (length bodies) t))) (sym
       (chain (ltb 0 (depthNamed t h)) (eqb (depthNamed t h) (live t)) (leb k 1 && leb l 1) (rangeOk (cellsOf (length memory)) base n)
       (eqb k 0 || all n (covered memory bodies (slotsOf (length t)) t base n 0)) (eqb k 0 || all n (agreed memory bodies (slotsOf (length t)) t base n 0))
       (roomCheck (slotsOf (length t)) t (bodiesOf (length bodies)) (count n (isNew (slotsOf (length t)) t base)) k)))
 
-  pub add-ready : addCheck memory bodies t h base n k l ≡ 0 → Ready memory bodies t base n k l
+  pub add-ready : addCheck (buffers memory bodies t) h base n k l ≡ 0 → Ready memory bodies t base n k l
   add-ready z =
-      let a = orElse-both (storeCheck (length memory) (length bodies) t) (orElse (rangeCheck t (cellsOf (length memory)) h base n k l) (heldCheck memory bodies t base n k)) (sym add-chain ∙ z) in
+      let a = orElse-both (storeCheck (lent (length memory) (length bodies) t)) (orElse (rangeCheck t (cellsOf (length memory)) h base n k l) (heldCheck memory bodies t base n k)) (sym add-chain ∙ z) in
       let b = orElse-both (rangeCheck t (cellsOf (length memory)) h base n k l) (heldCheck memory bodies t base n k) (a .1) in
       let c = orElse-both (parentCheck memory bodies (slotsOf (length t)) t base n k) (roomCheck (slotsOf (length t)) t (bodiesOf (length bodies)) (count n (isNew (slotsOf (length t)) t base)) k) (b .1) in
       let r = range-facts t (cellsOf (length memory)) h base n k l (b .0) in
@@ -285,14 +286,14 @@ module _ (memory bodies t : List ℕ) (h base n k l : ℕ) where
 
   -- the code's three parts, one after another
   module _ (q : ℕ) where
-    pub check-store : q ≡ storeCheck (length memory) (length bodies) t → (q ≡ 0 → ⊥) → q ≡ addCheck memory bodies t h base n k l
+    pub check-store : q ≡ storeCheck (lent (length memory) (length bodies) t) → (q ≡ 0 → ⊥) → q ≡ addCheck (buffers memory bodies t) h base n k l
     check-store p z = p ∙ sym (add-chain ∙ orElse-stop _ _ (λ y. z (p ∙ y)))
 
-    module _ (yes4 : storeCheck (length memory) (length bodies) t ≡ 0) where
-      pub check-range : q ≡ rangeCheck t (cellsOf (length memory)) h base n k l → (q ≡ 0 → ⊥) → q ≡ addCheck memory bodies t h base n k l
+    module _ (yes4 : storeCheck (lent (length memory) (length bodies) t) ≡ 0) where
+      pub check-range : q ≡ rangeCheck t (cellsOf (length memory)) h base n k l → (q ≡ 0 → ⊥) → q ≡ addCheck (buffers memory bodies t) h base n k l
       check-range p z = p ∙ sym (add-chain ∙ orElse-go _ _ yes4 ∙ orElse-stop _ _ (λ y. z (p ∙ y)))
 
       pub check-rest : rangeCheck t (cellsOf (length memory)) h base n k l ≡ 0
           → q ≡ heldCheck memory bodies t base n k
-          → q ≡ addCheck memory bodies t h base n k l
+          → q ≡ addCheck (buffers memory bodies t) h base n k l
       check-rest yes8 p = p ∙ sym (add-chain ∙ orElse-go _ _ yes4 ∙ orElse-go _ _ yes8)

@@ -15,7 +15,7 @@ use Rattle.search.specs.Free.{slotFree, bodyFree, usedSlots, copies, lowestFree
 use Rattle.model.specs.Answer.{ask, orElse, View}
 use Rattle.model.specs.Holdings.{askRange, inRange, addEffect}
 use Rattle.store.specs.Outcome.{Buffers, Call, perform, unless, changePlan}
-use Rattle.store.specs.Checks.{storeCheck, askInnermostIn}
+use Rattle.store.specs.Checks.{storeCheck, askInnermostIn, lent, lentOf}
 use Rattle.store.specs.Means.{callMeans, roomOf}
 
 -- is the j-th cell of the range newly held?
@@ -23,17 +23,19 @@ abbrev pub isNew : ℕ → List ℕ → (first j : ℕ) → Bool
 isNew e t first j = not (holdsIn e t (innermost t) (first + j))
 
 -- questions 1 to 8, 11, 12, 16 and 17
-unfoldable pub addCheck : List ℕ → List ℕ → List ℕ → (h first n k l : ℕ) → ℕ
-addCheck memory bodies t h first n k l =
-    orElse (storeCheck (length memory) (length bodies) t)
+unfoldable pub addCheck : Buffers → (h first n k l : ℕ) → ℕ
+addCheck b h first n k l =
+    let t = b .table in
+    let e = slotsOf (length t) in
+    orElse (storeCheck (lentOf b))
     (askInnermostIn t h
     (ask (leb k 1 && leb l 1) 7
-    (askRange (cellsOf (length memory)) first n
-    (ask (eqb k 0 || all n (λ j. not (isNew (slotsOf (length t)) t first j) || parentHas (slotsOf (length t)) t (innermost t) (first + j))) 11
-    (ask (eqb k 0 || all n (λ j. not (isNew (slotsOf (length t)) t first j)
-    || sameCell (valueIn (slotsOf (length t)) t bodies (parent (innermost t)) (first + j)) (cellBytes memory (first + j)))) 12
-    (ask (leb (usedSlots (slotsOf (length t)) t + count n (isNew (slotsOf (length t)) t first)) (slotsOf (length t))) 16
-    (ask (eqb k 1 || leb (copies (slotsOf (length t)) t + count n (isNew (slotsOf (length t)) t first)) (bodiesOf (length bodies))) 17 0)))))))
+    (askRange (cellsOf (length (b .memory))) first n
+    (ask (eqb k 0 || all n (λ j. not (isNew e t first j) || parentHas e t (innermost t) (first + j))) 11
+    (ask (eqb k 0 || all n (λ j. not (isNew e t first j)
+    || sameCell (valueIn e t (b .bodies) (parent (innermost t)) (first + j)) (cellBytes (b .memory) (first + j)))) 12
+    (ask (leb (usedSlots e t + count n (isNew e t first)) e) 16
+    (ask (eqb k 1 || leb (copies e t + count n (isNew e t first)) (bodiesOf (length (b .bodies)))) 17 0)))))))
 
 -- does the label of an entry with first word w rise, d being the innermost depth? It is one of the range's read-only entries, and the label is read-write
 abbrev pub rises : (d first n l w : ℕ) → Bool
@@ -76,7 +78,7 @@ addBytes b memory t first n k = bytesWith memory t first n k (bodyFor (slotsOf (
 
 unfoldable pub addCall : (h first n k l : ℕ) → Buffers → Call
 addCall h first n k l b =
-    unless (addCheck (b .memory) (b .bodies) (b .table) h first n k l)
+    unless (addCheck b h first n k l)
     (perform (changePlan (pairsAt (slotsOf (length (b .table)))) (addBytes (bodiesOf (length (b .bodies))) (b .memory) (b .table) first n k)
     (addWords (bodiesOf (length (b .bodies))) (b .table) first n k l)) 0)
 

@@ -19,7 +19,7 @@ use Rattle.search.specs.Free.{slotFree, usedSlots, copies, lowestFree, unmarked
 use Rattle.changes.specs.Staged.{Stages}
 use Rattle.model.specs.Answer.{ask, orElse}
 use Rattle.model.specs.Holdings.{askRange}
-use Rattle.store.specs.Checks.{storeCheck, askInnermostIn}
+use Rattle.store.specs.Checks.{storeCheck, askInnermostIn, lent}
 use Rattle.store.specs.Outcome.{Buffers, Call}
 use Rattle.add.specs.Add.{isNew, raiseChange, addBytes, addWords, addCall}
 use Rattle.add.specs.declared.Cursors.{Cursors}
@@ -166,7 +166,7 @@ callOf h r b = addCall h (r .first) (r .count) (r .kind) (r .label) b
 -- what the questions leave
 
 pub record Ready (memory bodies t : List ℕ) (base n k l : ℕ) : Type 0 where
-  pub store : storeCheck (length memory) (length bodies) t ≡ 0
+  pub store : storeCheck (lent (length memory) (length bodies) t) ≡ 0
   pub inner : 1 ≤ live t
   pub kind : k ≤ 1
   pub label : l ≤ 1

@@ -60,7 +60,7 @@ ghost use Rattle.search.specs.Search.{valueIn};
 ghost use Rattle.search.specs.Free.{unmarked, unmarkedFrom};
 ghost use Rattle.changes.specs.Staged.{Stages, Journaled};
 ghost use Rattle.model.specs.Answer.{stepsOf};
-ghost use Rattle.store.specs.Checks.{storeCheck};
+ghost use Rattle.store.specs.Checks.{storeCheck, lent};
 ghost use Rattle.store.specs.Outcome.{buffers, report, Makes};
 ghost use Rattle.store.specs.Means.{Shows};
 ghost use Rattle.add.specs.Add.{addCheck, addCall, addMeans, rises, raiseChange};
@@ -214,7 +214,7 @@ fn parent_agrees(
 
 // Questions 11 and 12, which are put for via parent alone.
 fn parent_check(memory: &[u8], bodies: &[u8], table: &[u32], held: &[u8], range: Range) -> u32
-    requires { ⌜ (storeCheck (length (now memory)) (length (now bodies)) (now table) ≡ 0) × (1 ≤ live (now table))
+    requires { ⌜ (storeCheck (lent (length (now memory)) (length (now bodies)) (now table)) ≡ 0) × (1 ≤ live (now table))
         × (range .first + range .count ≤ cellsOf (length (now memory))) ⌝ }
     requires { ⌜ (range .first + range .count ≤ length (now held))
         × Marked (slotsOf (length (now table))) (now table) (slotsOf (length (now table))) (now held) ⌝ }
@@ -255,7 +255,7 @@ fn room_check(table: &[u32], slots: usize, bodies: usize, new: usize, kind: u32)
 
 // Questions 11, 12, 16 and 17: those that ask which cells are new.
 fn held_check(memory: &[u8], bodies: &[u8], table: &[u32], held: &[u8], range: Range) -> u32
-    requires { ⌜ (storeCheck (length (now memory)) (length (now bodies)) (now table) ≡ 0) × (1 ≤ live (now table))
+    requires { ⌜ (storeCheck (lent (length (now memory)) (length (now bodies)) (now table)) ≡ 0) × (1 ≤ live (now table))
         × (range .first + range .count ≤ cellsOf (length (now memory))) ⌝ }
     requires { ⌜ (range .first + range .count ≤ length (now held))
         × Marked (slotsOf (length (now table))) (now table) (slotsOf (length (now table))) (now held) ⌝ }
@@ -287,7 +287,7 @@ fn add_check(
 ) -> u32
     requires room { ⌜ (min (cellsOf (length (now memory))) maxCells ≤ length (now seen)) × (length (now used) ≡ maxBodies) ⌝ }
     requires blank { ⌜ Blank (now seen) × Blank (now used) ⌝ }
-    ensures no { λ r. ⌜ r ≡ addCheck (now (memory .entry)) (now (bodies .entry)) (now (table .entry)) handle
+    ensures no { λ r. ⌜ r ≡ addCheck (buffers (now (memory .entry)) (now (bodies .entry)) (now (table .entry))) handle
         (range .first) (range .count) (range .kind) (range .label) ⌝ }
     ensures marks { λ r. ⌜ (r ≡ 0 → AllMarked (slotsOf (length (now (table .entry)))) (now (table .entry)) (now (seen .exit)) (now (used .exit))) ⌝ }
 {

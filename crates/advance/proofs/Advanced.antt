@@ -27,7 +27,7 @@ use Rattle.model.specs.Answer.{Report, refused, ended, ask, orElse, view, steps
 use Rattle.model.specs.Calls.{viewed, change, orRefuse}
 use Rattle.model.specs.Holdings.{named, holdingAt, isHeld, heldWritable, copiesInUse, advance, writableCells, parentCovers, advanceChecks, advanceEffect}
 use Rattle.store.specs.Outcome.{Buffers, buffers, inBodies, inTable, changePlan, outcome, leaves, Call, perform, unless}
-use Rattle.store.specs.Checks.{storeCheck}
+use Rattle.store.specs.Checks.{storeCheck, lent, lentOf}
 use Rattle.store.specs.State.{stateIn, stateOf}
 use Rattle.store.specs.Means.{visibleOf, orRefused, callMeans, roomOf, leftPending, pendingAfter, afterPending, Reopens}
 use Rattle.store.proofs.Checks.{ask-yes, ask-stop, ask-rest, orElse-both, orElse-go, store-lengths}
@@ -50,7 +50,7 @@ use Rattle.advance.proofs.Noting.{cellsCheck}
 
 -- ---- for any choice of bodies
 
-module _ (memory bodies t : List ℕ) (yes : storeCheck (length memory) (length bodies) t ≡ 0) (low : 1 ≤ live t) (body : ℕ → ℕ)
+module _ (memory bodies t : List ℕ) (yes : storeCheck (lent (length memory) (length bodies) t) ≡ 0) (low : 1 ≤ live t) (body : ℕ → ℕ)
     (choice : Choice (cellsOf (length memory)) (slotsOf (length t)) (bodiesOf (length bodies)) t body) where
   abbrev m : ℕ
   m = cellsOf (length memory)
@@ -146,7 +146,7 @@ abbrev pub asked : (memory bodies : ℕ) → List ℕ → ℕ → ℕ
 asked memory bodies t h =
     ask (ltb 0 (depthNamed t h)) 5 (ask (eqb (depthNamed t h) (live t)) 6 (cellsCheck (cellsOf memory) (slotsOf (length t)) (bodiesOf bodies) t))
 
-pub check-is : (memory bodies : ℕ) (t : List ℕ) (h : ℕ) → advanceCheck memory bodies t h ≡ orElse (storeCheck memory bodies t) (asked memory bodies t h)
+pub check-is : (memory bodies : ℕ) (t : List ℕ) (h : ℕ) → advanceCheck (lent memory bodies t) h ≡ orElse (storeCheck (lent memory bodies t)) (asked memory bodies t h)
 unfolding advanceCheck
 check-is memory bodies t h = refl
 
@@ -195,11 +195,11 @@ checks-raw memory bodies t h ok =
 
 -- ---- what passed questions tell
 
-module _ (memory bodies : ℕ) (t : List ℕ) (h : ℕ) (pass : advanceCheck memory bodies t h ≡ 0) where
-  both : (storeCheck memory bodies t ≡ 0) × (asked memory bodies t h ≡ 0)
-  both = orElse-both (storeCheck memory bodies t) (asked memory bodies t h) (sym (check-is memory bodies t h) ∙ pass)
+module _ (memory bodies : ℕ) (t : List ℕ) (h : ℕ) (pass : advanceCheck (lent memory bodies t) h ≡ 0) where
+  both : (storeCheck (lent memory bodies t) ≡ 0) × (asked memory bodies t h ≡ 0)
+  both = orElse-both (storeCheck (lent memory bodies t)) (asked memory bodies t h) (sym (check-is memory bodies t h) ∙ pass)
 
-  pub advance-store : storeCheck memory bodies t ≡ 0
+  pub advance-store : storeCheck (lent memory bodies t) ≡ 0
   advance-store = both .0
 
   rest6 : ask (eqb (depthNamed t h) (live t)) 6 (cellsCheck (cellsOf memory) (slotsOf (length t)) (bodiesOf bodies) t) ≡ 0
@@ -223,8 +223,8 @@ module _ (memory bodies : ℕ) (t : List ℕ) (h : ℕ) (pass : advanceCheck mem
 
 -- ---- the call, which takes the lowest free bodies
 
-module _ (memory bodies t : List ℕ) (h : ℕ) (pass : advanceCheck (length memory) (length bodies) t h ≡ 0) where
-  abbrev yes : storeCheck (length memory) (length bodies) t ≡ 0
+module _ (memory bodies t : List ℕ) (h : ℕ) (pass : advanceCheck (lent (length memory) (length bodies) t) h ≡ 0) where
+  abbrev yes : storeCheck (lent (length memory) (length bodies) t) ≡ 0
   yes = advance-store (length memory) (length bodies) t h pass
 
   pub lowest : Choice (cellsOf (length memory)) (slotsOf (length t)) (bodiesOf (length bodies)) t (bodyFor (slotsOf (length t)) (bodiesOf (length bodies)) t)
@@ -240,7 +240,7 @@ module _ (memory bodies t : List ℕ) (h : ℕ) (pass : advanceCheck (length mem
 -- ---- what it means
 
 -- the questions and the number of cells, of words and of a state
-module _ (memory bodies t : List ℕ) (yes : storeCheck (length memory) (length bodies) t ≡ 0) (h : ℕ) where
+module _ (memory bodies t : List ℕ) (yes : storeCheck (lent (length memory) (length bodies) t) ≡ 0) (h : ℕ) where
   same-checks : asked (length memory) (length bodies) t h ≡ advanceChecks (roomOf (buffers memory bodies t)) h (stateOf (buffers memory bodies t))
   same-checks = sym (ap (advanceChecks (roomOf (buffers memory bodies t)) h) (raw-state memory bodies t yes) ∙ checks-raw memory bodies t h (raw-rule memory bodies t yes))
 
@@ -266,7 +266,7 @@ module _ (h : ℕ) (b : Buffers) (body : ℕ → ℕ) (may : MayTake h b body) w
   advance-with-means k =
       by-check (λ q. visibleOf (outcome (unless (orElse q (asked (length (b .memory)) (length (b .bodies)) (b .table) h)) plan-with) k b)
       ≡ orRefused q b (viewed (advanceEffect (roomOf b) (b .memory) h (stateOf b)) k (stateOf b) (b .memory)))
-      (storeCheck (length (b .memory)) (length (b .bodies)) (b .table))
+      (storeCheck (lentOf b))
       (λ n e. refl)
       (λ yes.
       let stands = store-standing (b .memory) (b .bodies) (b .table) yes in
@@ -274,13 +274,13 @@ module _ (h : ℕ) (b : Buffers) (body : ℕ → ℕ) (may : MayTake h b body) w
       (by-check (λ q. goal q q k) (asked (length (b .memory)) (length (b .bodies)) (b .table) h)
       (λ n e. ap (λ (s : Option State). view (refused (suc n)) s (b .memory)) stands)
       (λ e.
-      let pass : advanceCheck (length (b .memory)) (length (b .bodies)) (b .table) h ≡ 0 = rw yes e in
+      let pass : advanceCheck (lentOf b) h ≡ 0 = rw yes e in
       let low = advance-low (length (b .memory)) (length (b .bodies)) (b .table) h pass in
       with-seen (b .memory) (b .bodies) (b .table) yes low body (may pass) k
       ∙ ap (λ (x : ℕ). viewed (change (64 * x) (2 * x) 0 (advance (b .memory) (stateOf b))) k (stateOf b) (b .memory))
       (same-cells (b .memory) (b .bodies) (b .table) yes h low))))
 
-  module _ (good : storeCheck (length (b .memory)) (length (b .bodies)) (b .table) ≡ 0) where
+  module _ (good : storeCheck (lentOf b) ≡ 0) where
     -- the pairs that it leaves pending
     pub advance-with-pending : (k : ℕ) → leftPending (outcome (advanceWith body h b) k b) ≡ afterPending (advanceEffect (roomOf b) (b .memory) h (stateOf b)) k
     unfolding advanceWith
@@ -296,7 +296,7 @@ module _ (h : ℕ) (b : Buffers) (body : ℕ → ℕ) (may : MayTake h b body) w
     pub advance-with-reopens : Reopens (advanceWith body h b) b
     unfolding advanceWith
     advance-with-reopens =
-        unless-reopens b good (advanceCheck (length (b .memory)) (length (b .bodies)) (b .table) h) plan-with
+        unless-reopens b good (advanceCheck (lentOf b) h) plan-with
         (λ q. with-reopens (b .memory) (b .bodies) (b .table) good (advance-low (length (b .memory)) (length (b .bodies)) (b .table) h q) body (may q))
 
 -- ---- the contract's call, which takes the lowest free bodies
@@ -312,19 +312,19 @@ advance-takes h b pass = lowest (b .memory) (b .bodies) (b .table) h pass
 pub advance-means : (h k : ℕ) (b : Buffers) → visibleOf (outcome (advanceCall h b) k b) ≡ advanceMeans h k b
 advance-means h k b = ap (λ (c : Call). visibleOf (outcome c k b)) (advance-is h b) ∙ advance-with-means h b _ (advance-takes h b) k
 
-pub advance-pending : (h k : ℕ) (b : Buffers) → storeCheck (length (b .memory)) (length (b .bodies)) (b .table) ≡ 0
+pub advance-pending : (h k : ℕ) (b : Buffers) → storeCheck (lentOf b) ≡ 0
     → pending ((outcome (advanceCall h b) k b) .buffers .table) ≡ afterPending (advanceEffect (roomOf b) (b .memory) h (stateOf b)) k
 advance-pending h k b good = ap (λ (c : Call). leftPending (outcome c k b)) (advance-is h b) ∙ advance-with-pending h b _ (advance-takes h b) good k
 
 -- ---- what the code cites
 
 module _ (m b t : List ℕ) (h k : ℕ) where
-  pub advance-refused : (q : ℕ) → q ≡ advanceCheck (length m) (length b) t h → (q ≡ 0 → ⊥) → leaves (refused q) (buffers m b t) ≡ outcome (advanceCall h (buffers m b t)) k (buffers m b t)
+  pub advance-refused : (q : ℕ) → q ≡ advanceCheck (lent (length m) (length b) t) h → (q ≡ 0 → ⊥) → leaves (refused q) (buffers m b t) ≡ outcome (advanceCall h (buffers m b t)) k (buffers m b t)
   unfolding advanceCall
-  advance-refused q e stops = refuses q (advanceCheck (length m) (length b) t h) _ k (buffers m b t) e stops
+  advance-refused q e stops = refuses q (advanceCheck (lent (length m) (length b) t) h) _ k (buffers m b t) e stops
 
   -- where no question refuses it, the call is carried out
-  pub advance-goes : advanceCheck (length m) (length b) t h ≡ 0 → outcome (performed (buffers m b t)) k (buffers m b t) ≡ outcome (advanceCall h (buffers m b t)) k (buffers m b t)
+  pub advance-goes : advanceCheck (lent (length m) (length b) t) h ≡ 0 → outcome (performed (buffers m b t)) k (buffers m b t) ≡ outcome (advanceCall h (buffers m b t)) k (buffers m b t)
   unfolding advanceCall
   advance-goes pass = rw pass
 

@@ -14,7 +14,7 @@ use Rattle.search.specs.Free.{bodyFree, copies, lowestFree}
 use Rattle.model.specs.Answer.{ask, orElse, View}
 use Rattle.model.specs.Holdings.{advanceEffect}
 use Rattle.store.specs.Outcome.{Buffers, Call, perform, unless, changePlan}
-use Rattle.store.specs.Checks.{storeCheck, askInnermostIn}
+use Rattle.store.specs.Checks.{storeCheck, askInnermostIn, lentOf, Lent}
 use Rattle.store.specs.Means.{callMeans, roomOf}
 
 -- does the innermost domain hold cell c read-write?
@@ -22,13 +22,15 @@ abbrev pub advances : ℕ → List ℕ → ℕ → Bool
 advances e t c = writesIn e t (innermost t) c
 
 -- questions 1 to 6, 15 and 17
-unfoldable pub advanceCheck : (memory bodies : ℕ) → List ℕ → (h : ℕ) → ℕ
-advanceCheck memory bodies t h =
-    orElse (storeCheck memory bodies t)
+unfoldable pub advanceCheck : Lent → (h : ℕ) → ℕ
+advanceCheck l h =
+    let t = l .table in
+    let e = slotsOf (length t) in
+    orElse (storeCheck l)
     (askInnermostIn t h
     (ask (isOutermost (innermost t)
-    || all (cellsOf memory) (λ c. not (advances (slotsOf (length t)) t c) || holdsIn (slotsOf (length t)) t (parent (innermost t)) c)) 15
-    (ask (leb (copies (slotsOf (length t)) t + count (cellsOf memory) (advances (slotsOf (length t)) t)) (bodiesOf bodies)) 17 0)))
+    || all (cellsOf (l .memory)) (λ c. not (advances e t c) || holdsIn e t (parent (innermost t)) c)) 15
+    (ask (leb (copies e t + count (cellsOf (l .memory)) (advances e t)) (bodiesOf (l .bodies))) 17 0)))
 
 -- the body that the new copy of cell c takes: the lowest free bodies, in the order of the cells
 abbrev pub bodyFor : (e b : ℕ) → List ℕ → ℕ → ℕ
@@ -60,7 +62,7 @@ advanceBytes m b memory t = bytesWith m memory t (bodyFor (slotsOf (length t)) b
 
 unfoldable pub advanceCall : (h : ℕ) → Buffers → Call
 advanceCall h b =
-    unless (advanceCheck (length (b .memory)) (length (b .bodies)) (b .table) h)
+    unless (advanceCheck (lentOf b) h)
     (perform (changePlan (pairsAt (slotsOf (length (b .table))))
     (advanceBytes (cellsOf (length (b .memory))) (bodiesOf (length (b .bodies))) (b .memory) (b .table)) (advanceWords (bodiesOf (length (b .bodies))) (b .table))) 0)
 

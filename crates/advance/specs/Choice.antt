@@ -5,6 +5,7 @@ use Prim.Native.Nat.{ℕ}
 use mathlib.Core.List.{List}
 use mathlib.Core.Path.{_≡_}
 use lib.ListN.{length}
+use Rattle.store.specs.Checks.{lentOf}
 use Rattle.words.specs.Layout.{cellsOf, bodiesOf, slotsOf, pairsAt}
 use Rattle.search.specs.Free.{bodyFree, TakesFree}
 use Rattle.store.specs.Outcome.{Buffers, Call, perform, unless, changePlan}
@@ -17,11 +18,11 @@ Choice m e b t body = TakesFree m (advances e t) b (bodyFree e t) body
 -- the advance that takes these bodies
 unfoldable pub advanceWith : (body : ℕ → ℕ) (h : ℕ) → Buffers → Call
 advanceWith body h b =
-    unless (advanceCheck (length (b .memory)) (length (b .bodies)) (b .table) h)
+    unless (advanceCheck (lentOf b) h)
     (perform (changePlan (pairsAt (slotsOf (length (b .table)))) (bytesWith (cellsOf (length (b .memory))) (b .memory) (b .table) body) (wordsWith (b .table) body)) 0)
 
 -- the bodies are a choice, asked for where no question refuses the call
 abbrev pub MayTake : (h : ℕ) → Buffers → (body : ℕ → ℕ) → Type 0
 MayTake h b body =
-    advanceCheck (length (b .memory)) (length (b .bodies)) (b .table) h ≡ 0
+    advanceCheck (lentOf b) h ≡ 0
     → Choice (cellsOf (length (b .memory))) (slotsOf (length (b .table))) (bodiesOf (length (b .bodies))) (b .table) body

@@ -15,7 +15,7 @@ use Rattle.search.specs.Free.{copies, lowestFree, unmarked}
 use Rattle.changes.specs.Staged.{withBit, isSet}
 use Rattle.model.specs.Answer.{ask}
 use Rattle.store.specs.Outcome.{Buffers, Call, perform, changePlan}
-use Rattle.store.specs.Checks.{storeCheck}
+use Rattle.store.specs.Checks.{storeCheck, lent}
 use Rattle.advance.specs.Advance.{advances, turns, changeWith, advanceBytes, advanceWords}
 
 -- the entries from the n-th on are free
@@ -51,7 +51,7 @@ pub record CellBits (t groups : List ℕ) : Type 0 where
 
 -- it can be carried out, and the bodies in use are marked
 pub record Ready (memory bodies : ℕ) (t used : List ℕ) : Type 0 where
-  pub stands : storeCheck memory bodies t ≡ 0
+  pub stands : storeCheck (lent memory bodies t) ≡ 0
   pub lives : 1 ≤ live t
   pub room : copies (slotsOf (length t)) t + count (cellsOf memory) (advances (slotsOf (length t)) t) ≤ bodiesOf bodies
   pub marks : Marks (IsCopy (slotsOf (length t)) t) (word2 (slotsOf (length t)) t) 1 (slotsOf (length t)) used

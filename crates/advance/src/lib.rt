@@ -44,6 +44,7 @@ ghost use mathlib.Core.Path.{_≡_};
 ghost use mathlib.Core.Bool.{true, not, _||_};
 ghost use Prim.Native.Nat.{ℕ, _+_, _*_, _≤_, _<_, min};
 ghost use lib.ListN.{length, take, getD};
+ghost use Rattle.store.specs.Checks.{lent};
 ghost use Rattle.words.specs.Layout.{cellAt, cellsOf, bodiesOf, slotsOf, pairsAt, maxSlots, maxCells, maxBodies, maxLive, cellSize, groupAt, groupOf};
 ghost use Rattle.words.specs.Scan.{all, count, nth};
 ghost use Rattle.words.specs.Stores.{stores, gather};
@@ -190,7 +191,7 @@ fn advance_check(
 ) -> u32
     requires room { ⌜ (min (cellsOf memory) maxCells ≤ length (now seen)) × (length (now used) ≡ maxBodies) ⌝ }
     requires blank { ⌜ Blank (now seen) × Blank (now used) × Blank (now groups) × (length (now seen) ≤ groupAt (length (now groups))) ⌝ }
-    ensures no { λ r. ⌜ r ≡ advanceCheck memory bodies (now (table .entry)) handle ⌝ }
+    ensures no { λ r. ⌜ r ≡ advanceCheck (lent memory bodies (now (table .entry))) handle ⌝ }
     ensures ready { λ r. ⌜ (r ≡ 0 → Ready memory bodies (now (table .entry)) (now (used .exit)) × CellBits (now (table .entry)) (now (groups .exit))) ⌝ }
 {
     let no = store_check(memory, bodies, table, seen, used);

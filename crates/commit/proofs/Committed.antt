@@ -26,7 +26,7 @@ use Rattle.model.specs.Answer.{Report, refused, ended, ask, orElse, view, steps
 use Rattle.model.specs.Calls.{viewed, change, orRefuse}
 use Rattle.model.specs.Holdings.{innerCells, raisedCells, commit, commitChecks, commitEffect}
 use Rattle.store.specs.Outcome.{Buffers, buffers, changePlan, outcome, leaves, perform, unless}
-use Rattle.store.specs.Checks.{storeCheck}
+use Rattle.store.specs.Checks.{storeCheck, lent, lentOf}
 use Rattle.store.specs.State.{stateIn, stateOf}
 use Rattle.store.specs.Means.{orRefused, callMeans}
 use Rattle.store.proofs.Checks.{ask-yes, orElse-both, orElse-go, store-lengths}
@@ -68,7 +68,7 @@ words-names t low high =
 
 -- ---- a table that passes questions 1 to 4, with a live domain
 
-module _ (memory bodies t : List ℕ) (yes : storeCheck (length memory) (length bodies) t ≡ 0) where
+module _ (memory bodies t : List ℕ) (yes : storeCheck (lent (length memory) (length bodies) t) ≡ 0) where
   abbrev e : ℕ
   e = slotsOf (length t)
 
@@ -144,7 +144,7 @@ unfolding commitCall callMeans commitCheck outcome
 commit-means h k b =
     by-check (λ q. visibleOf (outcome (unless (orElse q (asked (b .table) h)) (perform (changePlan (pairsAt (slotsOf (length (b .table)))) [] (commitWords (b .table))) 0)) k b)
     ≡ orRefused q b (viewed (commitEffect (cellsOf (length (b .memory))) h (stateOf b)) k (stateOf b) (b .memory)))
-    (storeCheck (length (b .memory)) (length (b .bodies)) (b .table))
+    (storeCheck (lentOf b))
     (λ n e. refl)
     (λ yes.
     let stands = store-standing (b .memory) (b .bodies) (b .table) yes in
@@ -155,7 +155,7 @@ commit-means h k b =
 
 -- ---- the pairs that it leaves pending, at every budget
 
-pub commit-pending : (h k : ℕ) (b : Buffers) → storeCheck (length (b .memory)) (length (b .bodies)) (b .table) ≡ 0
+pub commit-pending : (h k : ℕ) (b : Buffers) → storeCheck (lentOf b) ≡ 0
     → pending ((outcome (commitCall h b) k b) .buffers .table) ≡ afterPending (commitEffect (cellsOf (length (b .memory))) h (stateOf b)) k
 unfolding commitCall commitCheck
 commit-pending h k b good =
@@ -173,14 +173,14 @@ pub record Ready (memory e : ℕ) (t : List ℕ) : Type 0 where
   pub once : CellsOnce e t e
   pub fits : (marks : ℕ) → min (cellsOf memory) maxCells ≤ marks → (i : ℕ) → i < e → cellIn e t i < marks
 
-module _ (memory bodies : ℕ) (t : List ℕ) (h : ℕ) (passed : commitCheck memory bodies t h ≡ 0) where
-  pub commit-store : storeCheck memory bodies t ≡ 0
+module _ (memory bodies : ℕ) (t : List ℕ) (h : ℕ) (passed : commitCheck (lent memory bodies t) h ≡ 0) where
+  pub commit-store : storeCheck (lent memory bodies t) ≡ 0
   unfolding commitCheck
-  commit-store = orElse-both (storeCheck memory bodies t) (asked t h) passed .0
+  commit-store = orElse-both (storeCheck (lent memory bodies t)) (asked t h) passed .0
 
   pub commit-live : 1 ≤ live t
   unfolding commitCheck
-  commit-live = asked-live t h (orElse-both (storeCheck memory bodies t) (asked t h) passed .1)
+  commit-live = asked-live t h (orElse-both (storeCheck (lent memory bodies t)) (asked t h) passed .1)
 
   pub commit-ready : {e : ℕ} → e ≡ slotsOf (length t) → Ready memory e t
   commit-ready slots =
@@ -196,11 +196,11 @@ module _ (memory bodies : ℕ) (t : List ℕ) (h : ℕ) (passed : commitCheck me
       })
 
 module _ (m b t : List ℕ) (h k : ℕ) where
-  pub commit-refused : (q : ℕ) → q ≡ commitCheck (length m) (length b) t h → (q ≡ 0 → ⊥) → leaves (refused q) (buffers m b t) ≡ outcome (commitCall h (buffers m b t)) k (buffers m b t)
+  pub commit-refused : (q : ℕ) → q ≡ commitCheck (lent (length m) (length b) t) h → (q ≡ 0 → ⊥) → leaves (refused q) (buffers m b t) ≡ outcome (commitCall h (buffers m b t)) k (buffers m b t)
   unfolding commitCall
-  commit-refused q e n = refuses q (commitCheck (length m) (length b) t h) _ k (buffers m b t) e n
+  commit-refused q e n = refuses q (commitCheck (lent (length m) (length b) t) h) _ k (buffers m b t) e n
 
-  pub commit-performed : {e need : ℕ} {t′ : List ℕ} {r : Report} → commitCheck (length m) (length b) t h ≡ 0 → e ≡ slotsOf (length t)
+  pub commit-performed : {e need : ℕ} {t′ : List ℕ} {r : Report} → commitCheck (lent (length m) (length b) t) h ≡ 0 → e ≡ slotsOf (length t)
       → need ≡ length (journal (pairsAt e) (endingWords e t (live t))) → t′ ≡ stores (take k (journal (pairsAt e) (endingWords e t (live t)))) t
       → r ≡ ended need 0 k
       → leaves r (buffers m b t′) ≡ outcome (commitCall h (buffers m b t)) k (buffers m b t)

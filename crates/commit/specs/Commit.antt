@@ -11,13 +11,12 @@ use Rattle.table.specs.Changes.{Change, keep, put, entryChanges}
 use Rattle.model.specs.Answer.{orElse, View}
 use Rattle.model.specs.Holdings.{commitEffect}
 use Rattle.store.specs.Outcome.{Buffers, Call, perform, unless, changePlan}
-use Rattle.store.specs.Checks.{storeCheck, askInnermostIn}
+use Rattle.store.specs.Checks.{storeCheck, askInnermostIn, lentOf, Lent}
 use Rattle.store.specs.Means.{callMeans}
 
 -- questions 1 to 6
-unfoldable pub commitCheck : (memory bodies : ℕ) → List ℕ → (h : ℕ) → ℕ
-commitCheck memory bodies t h =
-    orElse (storeCheck memory bodies t) (askInnermostIn t h 0)
+unfoldable pub commitCheck : Lent → (h : ℕ) → ℕ
+commitCheck l h = orElse (storeCheck l) (askInnermostIn (l .table) h 0)
 
 -- with d the innermost depth and w an entry's first word: it is the parent's, and its label is raised, `inner` saying whether the innermost
 -- domain holds its cell read-write
@@ -44,7 +43,7 @@ commitWords t =
 
 unfoldable pub commitCall : (h : ℕ) → Buffers → Call
 commitCall h b =
-    unless (commitCheck (length (b .memory)) (length (b .bodies)) (b .table) h)
+    unless (commitCheck (lentOf b) h)
     (perform (changePlan (pairsAt (slotsOf (length (b .table)))) [] (commitWords (b .table))) 0)
 
 abbrev pub commitMeans : (h : ℕ) → ℕ → Buffers → View

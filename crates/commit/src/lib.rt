@@ -46,6 +46,7 @@ ghost use mathlib.Core.Path.{_≡_};
 ghost use mathlib.Core.Bool.{true, cond};
 ghost use Prim.Native.Nat.{ℕ, _+_, _*_, _≤_, _<_, min};
 ghost use lib.ListN.{length};
+ghost use Rattle.store.specs.Checks.{lent};
 ghost use Rattle.words.specs.Layout.{cellsOf, pairsAt, slotsOf, tableWords, maxSlots, maxLive, maxCells, groupSize, groupAt};
 ghost use Rattle.table.specs.Entry.{depthOf, writableOf, parent, outward, writable};
 ghost use Rattle.table.specs.Marks.{has, cellIn, Marked, CellsOnce, Blank};
@@ -59,7 +60,7 @@ ghost use Rattle.commit.specs.Parts.{headWords, endingWords};
 // The questions put to commit: 0, or the number of the first no. The first of them leave the entries marked.
 fn commit_check(memory: usize, bodies: usize, table: &[u32], handle: u32, seen: &mut [u8]) -> u32
     requires { ⌜ (min (cellsOf memory) maxCells ≤ length (now seen)) × Blank (now seen) ⌝ }
-    ensures no { λ r. ⌜ r ≡ commitCheck memory bodies (now (table .entry)) handle ⌝ }
+    ensures no { λ r. ⌜ r ≡ commitCheck (lent memory bodies (now (table .entry))) handle ⌝ }
     ensures marks { λ r. ⌜ (r ≡ 0 → Marked (slotsOf (length (now (table .entry)))) (now (table .entry)) (slotsOf (length (now (table .entry)))) (now (seen .exit))) ⌝ }
 {
     let mut used = no_bodies();

@@ -36,6 +36,7 @@ ghost use mathlib.Core.Path.{_≡_};
 ghost use mathlib.Core.Bool.{true, not};
 ghost use Prim.Native.Nat.{ℕ, _+_, _*_, _≤_, _<_, min};
 ghost use lib.ListN.{length};
+ghost use Rattle.store.specs.Checks.{lent};
 ghost use Rattle.words.specs.Layout.{cellsOf, pairsAt, tableWords, maxSlots, maxCells, groupSize, groupAt};
 ghost use Rattle.words.specs.Scan.{all};
 ghost use Rattle.table.specs.Entry.{word1};
@@ -99,7 +100,7 @@ fn check_marked(
     seen: &mut [u8],
 ) -> u32
     requires { ⌜ (min (cellsOf memory) maxCells ≤ length (now seen)) × Blank (now seen) ⌝ }
-    ensures { λ r. ⌜ r ≡ deleteCheck memory bodies (now (table .entry)) handle first count ⌝ }
+    ensures { λ r. ⌜ r ≡ deleteCheck (lent memory bodies (now (table .entry))) handle first count ⌝ }
 {
     let mut used = no_bodies();
     let no = store_check(memory, bodies, table, seen, &mut used);
@@ -134,7 +135,7 @@ fn check_few(
     count: u32,
 ) -> u32
     requires { ⌜ cellsOf memory ≤ 1024 ⌝ }
-    ensures { λ r. ⌜ r ≡ deleteCheck memory bodies (now (table .entry)) handle first count ⌝ }
+    ensures { λ r. ⌜ r ≡ deleteCheck (lent memory bodies (now (table .entry))) handle first count ⌝ }
 {
     let mut seen = few_marks();
     check_marked(memory, bodies, table, handle, first, count, &mut seen)
@@ -149,7 +150,7 @@ fn check_many(
     first: u32,
     count: u32,
 ) -> u32
-    ensures { λ r. ⌜ r ≡ deleteCheck memory bodies (now (table .entry)) handle first count ⌝ }
+    ensures { λ r. ⌜ r ≡ deleteCheck (lent memory bodies (now (table .entry))) handle first count ⌝ }
 {
     let mut seen = many_marks();
     check_marked(memory, bodies, table, handle, first, count, &mut seen)
@@ -164,7 +165,7 @@ fn delete_check(
     first: u32,
     count: u32,
 ) -> u32
-    ensures { λ r. ⌜ r ≡ deleteCheck memory bodies (now (table .entry)) handle first count ⌝ }
+    ensures { λ r. ⌜ r ≡ deleteCheck (lent memory bodies (now (table .entry))) handle first count ⌝ }
 {
     if cells_of(memory) <= FEW_CELLS {
         return check_few(memory, bodies, table, handle, first, count);

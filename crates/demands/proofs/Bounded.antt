@@ -14,7 +14,7 @@ use Rattle.model.specs.History.{Request}
 use Rattle.model.specs.Session.{Input, make, call, opening, write}
 use Rattle.model.proofs.Told.{Halted}
 use Rattle.store.specs.Outcome.{Buffers, inTable, Outcome, outcome, Call, refuse, perform}
-use Rattle.store.specs.Checks.{makeCheck, openCheck}
+use Rattle.store.specs.Checks.{makeCheck, openCheck, lentOf}
 use Rattle.store.specs.State.{slots}
 use Rattle.store.specs.Calls.{makePlan, makeCall, openCall}
 use Rattle.store.proofs.Making.{make-length}
@@ -68,7 +68,7 @@ module _ (b : Buffers) where
   open-needs : Needs (2 * slotsOf (length (b .table)) + 11) (openCall b)
   unfolding openCall
   open-needs =
-      needs-unless (2 * slotsOf (length (b .table)) + 11) (openCheck (length (b .memory)) (length (b .bodies)) (b .table)) _
+      needs-unless (2 * slotsOf (length (b .table)) + 11) (openCheck (lentOf b)) _
       (λ q.
       at-most (length-map (openPlan (pairsAt (slotsOf (length (b .table)))) (b .table)) (λ x. inTable x) ∙ open-length (pairsAt (slotsOf (length (b .table)))) (b .table))
       (open-bound (length (b .memory)) (length (b .bodies)) (b .table) q))

@@ -14,7 +14,7 @@ use Rattle.search.proofs.Domain.{depth-small}
 use Rattle.model.specs.Answer.{isStopped, Report, done, refused, ended, orElse, stepsOf}
 use Rattle.model.proofs.Told.{Halted}
 use Rattle.store.specs.Outcome.{Buffers, Step, Call, refuse, perform, changePlan, unless, Outcome, leaves, outcome}
-use Rattle.store.specs.Checks.{storeCheck, createCheck}
+use Rattle.store.specs.Checks.{storeCheck, createCheck, lentOf}
 use Rattle.store.specs.State.{slots}
 use Rattle.store.specs.Calls.{createWords, createCall}
 use Rattle.store.proofs.Checks.{orElse-both}
@@ -78,7 +78,7 @@ module _ (b : Buffers) where
   pub create-planned : Planned (λ k. outcome (createCall b) k b) b
   unfolding createCall
   create-planned =
-      change-planned _ b (createCheck (length (b .memory)) (length (b .bodies)) (b .table)) [] (createWords (b .table)) (nextHandle (b .table)) (λ k. refl)
+      change-planned _ b (createCheck (lentOf b)) [] (createWords (b .table)) (nextHandle (b .table)) (λ k. refl)
       (λ q. at-most (change-length (pairsAt (slots b)) [] (createWords (b .table)) ∙ ap (stepsOf 0) (create-words (b .table))) (change-bound 0 3 (slots b) (omega arith) (omega arith)))
 
   pub add-planned : (h first n i l : ℕ) → Planned (λ k. outcome (addCall h first n i l b) k b) b
@@ -86,7 +86,7 @@ module _ (b : Buffers) where
   add-planned h first n i l =
       let bytes = addBytes (bodiesOf (length (b .bodies))) (b .memory) (b .table) first n i in
       let ws = addWords (bodiesOf (length (b .bodies))) (b .table) first n i l in
-      change-planned _ b (addCheck (b .memory) (b .bodies) (b .table) h first n i l) bytes ws 0 (λ k. refl)
+      change-planned _ b (addCheck b h first n i l) bytes ws 0 (λ k. refl)
       (λ q.
       at-most (change-length (pairsAt (slots b)) bytes ws)
       (add-bound (b .memory) (b .bodies) (b .table) first n i l (add-ready (b .memory) (b .bodies) (b .table) h first n i l q)))
@@ -94,7 +94,7 @@ module _ (b : Buffers) where
   pub delete-planned : (h first n : ℕ) → Planned (λ k. outcome (deleteCall h first n b) k b) b
   unfolding deleteCall
   delete-planned h first n =
-      change-planned _ b (deleteCheck (length (b .memory)) (length (b .bodies)) (b .table) h first n) [] (deleteWords (b .table) (depthNamed (b .table) h) first n) 0
+      change-planned _ b (deleteCheck (lentOf b) h first n) [] (deleteWords (b .table) (depthNamed (b .table) h) first n) 0
       (λ k. refl)
       (λ q.
       let yes = delete-store (length (b .memory)) (length (b .bodies)) (b .table) h first n q in
@@ -107,13 +107,13 @@ module _ (b : Buffers) where
   advance-planned h =
       let bytes = advanceBytes (cellsOf (length (b .memory))) (bodiesOf (length (b .bodies))) (b .memory) (b .table) in
       let ws = advanceWords (bodiesOf (length (b .bodies))) (b .table) in
-      change-planned _ b (advanceCheck (length (b .memory)) (length (b .bodies)) (b .table) h) bytes ws 0 (λ k. refl)
+      change-planned _ b (advanceCheck (lentOf b) h) bytes ws 0 (λ k. refl)
       (λ q. at-most (change-length (pairsAt (slots b)) bytes ws) (advance-bound (b .memory) (b .bodies) (b .table) h q))
 
   pub commit-planned : (h : ℕ) → Planned (λ k. outcome (commitCall h b) k b) b
   unfolding commitCall
   commit-planned h =
-      change-planned _ b (commitCheck (length (b .memory)) (length (b .bodies)) (b .table) h) [] (commitWords (b .table)) 0 (λ k. refl)
+      change-planned _ b (commitCheck (lentOf b) h) [] (commitWords (b .table)) 0 (λ k. refl)
       (λ q.
       let yes = commit-store (length (b .memory)) (length (b .bodies)) (b .table) h q in
       let some-live = commit-live (length (b .memory)) (length (b .bodies)) (b .table) h q in
@@ -138,7 +138,7 @@ module _ (b : Buffers) where
   pub restore-planned : (h : ℕ) → Planned (λ k. outcome (restoreCall h b) k b) b
   unfolding restoreCall restoreCheck
   restore-planned h =
-      let asks : ℕ = orElse (storeCheck (length (b .memory)) (length (b .bodies)) (b .table)) (asked (b .table) h) in
+      let asks : ℕ = orElse (storeCheck (lentOf b)) (asked (b .table) h) in
       let d : ℕ = depthNamed (b .table) h in
       let bytes = restoreBytes (cellsOf (length (b .memory))) (depthNamed (b .table) h) (b .bodies) (b .table) in
       let ws = restoreWords (depthNamed (b .table) h) (b .table) in
@@ -147,7 +147,7 @@ module _ (b : Buffers) where
         is = λ k. refl;
         needs = needs-unless (70 * slots b + 32) asks _
             (λ q.
-            let both = orElse-both (storeCheck (length (b .memory)) (length (b .bodies)) (b .table)) (asked (b .table) h) q in
+            let both = orElse-both (storeCheck (lentOf b)) (asked (b .table) h) q in
             let low = asked-low (b .table) h (both .1) in
             let high = depth-small (b .table) h in
             at-most (restore-length (pairsAt (slots b)) bytes ws

@@ -14,7 +14,7 @@ use Rattle.model.specs.Calls.{Effect, refuse, change, orRefuse, createChecks}
 use Rattle.model.specs.Holdings.{Room, named, holdingAt, isHeld, heldVia, isVia, hasBody, liveEntries, copiesInUse, isLive, isInnermost, rangeOk, kindNumbered, newlyHeld, parentHolds, parentSame, writableCells, parentCovers, addChecks, deleteChecks, advanceChecks, commitChecks}
 use Rattle.model.specs.Restore.{restoreChecks, lookChecks}
 use Rattle.store.specs.Outcome.{Buffers}
-use Rattle.store.specs.Checks.{shapeCheck, tableCheck, makeCheck, openCheck, storeCheck}
+use Rattle.store.specs.Checks.{shapeCheck, tableCheck, makeCheck, openCheck, storeCheck, lentOf}
 use Rattle.store.specs.State.{slots}
 use Rattle.demands.specs.Demands.{lengthsRight, headerRight, tableRight, isQuestion}
 
@@ -38,23 +38,23 @@ fine-else zero n f g = g
 fine-else (suc m) n f g = f
 
 module _ (b : Buffers) where
-  shape-fine : Fine (shapeCheck (length (b .memory)) (length (b .bodies)) (b .table))
+  shape-fine : Fine (shapeCheck (lentOf b))
   unfolding shapeCheck
   shape-fine = fine-ask (lengthsRight b) 1 _ refl (fine-ask (headerRight b) 2 0 refl fine-none)
 
-  table-fine : Fine (tableCheck (length (b .memory)) (length (b .bodies)) (b .table))
+  table-fine : Fine (tableCheck (lentOf b))
   unfolding tableCheck
   table-fine = fine-ask (tableRight b) 4 0 refl fine-none
 
-  pub make-fine : Fine (makeCheck (length (b .memory)) (length (b .bodies)) (b .table))
+  pub make-fine : Fine (makeCheck (lentOf b))
   unfolding makeCheck
   make-fine = fine-ask (lengthsRight b) 1 0 refl fine-none
 
-  pub open-fine : Fine (openCheck (length (b .memory)) (length (b .bodies)) (b .table))
+  pub open-fine : Fine (openCheck (lentOf b))
   unfolding openCheck
   open-fine = fine-else _ _ shape-fine table-fine
 
-  pub store-fine : Fine (storeCheck (length (b .memory)) (length (b .bodies)) (b .table))
+  pub store-fine : Fine (storeCheck (lentOf b))
   unfolding storeCheck
   store-fine = fine-else _ _ shape-fine (fine-ask (eqb (pending (b .table)) 0) 3 _ refl table-fine)
 

@@ -18,7 +18,7 @@ use Rattle.model.specs.History.{Request}
 use Rattle.model.specs.Session.{Input, make, call, opening, write, effectOf, memoryAt}
 use Rattle.model.proofs.Told.{Finished}
 use Rattle.store.specs.Outcome.{Buffers, buffers, outcome}
-use Rattle.store.specs.Checks.{openCheck, storeCheck}
+use Rattle.store.specs.Checks.{openCheck, storeCheck, lent}
 use Rattle.store.specs.State.{stateOf, slots}
 use Rattle.store.specs.Calls.{makeCall, openCall}
 use Rattle.store.specs.Means.{roomOf}
@@ -115,7 +115,7 @@ reached b k l e n = list-opens l (madeFrom b k) n (standing-opens (madeFrom b k)
 
 -- ---- questions 1 to 4
 
-ready : (memory bodies : ℕ) (t : List ℕ) → openCheck memory bodies t ≡ 0 → pending t ≡ 0 → storeCheck memory bodies t ≡ 0
+ready : (memory bodies : ℕ) (t : List ℕ) → openCheck (lent memory bodies t) ≡ 0 → pending t ≡ 0 → storeCheck (lent memory bodies t) ≡ 0
 unfolding storeCheck
 ready memory bodies t o idle = rw (open-shape memory bodies t o, eq-eqb (pending t) 0 idle, open-table memory bodies t o)
 

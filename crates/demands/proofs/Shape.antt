@@ -12,7 +12,7 @@ use Rattle.model.specs.History.{Request}
 use Rattle.model.specs.Session.{Input, make, call, opening, write}
 use Rattle.model.proofs.Told.{Answered}
 use Rattle.store.specs.Outcome.{Buffers, buffers, Step, inMemory, inBodies, inTable, step, steps, Outcome, outcome, Call, refuse, perform}
-use Rattle.store.specs.Checks.{openCheck}
+use Rattle.store.specs.Checks.{openCheck, lentOf}
 use Rattle.store.specs.State.{standing}
 use Rattle.demands.specs.Session.{callOn, inputOn}
 use Rattle.demands.proofs.Calls.{facts}
@@ -86,6 +86,6 @@ call-report c k b e =
 
 -- ---- the state that opening finds
 
-pub standing-none : (b : Buffers) (n : ℕ) → openCheck (length (b .memory)) (length (b .bodies)) (b .table) ≡ ℕ.suc n → standing b ≡ none
+pub standing-none : (b : Buffers) (n : ℕ) → openCheck (lentOf b) ≡ ℕ.suc n → standing b ≡ none
 unfolding standing
 standing-none b n e = rw (e, eqb·suc-zero n)

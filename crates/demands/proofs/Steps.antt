@@ -23,7 +23,7 @@ use Rattle.model.specs.History.{Request}
 use Rattle.model.specs.Session.{Input, make, call, opening, write, Due, nothingDue, dropDue, finishDue, World, world, effectOf, memoryAt, viewOf, Move, call-refused, open-refused, written-to}
 use Rattle.model.proofs.Views.{dueAfter, view-moves, make-moves, open-idle-moves, open-drop-moves, open-finish-moves}
 use Rattle.store.specs.Outcome.{Buffers, buffers, Outcome, outcome, Call, refuse as refusing, perform}
-use Rattle.store.specs.Checks.{makeCheck}
+use Rattle.store.specs.Checks.{makeCheck, lentOf}
 use Rattle.store.specs.State.{stateOf, standing, slots}
 use Rattle.store.specs.Calls.{makeCall, openCall}
 use Rattle.store.specs.Means.{makeMeans, openMeans, roomOf}
@@ -154,11 +154,11 @@ call-moves cells c k b f = by-check (λ q. asked b ≡ q → Moves cells (call c
 
 -- ---- make
 
-make-yes : {cells : ℕ} {b : Buffers} {d : Due} → Fits cells b d → makeCheck (length (b .memory)) (length (b .bodies)) (b .table) ≡ 0
+make-yes : {cells : ℕ} {b : Buffers} {d : Due} → Fits cells b d → makeCheck (lentOf b) ≡ 0
 unfolding makeCheck
 make-yes f = rw (f .lengths)
 
-make-seen : (k : ℕ) (b : Buffers) → makeCheck (length (b .memory)) (length (b .bodies)) (b .table) ≡ 0
+make-seen : (k : ℕ) (b : Buffers) → makeCheck (lentOf b) ≡ 0
     → visibleOf (outcome (makeCall b) k b) ≡ makeView (slots b) k (standing b) (b .memory)
 unfolding makeMeans
 make-seen k b e = make-means k b ∙ rw e

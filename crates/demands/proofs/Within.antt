@@ -13,7 +13,7 @@ use Rattle.table.proofs.Entry.{find-none, holds-false}
 use Rattle.model.specs.State.{State}
 use Rattle.model.specs.Session.{Within}
 use Rattle.store.specs.Outcome.{buffers}
-use Rattle.store.specs.Checks.{storeCheck}
+use Rattle.store.specs.Checks.{storeCheck, lent}
 use Rattle.store.specs.State.{heldIn, stateIn, stateOf}
 use Rattle.store.proofs.Means.{store-rule, store-state}
 use Rattle.store.proofs.Domains.{state-holding, state-past, state-zero}
@@ -38,7 +38,7 @@ module _ (m e b : ℕ) (t bodies : List ℕ) (rule : Rule m e b t) where
       (λ l. state-holding e t bodies (suc d) c (omega arith) l ∙ unheld (suc d) c (omega arith) out)
       (λ l. state-past e t bodies (suc d) c l)
 
-pub store-within : (memory bodies t : List ℕ) → storeCheck (length memory) (length bodies) t ≡ 0
+pub store-within : (memory bodies t : List ℕ) → storeCheck (lent (length memory) (length bodies) t) ≡ 0
     → Within (cellsOf (length memory)) (stateOf (buffers memory bodies t))
 store-within memory bodies t passed =
     subst (λ (s : State). Within (cellsOf (length memory)) s) (sym (store-state memory bodies t passed))

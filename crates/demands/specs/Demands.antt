@@ -21,7 +21,7 @@ use Rattle.model.specs.Holdings.{named, isLive, isInnermost, rangeOk}
 use Rattle.model.specs.History.{create, add, delete, advance, commit, list, look, Request, changes, restore, reads, History, Tracked, begun, finished, trackedAt, mismatches, counts, historyAfter}
 use Rattle.model.specs.Session.{Input, make, call, opening, write, effectOf, memoryAfter, viewOf, Mixed, AllZero, Agrees}
 use Rattle.store.specs.Outcome.{Buffers, Step, step, steps, Call, Outcome, outcome, leaves}
-use Rattle.store.specs.Checks.{openCheck, storeCheck}
+use Rattle.store.specs.Checks.{openCheck, storeCheck, lentOf}
 use Rattle.store.specs.State.{StandsFor, slots, effectiveTable, stateOf, standing}
 use Rattle.store.specs.Calls.{makeCall, openCall, openingAfter}
 use Rattle.store.specs.Means.{visibleOf, orRefused, Reopens, makeMeans, openMeans, listMeans, roomOf}
@@ -95,10 +95,10 @@ tableRight b = tableOk (cellsOf (length (b .memory))) (slots b) (bodiesOf (lengt
 
 -- the number of the first no among questions 1 to 4, and among those put to open
 abbrev pub asked : Buffers → ℕ
-asked b = storeCheck (length (b .memory)) (length (b .bodies)) (b .table)
+asked b = storeCheck (lentOf b)
 
 abbrev pub opens : Buffers → ℕ
-opens b = openCheck (length (b .memory)) (length (b .bodies)) (b .table)
+opens b = openCheck (lentOf b)
 
 -- every call, and "a call other than make"
 abbrev pub isCall : Input → Bool

@@ -20,7 +20,7 @@ use Rattle.model.specs.Answer.{done, refused, ask, orElse}
 use Rattle.model.specs.Holdings.{rangeOk}
 use Rattle.model.specs.Restore.{Looked, lookedBy, looked, restoredCell}
 use Rattle.store.specs.Outcome.{Buffers, buffers}
-use Rattle.store.specs.Checks.{storeCheck}
+use Rattle.store.specs.Checks.{storeCheck, lent, lentOf}
 use Rattle.store.specs.State.{stateOf}
 use Rattle.store.proofs.Checks.{ask-yes, ask-rest, orElse-both, store-lengths}
 use Rattle.store.proofs.Means.{by-check}
@@ -62,15 +62,15 @@ asked memory t h c = ask (ltb 0 (depthNamed t h)) 5 (ask (rangeOk (cellsOf memor
 
 -- what passed questions tell
 pub record Accepted (memory bodies : ℕ) (t : List ℕ) (h c : ℕ) : Type 0 where
-  pub store : storeCheck memory bodies t ≡ 0
+  pub store : storeCheck (lent memory bodies t) ≡ 0
   pub live : 1 ≤ depthNamed t h
   pub cell : c < cellsOf memory
 
 module _ (memory bodies : ℕ) (t : List ℕ) (h c : ℕ) where
-  pub check-passed : lookCheck memory bodies t h c ≡ 0 → Accepted memory bodies t h c
+  pub check-passed : lookCheck (lent memory bodies t) h c ≡ 0 → Accepted memory bodies t h c
   unfolding lookCheck
   check-passed q =
-      let both = orElse-both (storeCheck memory bodies t) (asked memory t h c) q in
+      let both = orElse-both (storeCheck (lent memory bodies t)) (asked memory t h c) q in
       let five = ask-yes (ltb 0 (depthNamed t h)) 5 (ask (rangeOk (cellsOf memory) c 1) 8 0) (omega arith) (both .1) in
       let rest = ask-rest (ltb 0 (depthNamed t h)) 5 (ask (rangeOk (cellsOf memory) c 1) 8 0) (omega arith) (both .1) in
       record {
@@ -80,7 +80,7 @@ module _ (memory bodies : ℕ) (t : List ℕ) (h c : ℕ) where
       }
 
 -- a table that passes questions 1 to 4 has room for its slots
-pub store-room : (memory bodies : ℕ) (t : List ℕ) → storeCheck memory bodies t ≡ 0 → (slotsOf (length t) ≤ maxSlots) × (pairsAt (slotsOf (length t)) ≤ length t)
+pub store-room : (memory bodies : ℕ) (t : List ℕ) → storeCheck (lent memory bodies t) ≡ 0 → (slotsOf (length t) ≤ maxSlots) × (pairsAt (slotsOf (length t)) ≤ length t)
 store-room memory bodies t pass =
     let f = store-lengths memory bodies t pass in
     (f .slots-high, omega (arith, f .table-exact))
@@ -103,20 +103,20 @@ place-requires memory bodies t h c slots d p q r =
     (let room = store-room memory bodies t (p .store) in ((room .0, room .1, live-within memory bodies t (p .store)), found-slot memory bodies t h c p))
 
 module _ (h c : ℕ) (b : Buffers) where
-  pub look-refused : (q : ℕ) → q ≡ lookCheck (length (b .memory)) (length (b .bodies)) (b .table) h c → (q ≡ 0 → ⊥) → Refused q ≡ lookPlace h c b
+  pub look-refused : (q : ℕ) → q ≡ lookCheck (lentOf b) h c → (q ≡ 0 → ⊥) → Refused q ≡ lookPlace h c b
   unfolding lookPlace
-  look-refused q e n = go (lookCheck (length (b .memory)) (length (b .bodies)) (b .table) h c) e
+  look-refused q e n = go (lookCheck (lentOf b) h c) e
     where
       go : (r : ℕ) → q ≡ r → Refused q ≡ placedBy r (placeIn (slotsOf (length (b .table))) (b .table) (depthNamed (b .table) h) c)
       go zero z = absurd (n z)
       go (suc r) z = ap Refused z
 
-  pub look-placed : lookCheck (length (b .memory)) (length (b .bodies)) (b .table) h c ≡ 0
+  pub look-placed : lookCheck (lentOf b) h c ≡ 0
       → lookPlace h c b ≡ placeIn (slotsOf (length (b .table))) (b .table) (depthNamed (b .table) h) c
   unfolding lookPlace
   look-placed pass = rw pass
 
-  pub look-found : (slots d : ℕ) (p : Place) → lookCheck (length (b .memory)) (length (b .bodies)) (b .table) h c ≡ 0
+  pub look-found : (slots d : ℕ) (p : Place) → lookCheck (lentOf b) h c ≡ 0
       → slots ≡ slotsOf (length (b .table)) → d ≡ depthNamed (b .table) h → p ≡ placeIn slots (b .table) d c → p ≡ lookPlace h c b
   look-found slots d p pass q r s = s ∙ (λ i. placeIn (q i) (b .table) (r i) c) ∙ sym (look-placed pass)
 
@@ -128,7 +128,7 @@ shown-memory b c part h = λ i. record { report = done 0 0; part = h i }
 shown-bodies : (b : Buffers) (k : ℕ) (part : List ℕ) → cellBytes (b .bodies) k ≡ part → shownAt (Bodies (cellAt k)) b ≡ lookedBy 0 part
 shown-bodies b k part h = λ i. record { report = done 0 0; part = h i }
 
-module _ (memory bodies t : List ℕ) (h c : ℕ) (yes : storeCheck (length memory) (length bodies) t ≡ 0) (live : 1 ≤ depthNamed t h) where
+module _ (memory bodies t : List ℕ) (h c : ℕ) (yes : storeCheck (lent (length memory) (length bodies) t) ≡ 0) (live : 1 ≤ depthNamed t h) where
   abbrev b : Buffers
   b = buffers memory bodies t
 
@@ -159,7 +159,7 @@ look-means h c b =
     let place : Place = placeIn (slotsOf (length (b .table))) (b .table) (depthNamed (b .table) h) c in
     by-check (λ q. shownAt (placedBy (orElse q (asked (length (b .memory)) (b .table) h c)) (placeIn (slotsOf (length (b .table))) (b .table) (depthNamed (b .table) h) c)) b
     ≡ orLookRefused q (looked (cellsOf (length (b .memory))) h c (stateOf b) (b .memory)))
-    (storeCheck (length (b .memory)) (length (b .bodies)) (b .table))
+    (storeCheck (lentOf b))
     (λ n e. refl)
     (λ yes.
     subst (λ (d : ℕ). shownAt (placedBy (asked (length (b .memory)) (b .table) h c) (placeIn (slotsOf (length (b .table))) (b .table) (depthNamed (b .table) h) c)) b
@@ -189,9 +189,9 @@ module _ (h c : ℕ) (b : Buffers) where
 
   pub look-within : placeWithin (lookPlace h c b) b
   unfolding lookPlace
-  look-within = go (lookCheck (length (b .memory)) (length (b .bodies)) (b .table) h c) refl
+  look-within = go (lookCheck (lentOf b) h c) refl
     where
-      go : (q : ℕ) → lookCheck (length (b .memory)) (length (b .bodies)) (b .table) h c ≡ q
+      go : (q : ℕ) → lookCheck (lentOf b) h c ≡ q
           → placeWithin (placedBy q (placeIn (slotsOf (length (b .table))) (b .table) (depthNamed (b .table) h) c)) b
       go zero e = place-within (check-passed (length (b .memory)) (length (b .bodies)) (b .table) h c e)
       go (suc n) e = tt
@@ -215,11 +215,11 @@ pub bodies-within : (b : Buffers) (p : Place) (at : ℕ) → p ≡ Bodies at →
 bodies-within b p at q w = subst (λ (x : Place). placeWithin x b) q w
 
 -- look's answer
-pub answer-refused : (h c q : ℕ) (b : Buffers) → q ≡ lookCheck (length (b .memory)) (length (b .bodies)) (b .table) h c → (q ≡ 0 → ⊥) → refused q ≡ lookMeans h c b .report
+pub answer-refused : (h c q : ℕ) (b : Buffers) → q ≡ lookCheck (lentOf b) h c → (q ≡ 0 → ⊥) → refused q ≡ lookMeans h c b .report
 answer-refused h c q b e n =
     ap placeReport (look-refused h c b q e n) ∙ ap (λ (l : Looked). l .report) (look-means h c b)
 
-pub answer-done : (h c : ℕ) (b : Buffers) → lookCheck (length (b .memory)) (length (b .bodies)) (b .table) h c ≡ 0 → done 0 0 ≡ lookMeans h c b .report
+pub answer-done : (h c : ℕ) (b : Buffers) → lookCheck (lentOf b) h c ≡ 0 → done 0 0 ≡ lookMeans h c b .report
 answer-done h c b pass = shown ∙ ap placeReport (sym (look-placed h c b pass)) ∙ ap (λ (l : Looked). l .report) (look-means h c b)
   where
     shown : done 0 0 ≡ placeReport (placeIn (slotsOf (length (b .table))) (b .table) (depthNamed (b .table) h) c)

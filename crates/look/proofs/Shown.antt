@@ -21,7 +21,7 @@ use Rattle.model.specs.State.{State}
 use Rattle.model.specs.Holdings.{named, isHeld, isLive, rangeOk}
 use Rattle.model.specs.Restore.{Looked, cellOfByte, placeInCell, outermost, restoredCell, restoredByte, restoredMemory}
 use Rattle.store.specs.Outcome.{Buffers}
-use Rattle.store.specs.Checks.{storeCheck}
+use Rattle.store.specs.Checks.{storeCheck, lentOf}
 use Rattle.store.specs.State.{slots, stateOf}
 use Rattle.store.proofs.Checks.{orElse-go, ask-go, store-lengths}
 use Rattle.store.proofs.Raw.{raw-named}
@@ -33,7 +33,7 @@ use Rattle.look.proofs.Placing.{Accepted, check-passed, place-memory, p
 
 -- look's number, of its buffers
 abbrev pub checked : (h c : ℕ) → Buffers → ℕ
-checked h c b = lookCheck (length (b .memory)) (length (b .bodies)) (b .table) h c
+checked h c b = lookCheck (lentOf b) h c
 
 -- ---- the length of the part
 
@@ -110,14 +110,14 @@ module _ (h c : ℕ) (b : Buffers) (pass : checked h c b ≡ 0) where
 
 -- ---- "a part of the lent bodies, or of the lent memory where nobody from that domain inwards holds the cell": which of them, and at which offset
 
-asked-yes : (h c : ℕ) (b : Buffers) → storeCheck (length (b .memory)) (length (b .bodies)) (b .table) ≡ 0 → isLive h (stateOf b) ≡ true
+asked-yes : (h c : ℕ) (b : Buffers) → storeCheck (lentOf b) ≡ 0 → isLive h (stateOf b) ≡ true
     → rangeOk (cellsOf (length (b .memory))) c 1 ≡ true → checked h c b ≡ 0
 unfolding lookCheck
 asked-yes h c b pass live range =
     let five : ltb 0 (depthNamed (b .table) h) ≡ true = ap (ltb 0) (sym (raw-named (b .memory) (b .bodies) (b .table) pass h)) ∙ live in
     orElse-go _ _ pass ∙ ask-go _ _ _ five ∙ ask-go _ _ _ range
 
-pub look-tells : (h c : ℕ) (b : Buffers) → storeCheck (length (b .memory)) (length (b .bodies)) (b .table) ≡ 0 → isLive h (stateOf b) ≡ true
+pub look-tells : (h c : ℕ) (b : Buffers) → storeCheck (lentOf b) ≡ 0 → isLive h (stateOf b) ≡ true
     → rangeOk (cellsOf (length (b .memory))) c 1 ≡ true → lookPlace h c b ≡ placeByState h c b
 look-tells h c b store live range = found ∙ ap place (sym same)
   where

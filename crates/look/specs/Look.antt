@@ -12,15 +12,14 @@ use Rattle.model.specs.Answer.{Report, done, refused, byNumber, orElse}
 use Rattle.model.specs.Holdings.{named, isHeld, askRange}
 use Rattle.model.specs.Restore.{Looked, looked, lookRefused, outermost}
 use Rattle.store.specs.Outcome.{Buffers}
-use Rattle.store.specs.Checks.{storeCheck, askLiveIn}
+use Rattle.store.specs.Checks.{storeCheck, askLiveIn, lentOf, Lent}
 use Rattle.store.specs.State.{slots, stateOf}
 use Rattle.look.specs.declared.Place.{Place}
 use Rattle.look.specs.declared.Place.the-variants.{Refused, Memory, Bodies}
 
 -- questions 1 to 5, and 8 with count 1
-unfoldable pub lookCheck : (memory bodies : ℕ) → List ℕ → (h c : ℕ) → ℕ
-lookCheck memory bodies t h c =
-    orElse (storeCheck memory bodies t) (askLiveIn t h (askRange (cellsOf memory) c 1 0))
+unfoldable pub lookCheck : Lent → (h c : ℕ) → ℕ
+lookCheck l h c = orElse (storeCheck l) (askLiveIn (l .table) h (askRange (cellsOf (l .memory)) c 1 0))
 
 -- "a part of the lent bodies, or of the lent memory where nobody from that domain inwards holds the cell"
 abbrev pub placeShown : (c : ℕ) → Held → Place
@@ -35,7 +34,7 @@ placedBy = byNumber Refused
 
 unfoldable pub lookPlace : (h c : ℕ) → Buffers → Place
 lookPlace h c b =
-    placedBy (lookCheck (length (b .memory)) (length (b .bodies)) (b .table) h c)
+    placedBy (lookCheck (lentOf b) h c)
     (placeIn (slotsOf (length (b .table))) (b .table) (depthNamed (b .table) h) c)
 
 -- a place in document 01's numbers and bytes: the answer, and the 64 bytes at that offset; "when it is refused, the part has length 0"
@@ -64,7 +63,7 @@ orLookRefused = byNumber lookRefused
 
 unfoldable pub lookMeans : (h c : ℕ) → Buffers → Looked
 lookMeans h c b =
-    orLookRefused (storeCheck (length (b .memory)) (length (b .bodies)) (b .table))
+    orLookRefused (storeCheck (lentOf b))
     (looked (cellsOf (length (b .memory))) h c (stateOf b) (b .memory))
 
 -- which buffer, by the state, and which offset: the body at the end of the first holder's chain where a domain from the named one inwards holds the

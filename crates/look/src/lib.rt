@@ -13,6 +13,7 @@ use words::wide;
 ghost use mathlib.Core.Path.{_≡_};
 ghost use Prim.Native.Nat.{_≤_};
 ghost use lib.ListN.{length};
+ghost use Rattle.store.specs.Checks.{lent};
 ghost use Rattle.words.specs.Layout.{pairsAt, maxSlots, maxLive};
 ghost use Rattle.table.specs.Entry.{live};
 ghost use Rattle.search.specs.Search.{HasSource};
@@ -28,7 +29,7 @@ pub enum Place {
 
 // The questions put to look: 0, or the number of the first no.
 fn look_check(memory: usize, bodies: usize, table: &[u32], handle: u32, cell: u32) -> u32
-    ensures { λ r. ⌜ r ≡ lookCheck memory bodies (now (table .entry)) handle cell ⌝ }
+    ensures { λ r. ⌜ r ≡ lookCheck (lent memory bodies (now (table .entry))) handle cell ⌝ }
 {
     let no = plain_check(memory, bodies, table);
     if no != 0 {

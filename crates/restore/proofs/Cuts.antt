@@ -22,7 +22,7 @@ use Rattle.model.specs.Restore as model
 use Rattle.model.specs.Session.{Mixed}
 use Rattle.model.proofs.Views.{all-stored, part-stored}
 use Rattle.store.specs.Outcome.{Buffers, buffers, outcome, perform}
-use Rattle.store.specs.Checks.{storeCheck}
+use Rattle.store.specs.Checks.{storeCheck, lent, lentOf}
 use Rattle.store.specs.State.{stateOf}
 use Rattle.store.proofs.Checks.{orElse-both, orElse-go}
 use Rattle.store.proofs.Outermost.{store-held}
@@ -37,7 +37,7 @@ use Rattle.restore.proofs.Restored.{names, room, whole-cells, new-words
 
 -- ---- a table that passes questions 1 to 4, and a live domain of depth d
 
-module _ (memory bodies t : List ℕ) (yes : storeCheck (length memory) (length bodies) t ≡ 0) (d : ℕ) (low : 1 ≤ d) (high : d ≤ live t) where
+module _ (memory bodies t : List ℕ) (yes : storeCheck (lent (length memory) (length bodies) t) ≡ 0) (d : ℕ) (low : 1 ≤ d) (high : d ≤ live t) where
   abbrev m : ℕ
   m = cellsOf (length memory)
 
@@ -108,21 +108,21 @@ module _ (memory bodies t : List ℕ) (yes : storeCheck (length memory) (length 
 
 -- "Inside a restore, memory may be mixed over the cells to be put back, and nowhere else": each byte is the old one or the new one, those of other
 -- cells are the old ones, and once 64 bytes are stored for each cell to be put back memory is whole
-pub restore-mixed : (h k : ℕ) (b : Buffers) → restoreCheck (length (b .memory)) (length (b .bodies)) (b .table) h ≡ 0
+pub restore-mixed : (h k : ℕ) (b : Buffers) → restoreCheck (lentOf b) h ≡ 0
     → Mixed (b .memory) (restoredMemory (named h (stateOf b)) (stateOf b) (b .memory)) ((outcome (restoreCall h b) k b) .buffers .memory)
     × ((x : ℕ) → isHeld (outermost (named h (stateOf b)) (cellOfByte x) (stateOf b)) ≡ false → getD ((outcome (restoreCall h b) k b) .buffers .memory) x 0 ≡ getD (b .memory) x 0)
     × (64 * cellsPutBack (cellsOf (length (b .memory))) (named h (stateOf b)) (stateOf b) ≤ k
     → (outcome (restoreCall h b) k b) .buffers .memory ≡ restoredMemory (named h (stateOf b)) (stateOf b) (b .memory))
 unfolding restoreCall outcome restoreCheck
 restore-mixed h k b passed =
-    let both = orElse-both (storeCheck (length (b .memory)) (length (b .bodies)) (b .table)) (asked (b .table) h) passed in
+    let both = orElse-both (storeCheck (lentOf b)) (asked (b .table) h) passed in
     let d : ℕ = depthNamed (b .table) h in
     rw (both .0, both .1, raw-named (b .memory) (b .bodies) (b .table) (both .0) h)
     (rw (restore-steps (pairsAt (slotsOf (length (b .table)))) k (restoreBytes (cellsOf (length (b .memory))) (depthNamed (b .table) h) (b .bodies) (b .table)) (restoreWords (depthNamed (b .table) h) (b .table)) (b .memory) (b .bodies) (b .table))
     (put-mixed (b .memory) (b .bodies) (b .table) (both .0) (depthNamed (b .table) h) (asked-low (b .table) h (both .1)) (depth-small (b .table) h) k))
 
 -- the pairs that it leaves pending, at every budget
-pub restore-pending : (h k : ℕ) (b : Buffers) → storeCheck (length (b .memory)) (length (b .bodies)) (b .table) ≡ 0
+pub restore-pending : (h k : ℕ) (b : Buffers) → storeCheck (lentOf b) ≡ 0
     → pending ((outcome (restoreCall h b) k b) .buffers .table) ≡ afterPending (restoreEffect (cellsOf (length (b .memory))) h (stateOf b)) k
 unfolding restoreCall restoreCheck
 restore-pending h k b good =

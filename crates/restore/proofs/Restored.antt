@@ -25,7 +25,7 @@ use Rattle.model.specs.Holdings.{named}
 use Rattle.model.specs.Restore.{restored, cellsPutBack, memoryAfterSteps, restoreView}
 use Rattle.model.specs.Restore as model
 use Rattle.store.specs.Outcome.{Buffers, buffers, outcome, perform, unless}
-use Rattle.store.specs.Checks.{storeCheck}
+use Rattle.store.specs.Checks.{storeCheck, lent, lentOf}
 use Rattle.store.specs.State.{stateIn, stateOf, standing}
 use Rattle.store.specs.Means.{orRefused}
 use Rattle.store.proofs.Checks.{ask-yes, store-lengths}
@@ -45,7 +45,7 @@ standing-memory m m′ b t q = rw q
 
 -- ---- a table that passes questions 1 to 4, and a live domain of depth d
 
-module _ (memory bodies t : List ℕ) (yes : storeCheck (length memory) (length bodies) t ≡ 0) (d : ℕ) (low : 1 ≤ d) (high : d ≤ live t) where
+module _ (memory bodies t : List ℕ) (yes : storeCheck (lent (length memory) (length bodies) t) ≡ 0) (d : ℕ) (low : 1 ≤ d) (high : d ≤ live t) where
   abbrev m : ℕ
   m = cellsOf (length memory)
 
@@ -169,7 +169,7 @@ restore-means h k b =
     by-check (λ q. visibleOf (outcome (unless (orElse q (asked (b .table) h)) (perform (restorePlan (pairsAt (slotsOf (length (b .table))))
     (restoreBytes (cellsOf (length (b .memory))) (depthNamed (b .table) h) (b .bodies) (b .table)) (restoreWords (depthNamed (b .table) h) (b .table))) 0)) k b)
     ≡ orRefused q b (restoreView (cellsOf (length (b .memory))) h k (stateOf b) (b .memory)))
-    (storeCheck (length (b .memory)) (length (b .bodies)) (b .table))
+    (storeCheck (lentOf b))
     (λ n e. refl)
     (λ yes.
     let stands = store-standing (b .memory) (b .bodies) (b .table) yes in

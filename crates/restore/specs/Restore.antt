@@ -15,13 +15,13 @@ use Rattle.search.specs.Domain.{depthNamed}
 use Rattle.model.specs.Answer.{orElse, View}
 use Rattle.model.specs.Restore.{restoreView}
 use Rattle.store.specs.Outcome.{Buffers, Step, inMemory, inTable, Call, perform, unless}
-use Rattle.store.specs.Checks.{storeCheck, askLiveIn}
+use Rattle.store.specs.Checks.{storeCheck, askLiveIn, lentOf, Lent}
 use Rattle.store.specs.State.{stateOf}
 use Rattle.store.specs.Means.{orRefused}
 
 -- questions 1 to 5
-unfoldable pub restoreCheck : (memory bodies : ℕ) → List ℕ → (h : ℕ) → ℕ
-restoreCheck memory bodies t h = orElse (storeCheck memory bodies t) (askLiveIn t h 0)
+unfoldable pub restoreCheck : Lent → (h : ℕ) → ℕ
+restoreCheck l h = orElse (storeCheck l) (askLiveIn (l .table) h 0)
 
 -- "bytes first: 64 for each .. cell put back, rising by cell and byte": each of m cells held at depth d or inside it, from the body behind its
 -- first holder
@@ -49,12 +49,12 @@ restorePlan first bytes words = map inMemory bytes ++ map inTable (journal first
 
 unfoldable pub restoreCall : (h : ℕ) → Buffers → Call
 restoreCall h b =
-    unless (restoreCheck (length (b .memory)) (length (b .bodies)) (b .table) h)
+    unless (restoreCheck (lentOf b) h)
     (perform (restorePlan (pairsAt (slotsOf (length (b .table))))
     (restoreBytes (cellsOf (length (b .memory))) (depthNamed (b .table) h) (b .bodies) (b .table))
     (restoreWords (depthNamed (b .table) h) (b .table))) 0)
 
 unfoldable pub restoreMeans : (h : ℕ) → ℕ → Buffers → View
 restoreMeans h k b =
-    orRefused (storeCheck (length (b .memory)) (length (b .bodies)) (b .table)) b
+    orRefused (storeCheck (lentOf b)) b
     (restoreView (cellsOf (length (b .memory))) h k (stateOf b) (b .memory))

@@ -44,6 +44,7 @@ ghost use mathlib.Core.Path.{_≡_};
 ghost use mathlib.Core.Bool.{true, false};
 ghost use Prim.Native.Nat.{ℕ, _+_, _*_, _≤_, _<_, min};
 ghost use lib.ListN.{length, take, getD};
+ghost use Rattle.store.specs.Checks.{lent};
 ghost use Rattle.words.specs.Layout.{cellAt, cellsOf, bodiesOf, pairsAt, slotsOf, tableWords, maxSlots, maxLive, maxCells, maxBodies, cellSize, groupSize, groupAt};
 ghost use Rattle.words.specs.Stores.{stores, gather};
 ghost use Rattle.words.specs.Cells.{cellPlan};
@@ -69,7 +70,7 @@ fn restore_check(
 ) -> u32
     requires room { ⌜ (min (cellsOf memory) maxCells ≤ length (now seen)) × (length (now used) ≡ maxBodies) ⌝ }
     requires blank { ⌜ Blank (now seen) × Blank (now used) ⌝ }
-    ensures no { λ r. ⌜ r ≡ restoreCheck memory bodies (now (table .entry)) handle ⌝ }
+    ensures no { λ r. ⌜ r ≡ restoreCheck (lent memory bodies (now (table .entry))) handle ⌝ }
     ensures marks { λ r. ⌜ (r ≡ 0 → AllMarked (slotsOf (length (now (table .entry)))) (now (table .entry)) (now (seen .exit)) (now (used .exit))) ⌝ }
 {
     let no = store_check(memory, bodies, table, seen, used);

@@ -11,12 +11,12 @@ use Rattle.words.specs.Journal.{pending}
 use Rattle.words.proofs.Scan.{by-bool, by-le}
 use Rattle.model.specs.Answer.{stepsOf}
 use Rattle.model.specs.Calls.{makeSteps, openSteps}
-use Rattle.store.specs.Checks.{openCheck}
+use Rattle.store.specs.Checks.{openCheck, lent}
 use Rattle.store.proofs.Checks.{open-table, table-pairs}
 use Rattle.table.proofs.Pairs.{pairs-few}
 
 -- "Open needs at most 2E + 11 steps"
-pub open-bound : (memory bodies : ℕ) (t : List ℕ) → openCheck memory bodies t ≡ 0 → openSteps (pending t) ≤ 2 * slotsOf (length t) + 11
+pub open-bound : (memory bodies : ℕ) (t : List ℕ) → openCheck (lent memory bodies t) ≡ 0 → openSteps (pending t) ≤ 2 * slotsOf (length t) + 11
 open-bound memory bodies t h =
     let few = pairs-few (slotsOf (length t)) t (table-pairs memory bodies t (open-table memory bodies t h)) in
     by-le (pending t) 0

@@ -31,7 +31,7 @@ use Rattle.model.specs.State.{State}
 use Rattle.model.specs.Answer.{Report, ended, stepsOf}
 use Rattle.model.specs.Calls.{viewed, change}
 use Rattle.store.specs.Outcome.{buffers, inBodies, inTable, step, steps, outcome, leaves, perform, changePlan}
-use Rattle.store.specs.Checks.{shapeCheck, openCheck, storeCheck}
+use Rattle.store.specs.Checks.{shapeCheck, openCheck, storeCheck, lent}
 use Rattle.store.specs.State.{stateIn, stateOf, standing}
 use Rattle.store.proofs.Checks.{store-shape, store-idle, store-opens}
 use Rattle.store.proofs.Outcome.{steps-inTable}
@@ -114,7 +114,7 @@ copies-spare e t memory wants from to n free =
 
 -- ---- the call at every budget
 
-module _ (memory bodies t : List ℕ) (yes : storeCheck (length memory) (length bodies) t ≡ 0) (bytes ws : List Store)
+module _ (memory bodies t : List ℕ) (yes : storeCheck (lent (length memory) (length bodies) t) ≡ 0) (bytes ws : List Store)
     (spare : Each (Spares (slotsOf (length t)) (take (pairsAt (slotsOf (length t))) t)) bytes)
     (few : length ws ≤ maxPairs (slotsOf (length t))) (names : namesOk (pairsAt (slotsOf (length t))) 0 ws ≡ true)
     (next : Rule (cellsOf (length memory)) (slotsOf (length t)) (bodiesOf (length bodies)) (stores ws (take (pairsAt (slotsOf (length t))) t))) where
@@ -153,13 +153,13 @@ module _ (memory bodies t : List ℕ) (yes : storeCheck (length memory) (length 
 
   -- at every cut the table can be opened, and its effective table is the old one or the new one
   module _ (some-change : 0 < length ws) where
-    shape : shapeCheck (length memory) (length bodies) t ≡ 0
+    shape : shapeCheck (lent (length memory) (length bodies) t) ≡ 0
     shape = store-shape (length memory) (length bodies) t yes
 
     cut-is : (j : ℕ) → worded j ≡ cut (length memory) (length bodies) t ws shape (t-long memory bodies t yes) idle some-change few names right next j
     cut-is j = rw (← journal-some first ws some-change)
 
-    pub worded-opens : (j : ℕ) → openCheck (length memory) (length bodies) (worded j) ≡ 0
+    pub worded-opens : (j : ℕ) → openCheck (lent (length memory) (length bodies) (worded j)) ≡ 0
     worded-opens j = rw (cut-is j) (cut-opens (length memory) (length bodies) t ws shape (t-long memory bodies t yes) idle some-change few names right next j)
 
     pub worded-effective : (j : ℕ) → effective (pairsAt (slotsOf (length t))) (worded j) ≡ cond (ltb (2 * length ws) j) (stores ws (take (pairsAt (slotsOf (length t))) t)) (take (pairsAt (slotsOf (length t))) t)
@@ -177,7 +177,7 @@ module _ (memory bodies t : List ℕ) (yes : storeCheck (length memory) (length 
   stands-none : (k j : ℕ) → length ws ≡ 0 → standing (buffers memory (filled k) (worded j)) ≡ some (stateIn (slotsOf (length t)) (take (pairsAt (slotsOf (length t))) t) (filled k))
   stands-none k j z =
       let same : worded j ≡ t = rw (journal-none first ws z) (sym (stores-none j t)) in
-      let opens : openCheck (length memory) (length (filled k)) t ≡ 0 = rw (same-bytes k) (store-opens (length memory) (length bodies) t yes) in
+      let opens : openCheck (lent (length memory) (length (filled k)) t) ≡ 0 = rw (same-bytes k) (store-opens (length memory) (length bodies) t yes) in
       rw same (stands-open memory (filled k) t opens ∙ rw (store-effective memory bodies t yes))
 
   module _ (h : ℕ) (after : State) (becomes : stateIn (slotsOf (length t)) (stores ws (take (pairsAt (slotsOf (length t))) t)) (stores bytes bodies) ≡ after) where

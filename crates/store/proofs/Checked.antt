@@ -10,11 +10,11 @@ use Rattle.words.specs.Layout.{cellsOf, slotsOf, maxCells}
 use Rattle.words.proofs.Scan.{by-bool}
 use Rattle.table.specs.Entry.{word1}
 use Rattle.table.specs.Marks.{CellsOnce, cellIn}
-use Rattle.store.specs.Checks.{storeCheck}
+use Rattle.store.specs.Checks.{storeCheck, lent}
 use Rattle.store.proofs.Checks.{store-lengths}
 use Rattle.store.proofs.Raw.{check-rule}
 
-module _ (memory bodies : ℕ) (t : List ℕ) (yes : storeCheck memory bodies t ≡ 0) where
+module _ (memory bodies : ℕ) (t : List ℕ) (yes : storeCheck (lent memory bodies t) ≡ 0) where
   -- no depth has a cell twice
   pub checked-once : CellsOnce (slotsOf (length t)) t (slotsOf (length t))
   checked-once i l j k low p q = check-rule memory bodies t yes .apart-from i l j k (λ z. omega (arith, z, low)) (λ z. omega (arith, z, low, p)) .cells p q

@@ -17,7 +17,7 @@ use Rattle.model.specs.State.{State}
 use Rattle.model.specs.Answer.{Report, refused, ended, ask, orElse, view}
 use Rattle.model.specs.Calls.{viewed, change, orRefuse, created, createEffect}
 use Rattle.store.specs.Outcome.{Buffers, buffers, changePlan, outcome, leaves, perform, unless}
-use Rattle.store.specs.Checks.{storeCheck, createCheck}
+use Rattle.store.specs.Checks.{storeCheck, createCheck, lent, lentOf}
 use Rattle.store.specs.State.{stateIn, stateOf}
 use Rattle.store.specs.Calls.{createWords, createCall}
 use Rattle.store.specs.Means.{orRefused, callMeans, createMeans}
@@ -33,7 +33,7 @@ pub create-words : (t : List ℕ) → length (createWords t) ≡ 3
 unfolding createWords
 create-words t = refl
 
-module _ (memory bodies t : List ℕ) (yes : storeCheck (length memory) (length bodies) t ≡ 0) (few : live t < maxLive) where
+module _ (memory bodies t : List ℕ) (yes : storeCheck (lent (length memory) (length bodies) t) ≡ 0) (few : live t < maxLive) where
   abbrev first : ℕ
   first = pairsAt (slotsOf (length t))
 
@@ -81,7 +81,7 @@ create-means k b =
     by-check (λ q. visibleOf (outcome (unless (orElse q (asked (live (b .table)) (nextHandle (b .table))))
     (perform (changePlan (pairsAt (slotsOf (length (b .table)))) [] (createWords (b .table))) (nextHandle (b .table)))) k b)
     ≡ orRefused q b (viewed (createEffect (stateOf b)) k (stateOf b) (b .memory)))
-    (storeCheck (length (b .memory)) (length (b .bodies)) (b .table))
+    (storeCheck (lentOf b))
     (λ n e. refl)
     (λ yes.
     let count = live-count (b .memory) (b .bodies) (b .table) yes in
@@ -98,7 +98,7 @@ create-means k b =
 
 -- ---- the pairs that it leaves pending, at every budget
 
-pub create-pending : (k : ℕ) (b : Buffers) → storeCheck (length (b .memory)) (length (b .bodies)) (b .table) ≡ 0
+pub create-pending : (k : ℕ) (b : Buffers) → storeCheck (lentOf b) ≡ 0
     → pending ((outcome (createCall b) k b) .buffers .table) ≡ afterPending (createEffect (stateOf b)) k
 unfolding createCall createCheck
 create-pending k b good =
@@ -113,11 +113,11 @@ create-pending k b good =
 -- ---- what the code cites
 
 module _ (m b t : List ℕ) (k : ℕ) where
-  pub create-refused : (q : ℕ) → q ≡ createCheck (length m) (length b) t → (q ≡ 0 → ⊥) → leaves (refused q) (buffers m b t) ≡ outcome (createCall (buffers m b t)) k (buffers m b t)
+  pub create-refused : (q : ℕ) → q ≡ createCheck (lent (length m) (length b) t) → (q ≡ 0 → ⊥) → leaves (refused q) (buffers m b t) ≡ outcome (createCall (buffers m b t)) k (buffers m b t)
   unfolding createCall
-  create-refused q e h = refuses q (createCheck (length m) (length b) t) _ k (buffers m b t) e h
+  create-refused q e h = refuses q (createCheck (lent (length m) (length b) t)) _ k (buffers m b t) e h
 
-  pub create-performed : (need h : ℕ) (t′ : List ℕ) (r : Report) → createCheck (length m) (length b) t ≡ 0 → h ≡ nextHandle t
+  pub create-performed : (need h : ℕ) (t′ : List ℕ) (r : Report) → createCheck (lent (length m) (length b) t) ≡ 0 → h ≡ nextHandle t
       → need ≡ length (journal (pairsAt (slotsOf (length t))) (createWords t)) → t′ ≡ stores (take k (journal (pairsAt (slotsOf (length t))) (createWords t))) t → r ≡ ended need h k
       → leaves r (buffers m b t′) ≡ outcome (createCall (buffers m b t)) k (buffers m b t)
   unfolding createCall

@@ -21,7 +21,7 @@ use Rattle.table.specs.Rule.{pairsOk}
 use Rattle.table.proofs.Rule.{Rule}
 use Rattle.table.proofs.Pairs.{pairs-make, pairs-few, pairs-names}
 use Rattle.store.specs.Outcome.{buffers}
-use Rattle.store.specs.Checks.{shapeCheck, openCheck}
+use Rattle.store.specs.Checks.{shapeCheck, openCheck, lent}
 use Rattle.store.specs.State.{stateIn, stateOf, standing}
 use Rattle.store.proofs.Checks.{open-make, open-shape, open-table, table-make, table-pairs, table-rule, shape-kept}
 
@@ -48,28 +48,28 @@ apart-from first i ws n h =
 -- ---- a table that opening accepts, whichever way it came about
 
 -- it stands for the state of its effective table
-pub stands-open : (memory bodies t : List ℕ) → openCheck (length memory) (length bodies) t ≡ 0
+pub stands-open : (memory bodies t : List ℕ) → openCheck (lent (length memory) (length bodies) t) ≡ 0
     → standing (buffers memory bodies t) ≡ some (stateIn (slotsOf (length t)) (effective (pairsAt (slotsOf (length t))) t) bodies)
 unfolding standing stateOf
 stands-open memory bodies t h = rw (eq-eqb _ _ h)
 
 -- accepted: the shape is kept, the pairs are as they should be, and the effective table is right
-module _ (memory bodies : ℕ) (t u : List ℕ) (long : length u ≡ length t) (shape : shapeCheck memory bodies t ≡ 0)
+module _ (memory bodies : ℕ) (t u : List ℕ) (long : length u ≡ length t) (shape : shapeCheck (lent memory bodies t) ≡ 0)
     (kept : (i : ℕ) → nameOk (pairsAt (slotsOf (length t))) i ≡ false → i < pairsAt (slotsOf (length t)) → (i ≡ pendingAt → ⊥) → getD u i 0 ≡ getD t i 0) where
-  pub still-shaped : shapeCheck memory bodies u ≡ 0
+  pub still-shaped : shapeCheck (lent memory bodies u) ≡ 0
   still-shaped =
       shape-kept memory bodies t u long (λ i l. kept i (unnamed (pairsAt (slotsOf (length t))) i l) (omega arith) (λ z. omega arith))
       (kept zeroAt (unnamed-zero (pairsAt (slotsOf (length t)))) (omega arith) (λ z. omega arith)) ∙ shape
 
   pub still-opens : pending u ≤ maxPairs (slotsOf (length t)) → namesOk (pairsAt (slotsOf (length t))) 0 (pairs u (pairsAt (slotsOf (length t))) (pending u)) ≡ true
-      → Rule (cellsOf memory) (slotsOf (length t)) (bodiesOf bodies) (effective (pairsAt (slotsOf (length t))) u) → openCheck memory bodies u ≡ 0
+      → Rule (cellsOf memory) (slotsOf (length t)) (bodiesOf bodies) (effective (pairsAt (slotsOf (length t))) u) → openCheck (lent memory bodies u) ≡ 0
   still-opens few names rule =
       open-make memory bodies u still-shaped
       (table-make memory bodies u (rw long (pairs-make (slotsOf (length t)) u few names)) (rw long rule))
 
 -- ---- a journal of some changes over a table with nothing pending
 
-module _ (memory bodies : ℕ) (t : List ℕ) (ws : List Store) (shape : shapeCheck memory bodies t ≡ 0) (long : length t ≡ tableWords (slotsOf (length t)))
+module _ (memory bodies : ℕ) (t : List ℕ) (ws : List Store) (shape : shapeCheck (lent memory bodies t) ≡ 0) (long : length t ≡ tableWords (slotsOf (length t)))
     (idle : pending t ≡ 0) (some-change : 0 < length ws) (few : length ws ≤ maxPairs (slotsOf (length t)))
     (names : namesOk (pairsAt (slotsOf (length t))) 0 ws ≡ true)
     (right : Rule (cellsOf memory) (slotsOf (length t)) (bodiesOf bodies) (take (pairsAt (slotsOf (length t))) t))
@@ -108,7 +108,7 @@ module _ (memory bodies : ℕ) (t : List ℕ) (ws : List Store) (shape : shapeCh
       (λ l. rw (law.cut-new first ws t front room idle some-change names k l) next)
 
   -- every cut can be opened
-  pub cut-opens : (k : ℕ) → openCheck memory bodies (cut k) ≡ 0
+  pub cut-opens : (k : ℕ) → openCheck (lent memory bodies (cut k)) ≡ 0
   cut-opens k =
       let fewer = law.cut-count first ws t front room idle some-change names k in
       still-opens memory bodies t (cut k) (cut-length k) shape (kept k) (omega arith)
@@ -116,7 +116,7 @@ module _ (memory bodies : ℕ) (t : List ℕ) (ws : List Store) (shape : shapeCh
 
 -- ---- opening a table that opening accepts, stopped at any budget
 
-module _ (memory bodies : ℕ) (t : List ℕ) (long : length t ≡ tableWords (slotsOf (length t))) (opens : openCheck memory bodies t ≡ 0) where
+module _ (memory bodies : ℕ) (t : List ℕ) (long : length t ≡ tableWords (slotsOf (length t))) (opens : openCheck (lent memory bodies t) ≡ 0) where
   abbrev start : ℕ
   start = pairsAt (slotsOf (length t))
 
@@ -143,7 +143,7 @@ module _ (memory bodies : ℕ) (t : List ℕ) (long : length t ≡ tableWords (s
   opening-effective k = law.opening-effective start t before fits named k
 
   -- and is accepted again
-  pub opening-opens : (k : ℕ) → openCheck memory bodies (opening k) ≡ 0
+  pub opening-opens : (k : ℕ) → openCheck (lent memory bodies (opening k)) ≡ 0
   opening-opens k =
       let l = pairs-few (slotsOf (length t)) t pairs-right in
       let fewer = law.opening-count start t before fits named k in
@@ -165,11 +165,11 @@ module _ (memory bodies : ℕ) (t : List ℕ) (long : length t ≡ tableWords (s
 
 -- ---- any number of openings one after the other, each stopped at its own budget
 
-pub openings-open : (memory bodies : ℕ) (ks : List ℕ) (t : List ℕ) → length t ≡ tableWords (slotsOf (length t)) → openCheck memory bodies t ≡ 0
-    → openCheck memory bodies (openings (pairsAt (slotsOf (length t))) ks t) ≡ 0
+pub openings-open : (memory bodies : ℕ) (ks : List ℕ) (t : List ℕ) → length t ≡ tableWords (slotsOf (length t)) → openCheck (lent memory bodies t) ≡ 0
+    → openCheck (lent memory bodies (openings (pairsAt (slotsOf (length t))) ks t)) ≡ 0
 openings-open memory bodies [] t long opens = opens
 openings-open memory bodies (k ∷ ks) t long opens =
     let u : List ℕ = opening memory bodies t long opens k in
     let n : length u ≡ length t = opening-length memory bodies t long opens k in
-    subst (λ (x : ℕ). openCheck memory bodies (openings (pairsAt (slotsOf x)) ks u) ≡ 0) n
+    subst (λ (x : ℕ). openCheck (lent memory bodies (openings (pairsAt (slotsOf x)) ks u)) ≡ 0) n
     (openings-open memory bodies ks u (n ∙ long ∙ ap (λ (x : ℕ). tableWords (slotsOf x)) (sym n)) (opening-opens memory bodies t long opens k))

@@ -17,7 +17,7 @@ use Rattle.model.specs.State.{Domain, State}
 use Rattle.model.specs.Answer.{done}
 use Rattle.model.specs.Calls.{listed, listRefused}
 use Rattle.store.specs.Outcome.{Buffers, buffers}
-use Rattle.store.specs.Checks.{storeCheck}
+use Rattle.store.specs.Checks.{storeCheck, lent, lentOf}
 use Rattle.store.specs.State.{domainIn, stateIn, stateOf}
 use Rattle.store.specs.Means.{orListRefused, listMeans}
 use Rattle.store.proofs.Means.{live-count}
@@ -44,7 +44,7 @@ state-handles : (e : ℕ) (t bodies : List ℕ) → map (λ d. d .handle) (state
 unfolding stateIn
 state-handles e t bodies = map-tabFrom (λ (d : Domain). d .handle) (domainIn e t bodies) 0 (live t)
 
-module _ (memory bodies t : List ℕ) (yes : storeCheck (length memory) (length bodies) t ≡ 0) where
+module _ (memory bodies t : List ℕ) (yes : storeCheck (lent (length memory) (length bodies) t) ≡ 0) where
   few : live t ≤ maxLive
   few = live-within (length memory) (length bodies) t yes
 
@@ -73,9 +73,9 @@ module _ (memory bodies t : List ℕ) (yes : storeCheck (length memory) (length 
       let count : n ≡ length (stateOf (buffers memory bodies t) .domains) = p ∙ sym (live-count memory bodies t yes) in
       rw yes (λ i. record { report = done 0 0; count = count i; handles = (q ∙ handles-listed) i })
 
-pub list-refused : (q : ℕ) (b : Buffers) → q ≡ storeCheck (length (b .memory)) (length (b .bodies)) (b .table) → (q ≡ 0 → ⊥) → listRefused q ≡ listMeans b
+pub list-refused : (q : ℕ) (b : Buffers) → q ≡ storeCheck (lentOf b) → (q ≡ 0 → ⊥) → listRefused q ≡ listMeans b
 unfolding listMeans
-list-refused q b e h = go (storeCheck (length (b .memory)) (length (b .bodies)) (b .table)) e
+list-refused q b e h = go (storeCheck (lentOf b)) e
   where
     go : (n : ℕ) → q ≡ n → listRefused q ≡ orListRefused n (listed (stateOf b))
     go zero z = absurd (h z)

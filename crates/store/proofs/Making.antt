@@ -23,7 +23,7 @@ use Rattle.table.proofs.Head.{handle-make}
 use Rattle.table.proofs.Checks.{header-make, header-none}
 use Rattle.model.specs.Calls.{fresh}
 use Rattle.store.specs.Outcome.{buffers}
-use Rattle.store.specs.Checks.{shapeCheck, openCheck}
+use Rattle.store.specs.Checks.{shapeCheck, openCheck, lent}
 use Rattle.store.specs.State.{stateIn, standing, domainIn}
 use Rattle.store.specs.Calls.{freshWord, makePlan}
 use Rattle.table.specs.Checks.{lengthsOk}
@@ -193,7 +193,7 @@ module _ (memory bodies t : List ℕ) (lengths : lengthsOk (length memory) (leng
   abbrev plan : List Store
   plan = makePlan (cellsOf (length memory)) (slotsOf (length t)) (bodiesOf (length bodies))
 
-  pub make-none : (k : ℕ) → 0 < k → k < pairsAt (slotsOf (length t)) + 1 → openCheck (length memory) (length bodies) (stores (take k plan) t) ≡ 2
+  pub make-none : (k : ℕ) → 0 < k → k < pairsAt (slotsOf (length t)) + 1 → openCheck (lent (length memory) (length bodies) (stores (take k plan) t)) ≡ 2
   unfolding openCheck shapeCheck
   make-none k pos l =
       let gone = make-gone (cellsOf (length memory)) e (bodiesOf (length bodies)) t long k pos l in
@@ -224,7 +224,7 @@ module _ (memory bodies t : List ℕ) (lengths : lengthsOk (length memory) (leng
       }) in
       let eff : effective (pairsAt e) w ≡ take (pairsAt e) w = effective-idle (pairsAt e) w (idle m e b t long) in
       let few : pending w ≤ maxPairs e = rw (idle m e b t long) (omega arith) in
-      let opens : openCheck (length memory) (length bodies) w ≡ 0 =
+      let opens : openCheck (lent (length memory) (length bodies) w) ≡ 0 =
       open-make (length memory) (length bodies) w (shape-make (length memory) (length bodies) w lw header)
       (table-make (length memory) (length bodies) w
       (rw n (pairs-make e w few (names-none (pairsAt e) w (idle m e b t long))))

@@ -22,7 +22,7 @@ use Rattle.model.specs.State.{State}
 use Rattle.model.specs.Answer.{Report, refused, done, ended, view}
 use Rattle.model.specs.Calls.{makeSteps, makeState, openSteps}
 use Rattle.store.specs.Outcome.{Buffers, buffers, inTable, outcome, leaves, perform, unless}
-use Rattle.store.specs.Checks.{makeCheck, openCheck, storeCheck}
+use Rattle.store.specs.Checks.{makeCheck, openCheck, storeCheck, lent, lentOf}
 use Rattle.store.specs.State.{stateIn, stateOf, standing}
 use Rattle.store.specs.Calls.{makePlan, makeCall, openCall}
 pub use Rattle.store.specs.Means.{visibleOf}
@@ -81,7 +81,7 @@ open-length first t =
     (λ l. let z : pending t ≡ 0 = omega arith in rw (open-idle first t z, eq-eqb (pending t) 0 z))
     (λ l. rw (open-pending first (pending t) t refl l, ne-eqb (pending t) 0 (λ z. omega arith), length-applyPlan t first (pending t)))
 
-open-standing : (memory bodies t : List ℕ) (k : ℕ) → openCheck (length memory) (length bodies) t ≡ 0
+open-standing : (memory bodies t : List ℕ) (k : ℕ) → openCheck (lent (length memory) (length bodies) t) ≡ 0
     → standing (buffers memory bodies (stores (take k (openPlan (pairsAt (slotsOf (length t))) t)) t)) ≡ some (stateOf (buffers memory bodies t))
 unfolding stateOf
 open-standing memory bodies t k h =
@@ -94,7 +94,7 @@ unfolding openCall openMeans outcome
 open-means k b =
     by-check (λ q. visibleOf (outcome (unless q (perform (map inTable (openPlan (pairsAt (slotsOf (length (b .table)))) (b .table))) 0)) k b)
     ≡ orRefused q b (view (ended (openSteps (pending (b .table))) 0 k) (some (stateOf b)) (b .memory)))
-    (openCheck (length (b .memory)) (length (b .bodies)) (b .table))
+    (openCheck (lentOf b))
     (λ n e. refl)
     (λ e.
     ap visibleOf (table-after (openPlan (pairsAt (slotsOf (length (b .table)))) (b .table)) 0 k (b .memory) (b .bodies) (b .table))
@@ -106,7 +106,7 @@ state-next : (e : ℕ) (t bodies : List ℕ) → stateIn e t bodies .next ≡ ne
 unfolding stateIn
 state-next e t bodies = refl
 
-module _ (memory bodies t : List ℕ) (yes : storeCheck (length memory) (length bodies) t ≡ 0) where
+module _ (memory bodies t : List ℕ) (yes : storeCheck (lent (length memory) (length bodies) t) ≡ 0) where
   shape-yes : lengthsOk (length memory) (length bodies) (length t) ≡ true
   shape-yes = shape-lengths (length memory) (length bodies) t (store-shape (length memory) (length bodies) t yes)
 
@@ -160,17 +160,17 @@ module _ (m b t : List ℕ) (k : ℕ) where
       (performed (makePlan (cellsOf (length m)) (slotsOf (length t)) (bodiesOf (length b))) 0 (pairsAt (slotsOf (length t)) + 1) k m b t t′ r
       (make-length (cellsOf (length m)) (slotsOf (length t)) (bodiesOf (length b)) t (long (length m) (length b) t yes1)) w′ e′)
 
-  pub open-refused : (q : ℕ) → q ≡ openCheck (length m) (length b) t → (q ≡ 0 → ⊥) → leaves (refused q) (buffers m b t) ≡ outcome (openCall (buffers m b t)) k (buffers m b t)
+  pub open-refused : (q : ℕ) → q ≡ openCheck (lent (length m) (length b) t) → (q ≡ 0 → ⊥) → leaves (refused q) (buffers m b t) ≡ outcome (openCall (buffers m b t)) k (buffers m b t)
   unfolding openCall
-  open-refused q e h = refuses q (openCheck (length m) (length b) t) _ k (buffers m b t) e h
+  open-refused q e h = refuses q (openCheck (lent (length m) (length b) t)) _ k (buffers m b t) e h
 
-  pub open-none : openCheck (length m) (length b) t ≡ 0 → pending t ≡ 0 → leaves (done 0 0) (buffers m b t) ≡ outcome (openCall (buffers m b t)) k (buffers m b t)
+  pub open-none : openCheck (lent (length m) (length b) t) ≡ 0 → pending t ≡ 0 → leaves (done 0 0) (buffers m b t) ≡ outcome (openCall (buffers m b t)) k (buffers m b t)
   unfolding openCall
   open-none yes4 idle =
       rw (yes4, open-idle (pairsAt (slotsOf (length t))) t idle)
       (performed [] 0 0 k m b t t (done 0 0) refl (rw (take-nil {A = Store} k)) (sym (ended-done 0 0 k (omega arith))))
 
-  pub open-performed : (p first : ℕ) (t′ : List ℕ) (r : Report) → openCheck (length m) (length b) t ≡ 0 → p ≡ pending t → (p ≡ 0 → ⊥)
+  pub open-performed : (p first : ℕ) (t′ : List ℕ) (r : Report) → openCheck (lent (length m) (length b) t) ≡ 0 → p ≡ pending t → (p ≡ 0 → ⊥)
       → first ≡ pairsAt (slotsOf (length t)) → t′ ≡ stores (take k (applyPlan t first p)) t → r ≡ ended (p + 1) 0 k
       → leaves r (buffers m b t′) ≡ outcome (openCall (buffers m b t)) k (buffers m b t)
   unfolding openCall

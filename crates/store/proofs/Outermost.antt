@@ -19,7 +19,7 @@ use Rattle.model.specs.Holdings.{holdingAt, isHeld, valueOr}
 use Rattle.model.specs.Restore.{outermost}
 use Rattle.model.proofs.Views.{outermost-search}
 use Rattle.store.specs.Outcome.{buffers}
-use Rattle.store.specs.Checks.{storeCheck}
+use Rattle.store.specs.Checks.{storeCheck, lent}
 use Rattle.store.specs.State.{heldIn, stateIn, stateOf}
 use Rattle.store.proofs.Domains.{domains-count, state-holding, state-past, held-holds}
 use Rattle.store.proofs.Raw.{raw-state}
@@ -73,7 +73,7 @@ module _ (e : ℕ) (t : List ℕ) (d c : ℕ) where
 
 -- ---- of lent buffers that pass questions 1 to 4, by the words of the table as it is lent
 
-module _ (memory bodies t : List ℕ) (yes : storeCheck (length memory) (length bodies) t ≡ 0) (d c : ℕ) (low : 1 ≤ d) where
+module _ (memory bodies t : List ℕ) (yes : storeCheck (lent (length memory) (length bodies) t) ≡ 0) (d c : ℕ) (low : 1 ≤ d) where
   pub store-held : isHeld (outermost d c (stateOf (buffers memory bodies t))) ≡ heldFrom (slotsOf (length t)) t d c
   store-held = ap (λ (s : State). isHeld (outermost d c s)) (raw-state memory bodies t yes) ∙ outermost-held (slotsOf (length t)) t d c bodies low
 

@@ -21,7 +21,7 @@ use Rattle.table.specs.Checks.{lengthsOk}
 use Rattle.model.specs.Answer.{stepsOf}
 use Rattle.model.specs.Calls.{Effect, orRefuse, makeSteps, openSteps}
 use Rattle.store.specs.Outcome.{Buffers, buffers, Call, perform, unless, changePlan, outcome}
-use Rattle.store.specs.Checks.{makeCheck, openCheck, storeCheck}
+use Rattle.store.specs.Checks.{makeCheck, openCheck, storeCheck, lent, lentOf}
 use Rattle.store.specs.Calls.{makePlan, makeCall, openCall}
 pub use Rattle.store.specs.Means.{leftPending, pendingAfter, afterPending}
 use Rattle.store.proofs.Checks.{open-shape, shape-lengths, store-idle, store-shape}
@@ -35,7 +35,7 @@ none-pending : (c : Bool) (w : ℕ) → w ≡ 0 → cond c w 0 ≡ 0
 none-pending true w z = z
 none-pending false w z = refl
 
-module _ (memory bodies : ℕ) (t : List ℕ) (yes : storeCheck memory bodies t ≡ 0) (bytes ws : List Store)
+module _ (memory bodies : ℕ) (t : List ℕ) (yes : storeCheck (lent memory bodies t) ≡ 0) (bytes ws : List Store)
     (few : length ws ≤ maxPairs (slotsOf (length t))) (names : namesOk (pairsAt (slotsOf (length t))) 0 ws ≡ true) where
   abbrev first : ℕ
   first = pairsAt (slotsOf (length t))
@@ -80,7 +80,7 @@ module _ (memory bodies : ℕ) (t : List ℕ) (yes : storeCheck memory bodies t 
 -- ---- a changing call
 
 -- once no question refuses it, by its stores
-pub performed-pending : (memory bodies t : List ℕ) → storeCheck (length memory) (length bodies) t ≡ 0 → (bytes ws : List Store)
+pub performed-pending : (memory bodies t : List ℕ) → storeCheck (lent (length memory) (length bodies) t) ≡ 0 → (bytes ws : List Store)
     → length ws ≤ maxPairs (slotsOf (length t)) → namesOk (pairsAt (slotsOf (length t))) 0 ws ≡ true → (h k : ℕ)
     → leftPending (outcome (perform (changePlan (pairsAt (slotsOf (length t))) bytes ws) h) k (buffers memory bodies t))
     ≡ pendingAfter (length bytes) (length ws) k
@@ -90,7 +90,7 @@ performed-pending memory bodies t good bytes ws few names h k =
     ∙ change-pending (length memory) (length bodies) t good bytes ws few names k
 
 -- by its questions, on the words and on the state
-pub call-pending : (k : ℕ) (b : Buffers) → storeCheck (length (b .memory)) (length (b .bodies)) (b .table) ≡ 0 → (q r : ℕ) (c : Call) (f : Effect)
+pub call-pending : (k : ℕ) (b : Buffers) → storeCheck (lentOf b) ≡ 0 → (q r : ℕ) (c : Call) (f : Effect)
     → q ≡ r → (q ≡ 0 → leftPending (outcome c k b) ≡ afterPending f k) → leftPending (outcome (unless q c) k b) ≡ afterPending (orRefuse r f) k
 unfolding outcome
 call-pending k b good q r c f same go =
@@ -112,7 +112,7 @@ make-pending k b good enough =
     ∙ make-idle (b .memory) (b .bodies) (b .table) good (long (length (b .memory)) (length (b .bodies)) (b .table) good) k enough)
 
 -- an opening leaves nothing pending where it is done, and else as many pairs as there were
-pub open-pending-after : (k : ℕ) (b : Buffers) → openCheck (length (b .memory)) (length (b .bodies)) (b .table) ≡ 0
+pub open-pending-after : (k : ℕ) (b : Buffers) → openCheck (lentOf b) ≡ 0
     → leftPending (outcome (openCall b) k b) ≡ cond (leb (openSteps (pending (b .table))) k) 0 (pending (b .table))
 unfolding openCall
 open-pending-after k b good =

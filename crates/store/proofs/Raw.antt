@@ -20,7 +20,7 @@ use Rattle.search.specs.Domain.{depthNamed}
 use Rattle.search.proofs.Value.{Copy}
 use Rattle.model.specs.Holdings.{named}
 use Rattle.store.specs.Outcome.{buffers}
-use Rattle.store.specs.Checks.{storeCheck}
+use Rattle.store.specs.Checks.{storeCheck, lent}
 use Rattle.store.specs.State.{stateIn, stateOf}
 use Rattle.store.proofs.Checks.{store-idle, store-table, table-rule}
 use Rattle.store.proofs.Domains.{state-named}
@@ -57,7 +57,7 @@ front-copy e t i c =
 pub front-second : (e : ℕ) (t : List ℕ) (i : ℕ) → i < e → word2 e (take (pairsAt e) t) i ≡ word2 e t i
 front-second e t i l = getD-take (pairsAt e) t (secondAt e i) 0 (omega arith)
 
-pub check-rule : (memory bodies : ℕ) (t : List ℕ) → storeCheck memory bodies t ≡ 0 → Rule (cellsOf memory) (slotsOf (length t)) (bodiesOf bodies) t
+pub check-rule : (memory bodies : ℕ) (t : List ℕ) → storeCheck (lent memory bodies t) ≡ 0 → Rule (cellsOf memory) (slotsOf (length t)) (bodiesOf bodies) t
 check-rule memory bodies t pass =
     rule-front (cellsOf memory) (slotsOf (length t)) (bodiesOf bodies) t
     (subst (λ (l : List ℕ). Rule (cellsOf memory) (slotsOf (length t)) (bodiesOf bodies) l)
@@ -65,10 +65,10 @@ check-rule memory bodies t pass =
     (table-rule memory bodies t (store-table memory bodies t pass)))
 
 -- there are at most eight live domains
-pub live-within : (memory bodies : ℕ) (t : List ℕ) → storeCheck memory bodies t ≡ 0 → live t ≤ maxLive
+pub live-within : (memory bodies : ℕ) (t : List ℕ) → storeCheck (lent memory bodies t) ≡ 0 → live t ≤ maxLive
 live-within memory bodies t pass = check-rule memory bodies t pass .live
 
-module _ (memory bodies t : List ℕ) (yes : storeCheck (length memory) (length bodies) t ≡ 0) where
+module _ (memory bodies t : List ℕ) (yes : storeCheck (lent (length memory) (length bodies) t) ≡ 0) where
   pub raw-rule : Rule (cellsOf (length memory)) (slotsOf (length t)) (bodiesOf (length bodies)) t
   raw-rule = check-rule (length memory) (length bodies) t yes
 

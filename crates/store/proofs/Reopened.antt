@@ -23,7 +23,7 @@ use Rattle.table.proofs.Pairs.{pairs-few, pairs-names}
 use Rattle.model.specs.Answer.{isDone, done, ended, stepsOf}
 use Rattle.model.proofs.Told.{Finished}
 use Rattle.store.specs.Outcome.{Buffers, buffers, Call, perform, unless, changePlan, Outcome, outcome, leaves}
-use Rattle.store.specs.Checks.{openCheck, storeCheck}
+use Rattle.store.specs.Checks.{openCheck, storeCheck, lentOf}
 use Rattle.store.specs.State.{slots}
 use Rattle.store.specs.Calls.{openCall, afterOpenings, openingAfter}
 use Rattle.store.specs.Means.{Reopens}
@@ -42,7 +42,7 @@ done-enough n h k e = by-le n k (λ l. l) (λ l. let s = rw (lt-leb n k l) at e 
 -- ---- openings of a table that can be opened
 
 -- what an opening leaves: the first stores of its plan made
-opened-at : (k : ℕ) (b : Buffers) → openCheck (length (b .memory)) (length (b .bodies)) (b .table) ≡ 0 → outcome (openCall b) k b
+opened-at : (k : ℕ) (b : Buffers) → openCheck (lentOf b) ≡ 0 → outcome (openCall b) k b
     ≡ leaves (ended (length (openPlan (pairsAt (slots b)) (b .table))) 0 k) (buffers (b .memory) (b .bodies) (stores (take k (openPlan (pairsAt (slots b)) (b .table))) (b .table)))
 unfolding openCall
 opened-at k b fine = rw fine (table-after (openPlan (pairsAt (slots b)) (b .table)) 0 k (b .memory) (b .bodies) (b .table))
@@ -114,7 +114,7 @@ changes-shaped b bytes ws h = record {
 
 -- ---- the argument
 
-module _ (c : Call) (b : Buffers) (s : Shaped c b) (good : storeCheck (length (b .memory)) (length (b .bodies)) (b .table) ≡ 0)
+module _ (c : Call) (b : Buffers) (s : Shaped c b) (good : storeCheck (lentOf b) ≡ 0)
     (every : (k : ℕ) → Opens ((outcome c k b) .buffers)) where
   abbrev first : ℕ
   first = pairsAt (slotsOf (length (b .table)))
@@ -252,7 +252,7 @@ module _ (c : Call) (b : Buffers) (s : Shaped c b) (good : storeCheck (length (b
   }
 
 -- a call that is refused leaves nothing pending
-pub unless-reopens : (b : Buffers) → storeCheck (length (b .memory)) (length (b .bodies)) (b .table) ≡ 0 → (q : ℕ) (c : Call) → (q ≡ 0 → Reopens c b) → Reopens (unless q c) b
+pub unless-reopens : (b : Buffers) → storeCheck (lentOf b) ≡ 0 → (q : ℕ) (c : Call) → (q ≡ 0 → Reopens c b) → Reopens (unless q c) b
 unfolding outcome
 unless-reopens b good q c go =
     let idle = store-idle (length (b .memory)) (length (b .bodies)) (b .table) good in

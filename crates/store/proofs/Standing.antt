@@ -14,7 +14,7 @@ use Rattle.table.proofs.Rule.{Rule}
 use Rattle.search.proofs.Value.{Copy}
 use Rattle.model.specs.State.{State}
 use Rattle.store.specs.Outcome.{Buffers, buffers}
-use Rattle.store.specs.Checks.{openCheck}
+use Rattle.store.specs.Checks.{openCheck, lentOf}
 use Rattle.store.specs.State.{StandsFor, stateIn, stateOf, standing, slots, effectiveTable}
 use Rattle.store.proofs.Checks.{open-table, table-rule}
 use Rattle.store.proofs.State.{stands, only, state-kept}
@@ -23,7 +23,7 @@ use Rattle.store.proofs.Cuts.{stands-open}
 -- ---- exactly one state
 
 abbrev pub Opens : Buffers → Type 0
-Opens b = openCheck (length (b .memory)) (length (b .bodies)) (b .table) ≡ 0
+Opens b = openCheck (lentOf b) ≡ 0
 
 abbrev pub None : Option State → Type 0
 None none = Unit {0}
@@ -33,8 +33,8 @@ None (some s) = ⊥
 pub standing-opens : (b : Buffers) (s : State) → standing b ≡ some s → Opens b
 unfolding standing
 standing-opens b s e =
-    by-bool (eqb (openCheck (length (b .memory)) (length (b .bodies)) (b .table)) 0)
-    (λ t. eqb-true (openCheck (length (b .memory)) (length (b .bodies)) (b .table)) 0 t)
+    by-bool (eqb (openCheck (lentOf b)) 0)
+    (λ t. eqb-true (openCheck (lentOf b)) 0 t)
     (λ t. let f = rw t at e in absurd (subst None f tt))
 
 module _ (b : Buffers) (opens : Opens b) where

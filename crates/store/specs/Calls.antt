@@ -9,7 +9,7 @@ use Rattle.words.specs.Stores.{Store, _≔_, tab}
 use Rattle.words.specs.Journal.{openPlan}
 use Rattle.table.specs.Entry.{live, nextHandle}
 use Rattle.store.specs.Outcome.{Buffers, inTable, changePlan, Call, perform, unless, Outcome, outcome}
-use Rattle.store.specs.Checks.{makeCheck, openCheck, createCheck}
+use Rattle.store.specs.Checks.{makeCheck, openCheck, createCheck, lentOf}
 
 -- ---- make: word 0 cleared, the words from 1 to the last in front of the pairs once each, rising, then word 0
 
@@ -22,14 +22,14 @@ makePlan m e b = (magicAt ≔ 0) ∷ (tab (lastAt e) (λ j. j + 1 ≔ freshWord 
 
 unfoldable pub makeCall : Buffers → Call
 makeCall b =
-    unless (makeCheck (length (b .memory)) (length (b .bodies)) (b .table))
+    unless (makeCheck (lentOf b))
     (perform (map inTable (makePlan (cellsOf (length (b .memory))) (slotsOf (length (b .table))) (bodiesOf (length (b .bodies))))) 0)
 
 -- ---- open: the pending pairs, then word 6
 
 unfoldable pub openCall : Buffers → Call
 openCall b =
-    unless (openCheck (length (b .memory)) (length (b .bodies)) (b .table))
+    unless (openCheck (lentOf b))
     (perform (map inTable (openPlan (pairsAt (slotsOf (length (b .table)))) (b .table))) 0)
 
 -- openings one after the other, each with its own budget, and one more after them
@@ -50,5 +50,5 @@ createWords t = domainWords (live t) (nextHandle t)
 
 unfoldable pub createCall : Buffers → Call
 createCall b =
-    unless (createCheck (length (b .memory)) (length (b .bodies)) (b .table))
+    unless (createCheck (lentOf b))
     (perform (changePlan (pairsAt (slotsOf (length (b .table)))) [] (createWords (b .table))) (nextHandle (b .table)))

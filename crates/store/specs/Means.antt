@@ -12,7 +12,7 @@ use Rattle.model.specs.Answer.{isDone, Report, done, refused, byNumber, View, v
 use Rattle.model.specs.Holdings.{Room}
 use Rattle.model.specs.Calls.{Effect, refuse, change, viewed, makeView, openView, createEffect, Listed, listed, listRefused}
 use Rattle.store.specs.Outcome.{Buffers, report, Call, Outcome, leaves, outcome}
-use Rattle.store.specs.Checks.{makeCheck, openCheck, storeCheck}
+use Rattle.store.specs.Checks.{makeCheck, openCheck, storeCheck, lentOf}
 use Rattle.store.specs.State.{stateOf, standing, slots}
 use Rattle.store.specs.Calls.{openingAfter}
 use Rattle.store.specs.declared.Listing.{Listing}
@@ -34,18 +34,18 @@ orRefused q b v = byNumber (λ n. visible (refused n) b) q v
 
 unfoldable pub makeMeans : ℕ → Buffers → View
 makeMeans k b =
-    orRefused (makeCheck (length (b .memory)) (length (b .bodies)) (b .table)) b
+    orRefused (makeCheck (lentOf b)) b
     (makeView (slots b) k (standing b) (b .memory))
 
 unfoldable pub openMeans : ℕ → Buffers → View
 openMeans k b =
-    orRefused (openCheck (length (b .memory)) (length (b .bodies)) (b .table)) b
+    orRefused (openCheck (lentOf b)) b
     (openView (pending (b .table)) k (stateOf b) (b .memory))
 
 -- a changing call, put questions 1 to 4 on the buffers and the others on the state
 unfoldable pub callMeans : (State → Effect) → ℕ → Buffers → View
 callMeans effect k b =
-    orRefused (storeCheck (length (b .memory)) (length (b .bodies)) (b .table)) b
+    orRefused (storeCheck (lentOf b)) b
     (viewed (effect (stateOf b)) k (stateOf b) (b .memory))
 
 abbrev pub createMeans : ℕ → Buffers → View
@@ -84,7 +84,7 @@ abbrev pub orListRefused : ℕ → Listed → Listed
 orListRefused = byNumber listRefused
 
 unfoldable pub listMeans : Buffers → Listed
-listMeans b = orListRefused (storeCheck (length (b .memory)) (length (b .bodies)) (b .table)) (listed (stateOf b))
+listMeans b = orListRefused (storeCheck (lentOf b)) (listed (stateOf b))
 
 -- ---- m, E and B, by the lengths
 

@@ -14,7 +14,7 @@ use Rattle.table.specs.Entry.{live, nextHandle, handle, word1, word2, writableO
 use Rattle.search.specs.Search.{valueIn}
 use Rattle.model.specs.State.{Label, readOnly, readWrite, Kind, copy, viaParent, Holding, Domain, State}
 use Rattle.store.specs.Outcome.{Buffers}
-use Rattle.store.specs.Checks.{openCheck}
+use Rattle.store.specs.Checks.{openCheck, lentOf}
 
 -- the label and the kind that an entry's first word tells
 abbrev pub labelOf : ℕ → Label
@@ -78,4 +78,4 @@ stateOf b = stateIn (slots b) (effectiveTable b) (b .bodies)
 
 -- the state that opening finds: none where it refuses the table
 unfoldable pub standing : Buffers → Option State
-standing b = cond (eqb (openCheck (length (b .memory)) (length (b .bodies)) (b .table)) 0) (some (stateOf b)) none
+standing b = cond (eqb (openCheck (lentOf b)) 0) (some (stateOf b)) none

@@ -45,7 +45,7 @@ ghost use Rattle.changes.specs.Staged.{HeadOk, headStores, Journaled};
 ghost use Rattle.model.specs.Answer.{ended};
 ghost use Rattle.model.specs.Holdings.{rangeOk};
 ghost use Rattle.store.specs.Outcome.{buffers, report, Makes};
-ghost use Rattle.store.specs.Checks.{shapeCheck, tableCheck, openCheck, idleCheck, storeCheck, askInnermostIn, createCheck};
+ghost use Rattle.store.specs.Checks.{shapeCheck, tableCheck, openCheck, idleCheck, storeCheck, askInnermostIn, createCheck, lent};
 ghost use Rattle.store.specs.Calls.{freshWord, makePlan, makeCall, openCall, domainWords, createWords, createCall};
 ghost use Rattle.store.specs.Means.{makeMeans, openMeans, createMeans, listing, listMeans, Shows};
 
@@ -68,7 +68,7 @@ pub struct Listing {
 
 // Questions 1 and 2.
 fn shape_check(memory: usize, bodies: usize, table: &[u32]) -> u32
-    ensures { λ r. ⌜ r ≡ shapeCheck memory bodies (now (table .entry)) ⌝ }
+    ensures { λ r. ⌜ r ≡ shapeCheck (lent memory bodies (now (table .entry))) ⌝ }
 {
     if !lengths_ok(memory, bodies, table.len()) {
         return 1;
@@ -81,9 +81,9 @@ fn shape_check(memory: usize, bodies: usize, table: &[u32]) -> u32
 
 // Question 4, of a table whose length is allowed. The marks that it makes in what it is lent stay there for the caller.
 fn table_check(memory: usize, bodies: usize, table: &[u32], seen: &mut [u8], used: &mut [u8]) -> u32
-    requires { ⌜ (shapeCheck memory bodies (now table) ≡ 0) × (min (cellsOf memory) maxCells ≤ length (now seen)) × (length (now used) ≡ maxBodies) ⌝ }
+    requires { ⌜ (shapeCheck (lent memory bodies (now table)) ≡ 0) × (min (cellsOf memory) maxCells ≤ length (now seen)) × (length (now used) ≡ maxBodies) ⌝ }
     requires { ⌜ Blank (now seen) × Blank (now used) ⌝ }
-    ensures { λ r. ⌜ r ≡ tableCheck memory bodies (now (table .entry)) ⌝ }
+    ensures { λ r. ⌜ r ≡ tableCheck (lent memory bodies (now (table .entry))) ⌝ }
     ensures marks { λ r. ⌜ (r ≡ 0 → pending (now (table .entry)) ≡ 0 → AllMarked (slotsOf (length (now (table .entry)))) (now (table .entry)) (now (seen .exit)) (now (used .exit))) ⌝ }
 {
     let right = table_ok(
@@ -101,7 +101,7 @@ fn table_check(memory: usize, bodies: usize, table: &[u32], seen: &mut [u8], use
 fn open_marked(memory: usize, bodies: usize, table: &[u32], seen: &mut [u8], used: &mut [u8]) -> u32
     requires room { ⌜ (min (cellsOf memory) maxCells ≤ length (now seen)) × (length (now used) ≡ maxBodies) ⌝ }
     requires blank { ⌜ Blank (now seen) × Blank (now used) ⌝ }
-    ensures { λ r. ⌜ r ≡ openCheck memory bodies (now (table .entry)) ⌝ }
+    ensures { λ r. ⌜ r ≡ openCheck (lent memory bodies (now (table .entry))) ⌝ }
 {
     let no = shape_check(memory, bodies, table);
     if no != 0 {
@@ -112,7 +112,7 @@ fn open_marked(memory: usize, bodies: usize, table: &[u32], seen: &mut [u8], use
 
 // Questions 1 to 3.
 fn idle_check(memory: usize, bodies: usize, table: &[u32]) -> u32
-    ensures { λ r. ⌜ r ≡ idleCheck memory bodies (now (table .entry)) ⌝ }
+    ensures { λ r. ⌜ r ≡ idleCheck (lent memory bodies (now (table .entry))) ⌝ }
 {
     let no = shape_check(memory, bodies, table);
     if no != 0 {
@@ -135,7 +135,7 @@ pub fn store_check(
 ) -> u32
     requires room { ⌜ (min (cellsOf memory) maxCells ≤ length (now seen)) × (length (now used) ≡ maxBodies) ⌝ }
     requires blank { ⌜ Blank (now seen) × Blank (now used) ⌝ }
-    ensures no { λ r. ⌜ r ≡ storeCheck memory bodies (now (table .entry)) ⌝ }
+    ensures no { λ r. ⌜ r ≡ storeCheck (lent memory bodies (now (table .entry))) ⌝ }
     ensures marks { λ r. ⌜ (r ≡ 0 → AllMarked (slotsOf (length (now (table .entry)))) (now (table .entry)) (now (seen .exit)) (now (used .exit))) ⌝ }
 {
     let no = idle_check(memory, bodies, table);
@@ -149,7 +149,7 @@ pub fn store_check(
 // the frame is made where the function begins: behind a question, the compiler made it over a register in use.
 fn ask_few(memory: usize, bodies: usize, table: &[u32], opening: bool) -> u32
     requires { ⌜ cellsOf memory ≤ 1024 ⌝ }
-    ensures { λ r. ⌜ r ≡ cond opening (openCheck memory bodies (now (table .entry))) (storeCheck memory bodies (now (table .entry))) ⌝ }
+    ensures { λ r. ⌜ r ≡ cond opening (openCheck (lent memory bodies (now (table .entry)))) (storeCheck (lent memory bodies (now (table .entry)))) ⌝ }
 {
     let mut seen = few_marks();
     let mut used = no_bodies();
@@ -161,7 +161,7 @@ fn ask_few(memory: usize, bodies: usize, table: &[u32], opening: bool) -> u32
 
 // And for any memory.
 fn ask_many(memory: usize, bodies: usize, table: &[u32], opening: bool) -> u32
-    ensures { λ r. ⌜ r ≡ cond opening (openCheck memory bodies (now (table .entry))) (storeCheck memory bodies (now (table .entry))) ⌝ }
+    ensures { λ r. ⌜ r ≡ cond opening (openCheck (lent memory bodies (now (table .entry)))) (storeCheck (lent memory bodies (now (table .entry)))) ⌝ }
 {
     let mut seen = many_marks();
     let mut used = no_bodies();
@@ -172,7 +172,7 @@ fn ask_many(memory: usize, bodies: usize, table: &[u32], opening: bool) -> u32
 }
 
 fn ask_plain(memory: usize, bodies: usize, table: &[u32], opening: bool) -> u32
-    ensures { λ r. ⌜ r ≡ cond opening (openCheck memory bodies (now (table .entry))) (storeCheck memory bodies (now (table .entry))) ⌝ }
+    ensures { λ r. ⌜ r ≡ cond opening (openCheck (lent memory bodies (now (table .entry)))) (storeCheck (lent memory bodies (now (table .entry)))) ⌝ }
 {
     if cells_of(memory) <= FEW_CELLS {
         return ask_few(memory, bodies, table, opening);
@@ -182,14 +182,14 @@ fn ask_plain(memory: usize, bodies: usize, table: &[u32], opening: bool) -> u32
 
 // The questions put to open.
 fn open_check(memory: usize, bodies: usize, table: &[u32]) -> u32
-    ensures { λ r. ⌜ r ≡ openCheck memory bodies (now (table .entry)) ⌝ }
+    ensures { λ r. ⌜ r ≡ openCheck (lent memory bodies (now (table .entry))) ⌝ }
 {
     ask_plain(memory, bodies, table, true)
 }
 
 // Those put to a call that needs no marks.
 pub fn plain_check(memory: usize, bodies: usize, table: &[u32]) -> u32
-    ensures { λ r. ⌜ r ≡ storeCheck memory bodies (now (table .entry)) ⌝ }
+    ensures { λ r. ⌜ r ≡ storeCheck (lent memory bodies (now (table .entry))) ⌝ }
 {
     ask_plain(memory, bodies, table, false)
 }
@@ -221,7 +221,7 @@ pub fn range_ok(cells: usize, first: usize, count: usize) -> bool
 
 // The questions put to create.
 fn create_check(memory: usize, bodies: usize, table: &[u32]) -> u32
-    ensures { λ r. ⌜ r ≡ createCheck memory bodies (now (table .entry)) ⌝ }
+    ensures { λ r. ⌜ r ≡ createCheck (lent memory bodies (now (table .entry))) ⌝ }
 {
     let no = plain_check(memory, bodies, table);
     if no != 0 {
