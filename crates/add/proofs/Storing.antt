@@ -27,7 +27,7 @@ use Rattle.store.proofs.Raw.{raw-rule}
 use Rattle.store.proofs.Checks.{store-lengths}
 use Rattle.add.specs.Add.{isNew, raiseChange, cellFor, changeWith, slotFor, bodyFor, addWords}
 use Rattle.add.specs.declared.Range.{Range}
-use Rattle.add.specs.Walking.{unheld, newIn, NoneBelow, copyBytes, listChange, Walkable, Stageable, rangeWords, Ready, bytesOf, wordsOf}
+use Rattle.add.specs.Walking.{unheld, newIn, NoneBelow, copyBytes, listChange, Walkable, Stageable, rangeWords, Ready, bytesOfRange, wordsOf}
 use Rattle.add.proofs.Asking.{held-new, count-held}
 use Rattle.add.proofs.Walks.{bytes-are}
 use Rattle.add.proofs.Chosen.{slots-enough, places-enough}
@@ -99,7 +99,7 @@ module _ (memory bodies t : List ℕ) (range : Range) (r : Ready memory bodies t
         bodies = none;
       }
 
-  bytes-same : copyBytes (bodiesOf (length bodies)) memory held used (live t) (range .first) (range .count) (range .kind) ≡ bytesOf memory bodies t range
+  bytes-same : copyBytes (bodiesOf (length bodies)) memory held used (live t) (range .first) (range .count) (range .kind) ≡ bytesOfRange memory bodies t range
   bytes-same = bytes-are held used (bodiesOf (length bodies)) t range new-is free-is memory
 
   -- the r-th free slot takes the r-th new cell, and the r-th body without a mark
@@ -135,7 +135,7 @@ module _ (memory bodies t : List ℕ) (range : Range) (r : Ready memory bodies t
 
   pub stored-bytes : (budget : ℕ) (b′ : List ℕ)
       → b′ ≡ stores (take budget (copyBytes (bodiesOf (length bodies)) memory held used (live t) (range .first) (range .count) (range .kind))) bodies
-      → b′ ≡ stores (take budget (bytesOf memory bodies t range)) bodies
+      → b′ ≡ stores (take budget (bytesOfRange memory bodies t range)) bodies
   stored-bytes budget b′ q = q ∙ rw bytes-same
 
   -- of the words, behind so many bytes
@@ -143,8 +143,8 @@ module _ (memory bodies t : List ℕ) (range : Range) (r : Ready memory bodies t
       (left steps : ℕ) (t′ : List ℕ)
       (j : Journaled (slotsOf (length t)) (rangeWords held used (slotsOf (length t)) (bodiesOf (length bodies)) t range) left t steps t′) where
     pub stored-words : (budget : ℕ) → left ≡ budget - made
-        → t′ ≡ stores (take (budget - length (bytesOf memory bodies t range)) (journal (pairsAt (slotsOf (length t))) (wordsOf bodies t range))) t
+        → t′ ≡ stores (take (budget - length (bytesOfRange memory bodies t range)) (journal (pairsAt (slotsOf (length t))) (wordsOf bodies t range))) t
     stored-words budget s = j .words ∙ rw (s, q, bytes-same, words-same)
 
-    pub stored-steps : made + steps ≡ stepsOf (length (bytesOf memory bodies t range)) (length (wordsOf bodies t range))
-    stored-steps = rw (q, j .made, bytes-same, words-same) (steps-needed (pairsAt (slotsOf (length t))) (bytesOf memory bodies t range) (wordsOf bodies t range))
+    pub stored-steps : made + steps ≡ stepsOf (length (bytesOfRange memory bodies t range)) (length (wordsOf bodies t range))
+    stored-steps = rw (q, j .made, bytes-same, words-same) (steps-needed (pairsAt (slotsOf (length t))) (bytesOfRange memory bodies t range) (wordsOf bodies t range))

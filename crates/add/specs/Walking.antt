@@ -154,8 +154,8 @@ pub record Skips (e : ℕ) (t : List ℕ) (still taken : Bool) (i r : ℕ) : Typ
 
 -- ---- the call on a range
 
-abbrev pub bytesOf : List ℕ → List ℕ → List ℕ → Range → List Store
-bytesOf memory bodies t r = addBytes (bodiesOf (length bodies)) memory t (r .first) (r .count) (r .kind)
+abbrev pub bytesOfRange : List ℕ → List ℕ → List ℕ → Range → List Store
+bytesOfRange memory bodies t r = addBytes (bodiesOf (length bodies)) memory t (r .first) (r .count) (r .kind)
 
 abbrev pub wordsOf : List ℕ → List ℕ → Range → List Store
 wordsOf bodies t r = addWords (bodiesOf (length bodies)) t (r .first) (r .count) (r .kind) (r .label)

@@ -65,7 +65,7 @@ ghost use Rattle.store.specs.Outcome.{buffers, report, Makes};
 ghost use Rattle.store.specs.Means.{Shows};
 ghost use Rattle.add.specs.Add.{addCheck, addCall, addMeans, rises, raiseChange};
 ghost use Rattle.add.specs.Walking.{lacks, newIn, nextUnheld, rangeCheck, parentCheck, roomCheck, heldCheck, backed, alike, Source, copyBytes};
-ghost use Rattle.add.specs.Walking.{bodyBeyond, listChange, NoneBelow, StagesOn, Walkable, Walked, Stageable, Skips, Ready, bytesOf, wordsOf, callOf};
+ghost use Rattle.add.specs.Walking.{bodyBeyond, listChange, NoneBelow, StagesOn, Walkable, Walked, Stageable, Skips, Ready, bytesOfRange, wordsOf, callOf};
 ghost use Rattle.add.specs.Walking.{rangeWords};
 
 // What an add names: `count` cells from `first` on, to be held as copies (kind 0) or via parent (kind 1), read-only (label 0) or read-write
@@ -684,12 +684,12 @@ fn add_stores(
     requires ready { ⌜ Ready (now memory) (now bodies) (now table) (range .first) (range .count) (range .kind) (range .label) ⌝ }
     requires marks { ⌜ (range .first + range .count ≤ length (now held)) × (length (now used) ≡ maxBodies)
         × AllMarked (slotsOf (length (now table))) (now table) (now held) (now used) ⌝ }
-    ensures steps { λ r. ⌜ r ≡ stepsOf (length (bytesOf (now (memory .entry)) (now (bodies .entry)) (now (table .entry)) range))
+    ensures steps { λ r. ⌜ r ≡ stepsOf (length (bytesOfRange (now (memory .entry)) (now (bodies .entry)) (now (table .entry)) range))
         (length (wordsOf (now (bodies .entry)) (now (table .entry)) range)) ⌝ }
     ensures bytes { λ _. ⌜ now (bodies .exit)
-        ≡ stores (take budget (bytesOf (now (memory .entry)) (now (bodies .entry)) (now (table .entry)) range)) (now (bodies .entry)) ⌝ }
+        ≡ stores (take budget (bytesOfRange (now (memory .entry)) (now (bodies .entry)) (now (table .entry)) range)) (now (bodies .entry)) ⌝ }
     ensures words { λ _. ⌜ now (table .exit)
-        ≡ stores (take (budget - length (bytesOf (now (memory .entry)) (now (bodies .entry)) (now (table .entry)) range))
+        ≡ stores (take (budget - length (bytesOfRange (now (memory .entry)) (now (bodies .entry)) (now (table .entry)) range))
         (journal (pairsAt (slotsOf (length (now (table .entry))))) (wordsOf (now (bodies .entry)) (now (table .entry)) range))) (now (table .entry)) ⌝ }
 {
     let depth = table[LIVE_AT];

@@ -23,7 +23,7 @@ use Rattle.search.proofs.From.{count-stop}
 use Rattle.changes.specs.Staged.{bitAt, isSet}
 use Rattle.changes.proofs.Bits.{bit-none, bit-kept, set-at, more-here, more-other}
 use Rattle.advance.specs.Advance.{turns}
-use Rattle.advance.specs.Notes.{NoBits, markTurning, Turned, Ends}
+use Rattle.advance.specs.Notes.{NoBits, markTurning, TurnedBits, Ends}
 
 -- ---- the bits of one number, counted
 
@@ -153,14 +153,14 @@ or-fails true y h = absurd (true≢ refl h)
 or-fails false y h = (refl, h)
 
 module _ (e : ℕ) (t : List ℕ) (n : ℕ) where
-  pub turned-none : (groups : List ℕ) → Blank groups → Turned e t n 0 groups
+  pub turned-none : (groups : List ℕ) → Blank groups → TurnedBits e t n 0 groups
   turned-none groups blank =
       record {
         clear = λ c h j l. absurd (not-suc-le-zero l);
         found = λ c h. absurd (group-some groups c h (blank (groupOf c)));
       }
 
-  pub turned-more : (k : ℕ) (groups : List ℕ) → groupOf (cellOf (word1 e t k)) < length groups → Turned e t n k groups → Turned e t n (k + 1) (markTurning n (word1 e t k) groups)
+  pub turned-more : (k : ℕ) (groups : List ℕ) → groupOf (cellOf (word1 e t k)) < length groups → TurnedBits e t n k groups → TurnedBits e t n (k + 1) (markTurning n (word1 e t k) groups)
   turned-more k groups fits m =
       record {
         clear = λ c h j l u q.

@@ -24,17 +24,17 @@ use Rattle.table.proofs.Marks.{split}
 use Rattle.search.specs.Free.{lowestFree, unmarked}
 use Rattle.changes.specs.Staged.{isSet, but}
 use Rattle.advance.specs.Advance.{turns}
-use Rattle.advance.specs.Notes.{OwnBits, listSlot, Listed, rankOf, InOrder, changeTo}
+use Rattle.advance.specs.Notes.{OwnBits, listSlot, ListedSlots, rankOf, InOrder, changeTo}
 
 -- ---- the list is made
 
 module _ (e : ℕ) (t : List ℕ) (n : ℕ) where
-  pub listed-none : (f : ℕ → Bool) (places : List ℕ) → Listed e t n f 0 places
+  pub listed-none : (f : ℕ → Bool) (places : List ℕ) → ListedSlots e t n f 0 places
   listed-none f places = record { place = λ i l. absurd (not-suc-le-zero l) }
 
   pub listed-more : (groups places : List ℕ) (k : ℕ) → OwnBits e t n groups → k < e
       → (turns n (word1 e t k) ≡ true → count (cellIn e t k) (isSet groups) < length places)
-      → Listed e t n (isSet groups) k places → Listed e t n (isSet groups) (k + 1) (listSlot n (isSet groups) (word1 e t k) k places)
+      → ListedSlots e t n (isSet groups) k places → ListedSlots e t n (isSet groups) (k + 1) (listSlot n (isSet groups) (word1 e t k) k places)
   unfolding listSlot
   listed-more groups places k own l fits old =
       by-bool (turns n (word1 e t k))

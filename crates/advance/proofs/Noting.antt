@@ -27,7 +27,7 @@ use Rattle.search.proofs.Free.{unmarked-free}
 use Rattle.changes.specs.Staged.{isSet}
 use Rattle.model.specs.Answer.{ask}
 use Rattle.advance.specs.Advance.{advances, bodyFor, turns, turnsAt, changeWith, advanceBytes}
-use Rattle.advance.specs.Notes.{FreeFrom, entriesCheck, Turned, OwnBits, Listed, rankOf, InOrder, changeTo}
+use Rattle.advance.specs.Notes.{FreeFrom, entriesCheck, TurnedBits, OwnBits, ListedSlots, rankOf, InOrder, changeTo}
 use Rattle.advance.proofs.Turning.{advances-of, advances-cell}
 use Rattle.advance.proofs.Choosing.{enough}
 use Rattle.advance.proofs.Listing.{gather-listed}
@@ -66,14 +66,14 @@ module _ (e : ℕ) (t : List ℕ) (top : ℕ) (within : top ≤ e) (free : FreeF
       all-stop e top (λ i. not (turns n (word1 e t i)) || P (word1 e t i)) within
       (λ k l h. ap (λ (b : Bool). not b || P (word1 e t k)) (free-stays n k l h))
 
-  pub turned-front : (n : ℕ) (groups : List ℕ) → Turned e t n top groups → Turned e t n e groups
+  pub turned-front : (n : ℕ) (groups : List ℕ) → TurnedBits e t n top groups → TurnedBits e t n e groups
   turned-front n groups m =
       record {
         clear = λ c h j l u q. by-le top j (λ far. true≢ u (free-stays n j far l)) (λ near. m .clear c h j near u q);
         found = λ c h. let f = m .found c h in (f .0, omega (arith, f .1), f .2, f .3);
       }
 
-  pub listed-front : (n : ℕ) (f : ℕ → Bool) (places : List ℕ) → Listed e t n f top places → Listed e t n f e places
+  pub listed-front : (n : ℕ) (f : ℕ → Bool) (places : List ℕ) → ListedSlots e t n f top places → ListedSlots e t n f e places
   listed-front n f places old =
       record { place = λ i l z. by-le top i (λ far. absurd (true≢ z (free-stays n i far l))) (λ near. old .place i near z) }
 
@@ -152,7 +152,7 @@ module _ (m e b : ℕ) (t : List ℕ) (ok : Rule m e b t) where
   advances-few low = omega (arith, count-entries m e b t ok (live t) low (λ w. eqb (writableOf w) 1), count-le e (λ i. turns (live t) (word1 e t i)))
 
   -- the cells whose bits are set are those that advance
-  pub turned-advances : (groups : List ℕ) → Turned e t (live t) e groups → (c : ℕ) → isSet groups c ≡ advances e t c
+  pub turned-advances : (groups : List ℕ) → TurnedBits e t (live t) e groups → (c : ℕ) → isSet groups c ≡ advances e t c
   turned-advances groups k c =
       by-bool (advances e t c)
       (λ a.
@@ -182,7 +182,7 @@ module _ (m e b : ℕ) (t : List ℕ) (ok : Rule m e b t) where
           (and-join (eqb (depthOf (word1 e t j)) (live t)) (eqb (cellIn e t j) (cellIn e t j)) (and-split (eqb (depthOf (word1 e t j)) (live t)) (eqb (writableOf (word1 e t j)) 1) zj .0) (eq-eqb (cellIn e t j) (cellIn e t j) refl));
     }
 
-    module _ (n : ℕ) (places : List ℕ) (number : n ≡ count m (advances e t)) (list : Listed e t (live t) (isSet groups) e places) where
+    module _ (n : ℕ) (places : List ℕ) (number : n ≡ count m (advances e t)) (list : ListedSlots e t (live t) (isSet groups) e places) where
       entry-place : (i : ℕ) → i < e → turns (live t) (word1 e t i) ≡ true → getD places (rankOf e t i) 0 ≡ i
       entry-place i l z =
           ap (λ (x : ℕ). getD places x 0) (sym (count-ext (cellIn e t i) (isSet groups) (advances e t) (λ c h. bits c))) ∙ list .place i l z

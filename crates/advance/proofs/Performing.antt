@@ -21,7 +21,7 @@ use Rattle.store.specs.Outcome.{buffers, outcome, leaves}
 use Rattle.store.proofs.Checks.{}
 use Rattle.store.proofs.Raw.{raw-rule}
 use Rattle.advance.specs.Advance.{advances, advanceWords}
-use Rattle.advance.specs.Notes.{CellBits, Ready, performed, OwnBits, Listed, InOrder, changeTo}
+use Rattle.advance.specs.Notes.{CellBits, Ready, performed, OwnBits, ListedSlots, InOrder, changeTo}
 use Rattle.advance.proofs.Listing.{plans-length}
 use Rattle.advance.proofs.Noting.{advances-few, bits-count, own-bits, in-order, listed-inside, room-unmarked, listed-bytes, change-all}
 use Rattle.advance.proofs.Advanced.{advance-performed}
@@ -54,7 +54,7 @@ module _ (memory bodies t used : List ℕ) (ready : Ready (length memory) (lengt
     ready-count = bits-count m e b t ok groups (bits .each)
 
     pub ready-order : (n : ℕ) (places : List ℕ) → n ≡ count (cellsOf (length memory)) (advances (slotsOf (length t)) t)
-        → Listed (slotsOf (length t)) t (live t) (isSet groups) (slotsOf (length t)) places → InOrder (slotsOf (length t)) t n places
+        → ListedSlots (slotsOf (length t)) t (live t) (isSet groups) (slotsOf (length t)) places → InOrder (slotsOf (length t)) t n places
     ready-order = in-order m e b t ok groups (bits .each)
 
   module _ (n : ℕ) (places : List ℕ) (list : InOrder (slotsOf (length t)) t n places) where

@@ -39,7 +39,7 @@ abbrev pub markTurning : (n w : ℕ) → List ℕ → List ℕ
 markTurning n w groups = set groups (groupOf (cellOf w)) (withBit (turns n w) (inGroup (cellOf w)) (getD groups (groupOf (cellOf w)) 0))
 
 -- the bits set are those of the first k entries that advance, where n domains are live
-pub record Turned (e : ℕ) (t : List ℕ) (n k : ℕ) (groups : List ℕ) : Type 0 where
+pub record TurnedBits (e : ℕ) (t : List ℕ) (n k : ℕ) (groups : List ℕ) : Type 0 where
   pub clear : (c : ℕ) → isSet groups c ≡ false → (j : ℕ) → j < k → turns n (word1 e t j) ≡ true → cellIn e t j ≡ c → ⊥
   pub found : (c : ℕ) → isSet groups c ≡ true → (j : ℕ) × (j < k) × (turns n (word1 e t j) ≡ true) × (cellIn e t j ≡ c)
 
@@ -78,7 +78,7 @@ unfoldable pub listSlot : (n : ℕ) (f : ℕ → Bool) (w i : ℕ) → List ℕ 
 listSlot n f w i places = cond (turns n w) (set places (count (cellOf w) f) i) places
 
 -- of the first k entries, those that advance are listed
-pub record Listed (e : ℕ) (t : List ℕ) (n : ℕ) (f : ℕ → Bool) (k : ℕ) (places : List ℕ) : Type 0 where
+pub record ListedSlots (e : ℕ) (t : List ℕ) (n : ℕ) (f : ℕ → Bool) (k : ℕ) (places : List ℕ) : Type 0 where
   pub place : (i : ℕ) → i < k → turns n (word1 e t i) ≡ true → getD places (count (cellIn e t i) f) 0 ≡ i
 
 -- how many cells advance before that of entry i

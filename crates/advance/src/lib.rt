@@ -57,7 +57,7 @@ ghost use Rattle.changes.specs.Staged.{isSet, Restaged, Stages};
 ghost use Rattle.store.specs.Outcome.{buffers, report, Makes};
 ghost use Rattle.store.specs.Means.{Shows};
 ghost use Rattle.advance.specs.Advance.{advances, advanceCheck, advanceCall, advanceMeans, turns};
-ghost use Rattle.advance.specs.Notes.{FreeFrom, entriesCheck, NoBits, markTurning, Turned, CellBits, Ready, performed, Ends, OwnBits, listSlot, Listed, InOrder, changeTo};
+ghost use Rattle.advance.specs.Notes.{FreeFrom, entriesCheck, NoBits, markTurning, TurnedBits, CellBits, Ready, performed, Ends, OwnBits, listSlot, ListedSlots, InOrder, changeTo};
 
 // ---- the entries in use
 
@@ -144,7 +144,7 @@ fn mark_groups(
     requires { ⌜ ((i : ℕ) → i < slots → cellIn slots (now table) i < length (now seen)) × (length (now seen) ≤ groupAt (length (now groups))) × Blank (now groups) ⌝ }
     ensures covered { λ r. ⌜ r
         ≡ all slots (λ i. not (turns live (word1 slots (now (table .entry)) i)) || has (parent live) (markAt (now (seen .entry)) (word1 slots (now (table .entry)) i))) ⌝ }
-    ensures bits { λ _. ⌜ Turned slots (now (table .entry)) live slots (now (groups .exit)) ⌝ }
+    ensures bits { λ _. ⌜ TurnedBits slots (now (table .entry)) live slots (now (groups .exit)) ⌝ }
 {
     let mut good = true;
     let mut i: usize = 0;
@@ -164,7 +164,7 @@ fn entries_check(table: &[u32], slots: usize, bodies: usize, seen: &[u8], groups
     requires { ⌜ (slots ≤ maxSlots) × (pairsAt slots ≤ length (now table)) × (1 ≤ live (now table)) × (live (now table) ≤ maxLive) × Marked slots (now table) slots (now seen) ⌝ }
     requires { ⌜ ((i : ℕ) → i < slots → cellIn slots (now table) i < length (now seen)) × (length (now seen) ≤ groupAt (length (now groups))) × Blank (now groups) ⌝ }
     ensures no { λ r. ⌜ r ≡ entriesCheck slots bodies (now (table .entry)) ⌝ }
-    ensures bits { λ _. ⌜ Turned slots (now (table .entry)) (live (now (table .entry))) slots (now (groups .exit)) ⌝ }
+    ensures bits { λ _. ⌜ TurnedBits slots (now (table .entry)) (live (now (table .entry))) slots (now (groups .exit)) ⌝ }
 {
     let live = table[LIVE_AT];
     let top = last_in_use(table, slots);
@@ -293,7 +293,7 @@ fn list_slots(
     requires room { ⌜ (length (now ends) ≡ length (now groups)) × (count (groupAt (length (now groups))) (isSet (now groups)) ≤ min maxSlots (length (now places))) ⌝ }
     requires own { ⌜ OwnBits slots (now table) (live (now table)) (now groups) ⌝ }
     ensures counted { λ r. ⌜ r ≡ count (groupAt (length (now (groups .entry)))) (isSet (now (groups .entry))) ⌝ }
-    ensures listed { λ _. ⌜ Listed slots (now (table .entry)) (live (now (table .entry))) (isSet (now (groups .entry))) slots (now (places .exit)) ⌝ }
+    ensures listed { λ _. ⌜ ListedSlots slots (now (table .entry)) (live (now (table .entry))) (isSet (now (groups .entry))) slots (now (places .exit)) ⌝ }
 {
     let live = table[LIVE_AT];
     let top = last_in_use(table, slots);

@@ -6,7 +6,7 @@ use lib.Dec.{eqb}
 use lib.ListN.{length}
 use Rattle.words.specs.Layout.{cellsOf, slotsOf, pairsAt, liveAt}
 use Rattle.words.specs.Stores.{Store, _≔_}
-use Rattle.table.specs.Entry.{live, word1, word2, depthOf, cellOf, writableOf, outward, writable, innermost, parent, hasParent, handleOf, writesIn, parentHas}
+use Rattle.table.specs.Entry.{live, word1, word2, depthOf, cellOf, writableOf, outward, writable, innermost, parent, hasParent, handleAtDepth, writesIn, parentHas}
 use Rattle.table.specs.Changes.{Change, keep, put, entryChanges}
 use Rattle.model.specs.Answer.{orElse, View}
 use Rattle.model.specs.Holdings.{commitEffect}
@@ -39,7 +39,7 @@ commitChange e t d i =
 -- the number of live domains, the handle that leaves, and the entries
 unfoldable pub commitWords : List ℕ → List Store
 commitWords t =
-    ((liveAt ≔ live t - 1) ∷ (handleOf (innermost t) ≔ 0) ∷ []) ++ entryChanges (slotsOf (length t)) (commitChange (slotsOf (length t)) t (innermost t))
+    ((liveAt ≔ live t - 1) ∷ (handleAtDepth (innermost t) ≔ 0) ∷ []) ++ entryChanges (slotsOf (length t)) (commitChange (slotsOf (length t)) t (innermost t))
 
 unfoldable pub commitCall : (h : ℕ) → Buffers → Call
 commitCall h b =

@@ -105,8 +105,8 @@ abbrev pub domainsFrom : List ℕ → ℕ → ℕ
 domainsFrom t d = suc (live t) - d
 
 -- the number of the word with its handle
-abbrev pub handleOf : ℕ → ℕ
-handleOf d = handleAt (parent d)
+abbrev pub handleAtDepth : ℕ → ℕ
+handleAtDepth d = handleAt (parent d)
 
 -- ---- which entry is found for a depth and a cell
 

@@ -6,7 +6,7 @@ use borrow.Author.Needs.{needs}
 use lib.ListN.{length}
 use Rattle.table.specs.Entry.{live}
 use Rattle.changes.specs.Staged.{isSet}
-use Rattle.advance.specs.Notes.{Listed}
+use Rattle.advance.specs.Notes.{ListedSlots}
 use Rattle.advance.proofs.Bits.{rank-fits}
 use Rattle.advance.proofs.Listing.{listed-none, listed-more}
 use Rattle.advance.proofs.Noting.{listed-front}
@@ -14,7 +14,7 @@ use Rattle.advance.proofs.list_slots.Statement.{statement}
 use Rattle.advance.proofs.list_slots.Tie as tie
 
 abbrev Inv-loop : tie.InvT-loop
-Inv-loop table slots groups ends places₀ live top n i₀ places i = (i ≤ top) × (length places ≡ length places₀) × Listed slots table live (isSet groups) i places
+Inv-loop table slots groups ends places₀ live top n i₀ places i = (i ≤ top) × (length places ≡ length places₀) × ListedSlots slots table live (isSet groups) i places
 
 abbrev μ-loop : tie.MeasureT-loop
 μ-loop table slots groups ends places₀ live top n i₀ places i = top - i
@@ -68,7 +68,7 @@ returns c =
     let last : s .i ≡ c .before .before .before .before .before .before .last-in-use .result = omega (arith, s .inv .0, c .loop-test .left) in (
       c .before .before .before .before .count-groups .ensures .0,
       listed-front (a .slots) (a .table .now) _ (c .before .before .before .before .before .before .last-in-use .ensures .0) (c .before .before .before .before .before .before .last-in-use .ensures .1) n (isSet (a .groups .now)) _
-          (subst (λ (k : ℕ). Listed (a .slots) (a .table .now) n (isSet (a .groups .now)) k (s .places)) last (s .inv .2)),
+          (subst (λ (k : ℕ). ListedSlots (a .slots) (a .table .now) n (isSet (a .groups .now)) k (s .places)) last (s .inv .2)),
     )
 
 pub list-slots-spec : {M : Type 1} → statement M

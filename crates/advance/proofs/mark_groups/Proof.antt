@@ -10,14 +10,14 @@ use Rattle.words.proofs.Scan.{all-next}
 use Rattle.table.specs.Entry.{word1, cellOf, parent}
 use Rattle.table.specs.Marks.{has, markAt}
 use Rattle.advance.specs.Advance.{turns}
-use Rattle.advance.specs.Notes.{markTurning, Turned}
+use Rattle.advance.specs.Notes.{markTurning, TurnedBits}
 use Rattle.advance.proofs.Bits.{turned-none, turned-more}
 use Rattle.advance.proofs.Noting.{covered-front, turned-front}
 use Rattle.advance.proofs.mark_groups.Statement.{statement}
 use Rattle.advance.proofs.mark_groups.Tie as tie
 
 abbrev Inv-loop : tie.InvT-loop
-Inv-loop table slots top live seen groups₀ good₀ i₀ groups good i = (i ≤ top) × (length groups ≡ length groups₀) × Turned slots table live i groups
+Inv-loop table slots top live seen groups₀ good₀ i₀ groups good i = (i ≤ top) × (length groups ≡ length groups₀) × TurnedBits slots table live i groups
     × (good ≡ all i (λ k. not (turns live (word1 slots table k)) || has (parent live) (markAt seen (word1 slots table k))))
 
 abbrev μ-loop : tie.MeasureT-loop
@@ -68,7 +68,7 @@ loop-again c =
     ∙ ap at (c .before .before .before .before .before .before .before .before .before .first-word .ensures) in (
       search needs,
       c .before .before .mark-turning .kept .0 ∙ s .inv .1,
-      subst (Turned (a .slots) (a .table .now) (a .live) (s .i + 1)) (sym q)
+      subst (TurnedBits (a .slots) (a .table .now) (a .live) (s .i + 1)) (sym q)
           (turned-more (a .slots) (a .table .now) (a .live) (s .i) (s .groups) (omega (arith, h, s .inv .1, c .before .before .before .before .before .before .before .before .before .before .before .before .before .before .before .pre .1 .1)) (s .inv .2)),
       (λ j. s .inv .3 j && now j) ∙ all-next (s .i) (λ k. at (word1 (a .slots) (a .table .now) k)),
     )
@@ -82,7 +82,7 @@ returns c =
     let last : c .before .loop .i ≡ a .top = omega (arith, c .before .loop .inv .0, c .loop-test .left) in (
       c .before .loop .inv .3 ∙ ap (λ (n : ℕ). all n (λ k. not (turns (a .live) (word1 (a .slots) (a .table .now) k)) || has (parent (a .live)) (markAt (a .seen .now) (word1 (a .slots) (a .table .now) k)))) last
           ∙ covered-front (a .slots) (a .table .now) (a .top) (c .before .before .before .before .before .pre .0 .4) (c .before .before .before .before .before .pre .0 .5) (a .live) (λ w. has (parent (a .live)) (markAt (a .seen .now) w)),
-      turned-front (a .slots) (a .table .now) (a .top) (c .before .before .before .before .before .pre .0 .4) (c .before .before .before .before .before .pre .0 .5) (a .live) _ (subst (λ (n : ℕ). Turned (a .slots) (a .table .now) (a .live) n (c .before .loop .groups)) last (c .before .loop .inv .2)),
+      turned-front (a .slots) (a .table .now) (a .top) (c .before .before .before .before .before .pre .0 .4) (c .before .before .before .before .before .pre .0 .5) (a .live) _ (subst (λ (n : ℕ). TurnedBits (a .slots) (a .table .now) (a .live) n (c .before .loop .groups)) last (c .before .loop .inv .2)),
     )
 
 pub mark-groups-spec : {M : Type 1} → statement M
