@@ -5,6 +5,7 @@ pub mod Rule
 pub mod Agree
 pub mod Single
 pub mod Digits
+pub mod Blocks
 pub mod Marks
 pub mod Parts
 pub mod Passing

@@ -14,7 +14,8 @@ use lib.Dec.{ltb, eqb}
 use Rattle.words.proofs.Scan.{by-bool, and-split, is-false, true≢}
 use Rattle.table.specs.Entry.{word1, word2, depthOf, viaOf, parent, findIn, holdsIn, ownsBody}
 use Rattle.table.specs.Rule.{parentOk}
-use Rattle.table.specs.Marks.{Marks, Distinct, zeros, has, withDepth, cellIn, markAt, markCell, Marked, CellsOnce, Blank, ViaInner, parentTold, IsCopy, markBody, bodyFits}
+use Rattle.table.specs.Blocks.{markOf, OneMark}
+use Rattle.table.specs.Marks.{Marks, Distinct, zeros, has, withDepth, cellIn, markAt, Marked, CellsOnce, Blank, ViaInner, parentTold, IsCopy, markBody, bodyFits}
 use Rattle.table.proofs.Digits.{has-zero, has-here, has-other}
 use Rattle.table.proofs.Entry.{find-some, find-hit}
 use Rattle.table.proofs.Rule.{outer-facts, outer-make}
@@ -82,10 +83,10 @@ zeros-length n = length-replicate n 0
 pub blank-zeros : (n : ℕ) → Blank (zeros n)
 blank-zeros n k = zeros-clear n k
 
-pub marked-holds : (e : ℕ) (t seen : List ℕ) → Marked e t e seen → (d c : ℕ) → 1 ≤ d → has d (getD seen c 0) ≡ holdsIn e t d c
+pub marked-holds : (e : ℕ) (t seen : List ℕ) → Marked e t e seen → (d c : ℕ) → 1 ≤ d → has d (markOf seen c) ≡ holdsIn e t d c
 unfolding holdsIn
 marked-holds e t seen m d c low =
-    by-bool (has d (getD seen c 0))
+    by-bool (has d (markOf seen c))
     (λ h. let f = m .found d c h in h ∙ sym (lt-ltb (findIn e t d c) e (omega (arith, find-some e t d c (f .0) (f .1) (f .2) (f .3), f .1))))
     (λ h.
     h
@@ -118,20 +119,19 @@ module _ (e : ℕ) (t : List ℕ) where
           (λ j k low q r. m .clear (depthOf (word1 e t n)) (cellIn e t n) low free j k q r))
           (λ p. once i p)
 
-      module _ (fits : cellIn e t n < length s) where
-        mark-here : 1 ≤ depthOf (word1 e t n) → has (depthOf (word1 e t n)) (getD (markCell (word1 e t n) s) (cellIn e t n) 0) ≡ true
-        mark-here low = rw (getD-set-same s (cellIn e t n) (withDepth (depthOf (word1 e t n)) (markAt s (word1 e t n))) 0 fits) (has-here _ _ low free)
+      module _ (after : List ℕ) (one : OneMark s (cellIn e t n) (withDepth (depthOf (word1 e t n)) (markAt s (word1 e t n))) after) where
+        mark-here : 1 ≤ depthOf (word1 e t n) → has (depthOf (word1 e t n)) (markOf after (cellIn e t n)) ≡ true
+        mark-here low = rw (one (cellIn e t n), eq-eqb (cellIn e t n) (cellIn e t n) refl) (has-here _ _ low free)
 
-        mark-other : (d k : ℕ) → (d ≡ depthOf (word1 e t n) → k ≡ cellIn e t n → ⊥) → has d (getD (markCell (word1 e t n) s) k 0) ≡ has d (getD s k 0)
+        mark-other : (d k : ℕ) → (d ≡ depthOf (word1 e t n) → k ≡ cellIn e t n → ⊥) → has d (markOf after k) ≡ has d (markOf s k)
         mark-other d k other =
             by-bool (eqb k (cellIn e t n))
             (λ b.
             let q = eqb-true k (cellIn e t n) b in
-            ap (λ (x : ℕ). has d (getD (markCell (word1 e t n) s) x 0)) q
-            ∙ ap (has d) (getD-set-same s (cellIn e t n) (withDepth (depthOf (word1 e t n)) (markAt s (word1 e t n))) 0 fits)
-            ∙ has-other (depthOf (word1 e t n)) d (markAt s (word1 e t n)) free (λ z. other z q)
-            ∙ ap (λ (x : ℕ). has d (getD s x 0)) (sym q))
-            (λ b. ap (has d) (getD-set-other s (cellIn e t n) k (withDepth (depthOf (word1 e t n)) (markAt s (word1 e t n))) 0 (eqb-false k (cellIn e t n) b)))
+            rw (one k, b)
+            (has-other (depthOf (word1 e t n)) d (markAt s (word1 e t n)) free (λ z. other z q)
+            ∙ ap (λ (x : ℕ). has d (markOf s x)) (sym q)))
+            (λ b. rw (one k, b))
 
         -- is a depth and a cell this entry's?
         here-or : {C : Type 0} (d k : ℕ) → (d ≡ depthOf (word1 e t n) → k ≡ cellIn e t n → C) → ((d ≡ depthOf (word1 e t n) → k ≡ cellIn e t n → ⊥) → C) → C
@@ -140,7 +140,7 @@ module _ (e : ℕ) (t : List ℕ) where
             (λ a. by-bool (eqb k (cellIn e t n)) (λ b. f (eqb-true _ _ a) (eqb-true _ _ b)) (λ b. g (λ p q. eqb-false _ _ b q)))
             (λ a. g (λ p q. eqb-false _ _ a p))
 
-        pub marked-more : Marked e t (n + 1) (markCell (word1 e t n) s)
+        pub marked-more : Marked e t (n + 1) after
         marked-more =
             record {
               clear = λ d k low h j l q r.

@@ -15,8 +15,8 @@ use Rattle.words.proofs.Scan.{and-split, and-join}
 use Rattle.words.proofs.Plans.{getD-tab, take-tab, each-at, length-stores, run-take-tab}
 use Rattle.words.proofs.Names.{name-fine, names-each}
 use Rattle.words.proofs.Pairs.{length-pairs}
-use Rattle.table.specs.Rule.{pairsOk}
-use Rattle.table.proofs.Agree.{Agree, agree-set, Same}
+use Rattle.table.specs.Rule.{pairsOk, ruleOk, tableOk}
+use Rattle.table.proofs.Agree.{Agree, agree-set, Same, rule-same}
 
 pub and-yes : (a b : Bool) → a ≡ true → (a && b) ≡ b
 and-yes a b e = rw e
@@ -79,3 +79,12 @@ effective-same first t k l z =
 pub idle-same : (first : ℕ) (t : List ℕ) → pending t ≡ 0 → Same first (effective first t) t
 idle-same first t idle k l z =
     effective-same first t k l z ∙ ap (λ (p : ℕ). getD (stores (pairs t first p) t) k 0) idle ∙ ap (λ (x : List ℕ). getD x k 0) (put-none t first t)
+
+-- ---- none pending: the table is its own meaning
+idle-pairs : (e : ℕ) (t : List ℕ) → pending t ≡ 0 → pairsOk e t ≡ true
+unfolding pairs namesOk
+idle-pairs e t h = pairs-make e t (omega (arith, h)) (rw h)
+
+pub idle-rule : (m e b : ℕ) (t : List ℕ) → pending t ≡ 0 → tableOk m e b t ≡ ruleOk m e b t
+unfolding tableOk
+idle-rule m e b t h = and-yes _ _ (idle-pairs e t h) ∙ rule-same m e b (effective (pairsAt e) t) t (idle-same (pairsAt e) t h)

@@ -8,13 +8,15 @@ use native.Mathlib.Omega.{arith}
 use borrow.Author.Tests.{eq-eqb, ne-eqb, leb-true, ltb-true}
 use lib.ListN.{length}
 use lib.Dec.{ltb, leb, eqb}
-use Rattle.words.specs.Layout.{maxCells}
+use Rattle.words.specs.Layout.{maxCells, groupOf}
 use Rattle.words.specs.Scan.{all}
 use Rattle.words.proofs.Scan.{and-split, by-le, all-make, all-not, all-ext, true≢}
 use Rattle.table.specs.Entry.{live, word1, word2, depthOf, viaOf, unusedOf, cellOf}
 use Rattle.table.specs.Rule.{headOk, kindOk, entryOk, parentOk, ruleOk}
+use Rattle.table.specs.Blocks.{blockAt, cellsIn, Spare, Room}
 use Rattle.table.specs.Marks.{Blank, has, cellIn, markAt, markCell, IsCopy, markBody, bodyFits, placed, FreeRun, NoVias, Passed, AllMarked}
 use Rattle.table.proofs.Digits.{has-none}
+use Rattle.table.proofs.Blocks.{cells-all, kept-none, taken-none, outside-none, cells-none, cell-one, cell-kept, cell-blocks, cell-outside, room-spare}
 use Rattle.table.proofs.Marks.{owns-facts, split, marks-none, once-none, once-not, once-more, marked-more, distinct-none, bodies-more, single-more}
 use Rattle.table.proofs.Rule.{entry-least, outer-make}
 use Rattle.table.proofs.Parts.{no-entries, no-cells, no-single, all-parts}
@@ -32,14 +34,17 @@ placed-facts m live w h =
     (leb-true _ _ (s1 .0), leb-true _ _ (s2 .0), ltb-true _ _ (and-split (eqb (unusedOf w) 0) (ltb (cellOf w) m) (s2 .1) .1))
 
 module _ (m e b : ℕ) (t : List ℕ) where
-  pub passed-none : (seen used : List ℕ) → Blank seen → Blank used → Passed m e b t 0 seen used
-  passed-none seen used blank clean =
+  pub passed-none : (seen used : List ℕ) → Blank seen → Blank used → blockAt 1 ≤ length seen → Passed m e b t 0 seen used
+  passed-none seen used blank clean room =
       record {
         right = λ i l. absurd (not-suc-le-zero l);
         once = once-none e t;
         single = distinct-none (IsCopy e t) (word2 e t);
-        cells = record { clear = λ d k low h j l. absurd (not-suc-le-zero l); found = λ d k h. absurd (true≢ h (rw (blank k) (has-none d))) };
+        cells = record { clear = λ d k low h j l. absurd (not-suc-le-zero l); found = λ d k h. absurd (true≢ h (rw (cells-none seen blank k) (has-none d))) };
         copies = marks-none (IsCopy e t) (word2 e t) 1 used (λ k h. omega (arith, h, clean k));
+        kept = kept-none seen blank room;
+        few = omega (arith, taken-none seen blank);
+        outside = outside-none seen blank m;
       }
 
   -- a free entry is right by itself
@@ -62,20 +67,35 @@ module _ (m e b : ℕ) (t : List ℕ) where
             clear = λ c h j l u. by-le n j (λ far. absurd (owns-facts _ u .0 (free j far l .0))) (λ near. p .copies .clear c h j near u);
             found = λ c h. let f = p .copies .found c h in (f .0, omega (arith, f .1), f .2, f .3);
           };
+          kept = p .kept;
+          few = omega (arith, p .few, low);
+          outside = p .outside;
         }
+
+    -- its marks can be read
+    pub passed-cells : cellsIn seen ≡ maxCells
+    passed-cells = cells-all seen (omega (arith, p .kept .room))
 
     -- one more entry
     module _ (l : n < e) where
-      pub passed-more : entryOk m e b t n ≡ true → has (depthOf (word1 e t n)) (markAt seen (word1 e t n)) ≡ false → cellIn e t n < length seen
+      -- there is room for its block
+      pub passed-spare : cellIn e t n < m → Room (n + 1) m seen → Spare seen (groupOf (cellIn e t n))
+      passed-spare inside room = room-spare seen n m (cellIn e t n) (p .kept) (p .outside) (p .few) inside (omega arith) room
+
+      pub passed-more : entryOk m e b t n ≡ true → has (depthOf (word1 e t n)) (markAt seen (word1 e t n)) ≡ false → cellIn e t n < m → Room (n + 1) m seen
           → bodyFits (word1 e t n) (word2 e t n) used ≡ true → (IsCopy e t n → word2 e t n < length used)
           → Passed m e b t (n + 1) (markCell (word1 e t n) seen) (markBody (word1 e t n) (word2 e t n) used)
-      passed-more here free room fits place =
+      passed-more here free inside room fits place =
+          let spare = passed-spare inside room in
           record {
             right = λ i s. split n i s (λ q. rw q here) (λ near. p .right i near);
             once = once-more e t n seen (p .cells) free (p .once);
             single = single-more e t n used (p .copies) true l (λ y. p .single) (λ y. absurd (true≢ refl y)) .0 (rw fits);
-            cells = marked-more e t n seen (p .cells) free room;
+            cells = marked-more e t n seen (p .cells) free (markCell (word1 e t n) seen) (cell-one (word1 e t n) seen (p .kept) spare);
             copies = bodies-more e t n used (p .copies) place;
+            kept = cell-kept (word1 e t n) seen (p .kept) spare;
+            few = omega (arith, cell-blocks (word1 e t n) seen (p .kept) spare, p .few);
+            outside = cell-outside (word1 e t n) seen (p .kept) spare m (omega (arith, inside)) (p .outside);
           }
 
       pub cell-taken : has (depthOf (word1 e t n)) (markAt seen (word1 e t n)) ≡ true → ruleOk m e b t ≡ false
@@ -105,7 +125,7 @@ module _ (m e b : ℕ) (t : List ℕ) where
     pass-entries = all-make e (entryOk m e b t) (p .right)
 
     pub pass-marks : AllMarked e t seen used
-    pass-marks = record { cells = p .cells; copies = p .copies }
+    pass-marks = record { cells = p .cells; copies = p .copies; kept = p .kept }
 
     pub pass-right : all e (parentOk e t) ≡ true → ruleOk m e b t ≡ true
     pass-right rests = all-parts m e b t pass-entries head (record { once = p .once; rests = rests }) (p .single)

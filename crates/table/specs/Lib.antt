@@ -2,5 +2,6 @@
 pub mod Entry
 pub mod Checks
 pub mod Rule
+pub mod Blocks
 pub mod Marks
 pub mod Changes

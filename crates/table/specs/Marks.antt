@@ -1,14 +1,18 @@
--- Marks made in one pass over the entries.
+-- Marks made in one pass over the entries. Of cells they are read by `markOf` alone (Blocks.antt).
 -- A mark at k equal to `tag` says that some entry passed so far is wanted and has the key k.
 use Prim.Native.Nat.{ℕ, _+_, _*_, _/_, _%_, _^_, _<_, _≤_}
 use mathlib.Core.Bool.{Bool, true, false, cond, not, _&&_, _||_}
 use mathlib.Core.Path.{_≡_}
 use mathlib.Core.List.{List}
 use lib.Dec.{ltb, leb, eqb}
-use lib.ListN.{getD, set, replicate}
+use lib.ListN.{length, getD, set, replicate}
+use Rattle.words.specs.Layout.{groupOf, slotsOf, maxSlots}
 use Rattle.words.specs.Scan.{all}
+use Rattle.words.specs.Journal.{pending}
 use Rattle.table.specs.Entry.{word1, word2, depthOf, viaOf, unusedOf, cellOf, ownsBody, parent}
 use Rattle.table.specs.Rule.{entryOk, parentOk}
+use Rattle.table.specs.Blocks.{taken, placeOf, Kept, Outside, withBlock}
+pub use Rattle.table.specs.Blocks.{markOf}
 
 module _ (Wanted : ℕ → Type 0) (key : ℕ → ℕ) (tag : ℕ) where
   pub record Marks (n : ℕ) (seen : List ℕ) : Type 0 where
@@ -28,10 +32,6 @@ zeros n = replicate n 0
 
 -- ---- the cells: the mark of a cell is the set of the depths passed so far that have it, depth d as bit d - 1
 
--- the mark of cell c
-abbrev pub markOf : List ℕ → ℕ → ℕ
-markOf seen c = getD seen c 0
-
 -- does a mark have depth d? It has no depth 0, which free entries have
 abbrev pub has : ℕ → ℕ → Bool
 has d mark = eqb (2 * mark / 2 ^ d % 2) 1
@@ -47,9 +47,11 @@ cellIn e t i = cellOf (word1 e t i)
 abbrev pub markAt : List ℕ → ℕ → ℕ
 markAt seen w = markOf seen (cellOf w)
 
--- the marks after that entry
-abbrev pub markCell : ℕ → List ℕ → List ℕ
-markCell w seen = set seen (cellOf w) (withDepth (depthOf w) (markAt seen w))
+-- the marks after that entry: its cell's group has a block, and its mark has the entry's depth
+unfoldable pub markCell : ℕ → List ℕ → List ℕ
+markCell w seen =
+    let got = withBlock seen (groupOf (cellOf w)) in
+    set got (placeOf got (cellOf w)) (withDepth (depthOf w) (markAt seen w))
 
 -- what the marks of all entries tell of an entry with first word w: it is no via parent entry, or its parent has its cell
 abbrev pub parentTold : ℕ → List ℕ → Bool
@@ -100,6 +102,18 @@ placed m live w = leb 1 (depthOf w) && (leb (depthOf w) live && (eqb (unusedOf w
 abbrev pub FreeRun : ℕ → List ℕ → ℕ → ℕ → Type 0
 FreeRun e t n k = (i : ℕ) → n ≤ i → i < k → (word1 e t i ≡ 0) × (word2 e t i ≡ 0)
 
+-- the entries from the n-th on are free
+abbrev pub EndsAt : ℕ → List ℕ → ℕ → Type 0
+EndsAt e t n = (n ≤ e) × FreeRun e t n e
+
+-- how many entries question 4 passes: those up to the last in use; all e of them where pairs are pending
+abbrev pub Reaches : ℕ → List ℕ → ℕ → Type 0
+Reaches e t n = EndsAt e t n × ((pending t ≡ 0 → ⊥) → n ≡ e)
+
+-- of a table of any length this is said where its number of entries is allowed
+abbrev pub Reached : List ℕ → ℕ → Type 0
+Reached t n = 1 ≤ slotsOf (length t) → slotsOf (length t) ≤ maxSlots → Reaches (slotsOf (length t)) t n
+
 -- the first n entries are right, by themselves and beside each other, and marked
 pub record Passed (m e b : ℕ) (t : List ℕ) (n : ℕ) (seen used : List ℕ) : Type 0 where
   pub right : (i : ℕ) → i < n → entryOk m e b t i ≡ true
@@ -107,6 +121,9 @@ pub record Passed (m e b : ℕ) (t : List ℕ) (n : ℕ) (seen used : List ℕ) 
   pub single : Distinct (IsCopy e t) (word2 e t) n
   pub cells : Marked e t n seen
   pub copies : Marks (IsCopy e t) (word2 e t) 1 n used
+  pub kept : Kept seen
+  pub few : taken seen ≤ n
+  pub outside : Outside m seen
 
 -- where so many are via parent, none is, if that is 0
 abbrev pub NoVias : ℕ → List ℕ → ℕ → ℕ → Type 0
@@ -116,3 +133,4 @@ NoVias e t n vias = vias ≡ 0 → (i : ℕ) → i < n → viaOf (word1 e t i) �
 pub record AllMarked (e : ℕ) (t : List ℕ) (seen used : List ℕ) : Type 0 where
   pub cells : Marked e t e seen
   pub copies : Marks (IsCopy e t) (word2 e t) 1 e used
+  pub kept : Kept seen

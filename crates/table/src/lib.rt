@@ -3,9 +3,12 @@
 // Question 4 passes over the entries once, with one mark for each cell, a bit for each depth that holds it, and one for each body, so that it
 // does not compare each entry with each; it passes over them again only to ask via parent entries for their parent. The caller lends the
 // room for marks and has the marks afterwards. While pairs are pending it looks at a copy in which they are in place.
+pub mod cell_marks;
 pub mod domains;
 pub mod fields;
 
+use cell_marks::mark_cell;
+use cell_marks::mark_of;
 use fields::below_kind;
 use fields::cell_of;
 use fields::depth_of;
@@ -51,12 +54,11 @@ ghost use Rattle.table.specs.Changes.{put, entryStores};
 ghost use Rattle.table.specs.Entry.{live, word1, word2, viaOf, depthOf, cellOf, parent};
 ghost use Rattle.table.specs.Checks.{lengthsOk, headerOk};
 ghost use Rattle.table.specs.Rule.{handleOk, headOk, kindOk, parentOk, pairsOk, ruleOk, tableOk};
-ghost use Rattle.table.specs.Marks.{markOf, has, withDepth, markAt, markCell, Marked, ViasMarkable, ViaInner, parentTold, placed, markBody, bodyFits};
-ghost use Rattle.table.specs.Marks.{zeros, Blank, FreeRun, NoVias, Passed, AllMarked};
+ghost use Rattle.table.specs.Blocks.{cellsIn, Room};
+ghost use Rattle.table.specs.Marks.{has, Marked, ViasMarkable, ViaInner, parentTold, placed, markBody, bodyFits};
+ghost use Rattle.table.specs.Marks.{zeros, Blank, FreeRun, EndsAt, Reaches, Reached, NoVias, Passed, AllMarked};
 
-// So many cells and entry slots count as few: what a call needs for them is cleared in no time.
-pub const FEW_CELLS: usize = 1024;
-
+// So many entry slots count as few: what a call needs for them is cleared in no time.
 pub const FEW_SLOTS: usize = 256;
 
 // ---- questions 1 and 2
@@ -165,45 +167,6 @@ fn cells_word(cells: usize) -> u32
 
 // ---- entries beside each other: the cells
 
-// The mark of a cell: which domains hold it.
-pub fn mark_of(seen: &[u8], cell: usize) -> u8
-    requires { ⌜ cell < length (now seen) ⌝ }
-    ensures { λ r. ⌜ r ≡ markOf (now (seen .entry)) cell ⌝ }
-{
-    seen[cell]
-}
-
-// Does a mark have this depth? The shift takes no branch, where scattered depths would be guessed wrong.
-pub fn has_depth(mark: u8, depth: u32) -> bool
-    requires { ⌜ depth < 16 ⌝ }
-    ensures { λ r. ⌜ r ≡ has depth mark ⌝ }
-{
-    ((2 * mark as u32) >> depth) % 2 == 1
-}
-
-// A mark with one depth more.
-fn with_depth(mark: u8, depth: u32) -> u8
-    requires { ⌜ (depth ≤ maxLive) × (has depth mark ≡ false) ⌝ }
-    ensures { λ r. ⌜ r ≡ withDepth depth mark ⌝ }
-{
-    mark + ((1u32 << depth) / 2) as u8
-}
-
-// Marks the cell of an entry. False where the entry's depth has the cell already. A free entry fits and leaves the marks as they are.
-fn mark_cell(seen: &mut [u8], word: u32) -> bool
-    requires { ⌜ (depthOf word ≤ maxLive) × (cellOf word < length (now seen)) ⌝ }
-    ensures { λ r. ⌜ (r ≡ not (has (depthOf word) (markAt (now (seen .entry)) word))) × (r ≡ true → now (seen .exit) ≡ markCell word (now (seen .entry))) ⌝ }
-{
-    let depth = depth_of(word);
-    let cell = cell_of(word);
-    let mark = seen[cell];
-    if has_depth(mark, depth) {
-        return false;
-    }
-    seen[cell] = with_depth(mark, depth);
-    true
-}
-
 // Does a mark have the depth outside this one: is the bit below its own set?
 fn has_parent(mark: u8, depth: u32) -> bool
     requires { ⌜ depth < 16 ⌝ }
@@ -214,19 +177,19 @@ fn has_parent(mark: u8, depth: u32) -> bool
 
 // Is an entry not via parent, or has its parent marked its cell?
 fn parent_marked(seen: &[u8], word: u32) -> bool
-    requires { ⌜ ((viaOf word ≡ 0 → ⊥) → (cellOf word < length (now seen)) × (2 ≤ depthOf word)) ⌝ }
+    requires { ⌜ ((viaOf word ≡ 0 → ⊥) → (cellOf word < cellsIn (now seen)) × (2 ≤ depthOf word)) ⌝ }
     ensures { λ r. ⌜ r ≡ parentTold word (now (seen .entry)) ⌝ }
 {
     if !is_via(word) {
         return true;
     }
-    has_parent(seen[cell_of(word)], depth_of(word))
+    has_parent(mark_of(seen, cell_of(word)), depth_of(word))
 }
 
 // Does every via parent entry rest on its parent?
 fn parents_ok(table: &[u32], slots: usize, seen: &[u8]) -> bool
     requires { ⌜ (slots ≤ maxSlots) × (pairsAt slots ≤ length (now table)) ⌝ }
-    requires { ⌜ ViasMarkable slots (now table) (length (now seen)) × Marked slots (now table) slots (now seen) × ViaInner slots (now table) ⌝ }
+    requires { ⌜ ViasMarkable slots (now table) (cellsIn (now seen)) × Marked slots (now table) slots (now seen) × ViaInner slots (now table) ⌝ }
     ensures { λ r. ⌜ r ≡ all slots (parentOk slots (now (table .entry))) ⌝ }
 {
     let mut rest = true;
@@ -237,20 +200,6 @@ fn parents_ok(table: &[u32], slots: usize, seen: &[u8]) -> bool
         i += 1;
     }
     rest
-}
-
-// No cell is marked. Each list of marks is made by a function of its own, so that the checker does not write it out.
-pub fn many_marks() -> [u8; 65536]
-    ensures { λ r. ⌜ r ≡ zeros 65536 ⌝ }
-{
-    [0u8; 65536]
-}
-
-// The same for a small memory, where clearing marks for the largest would take longer than all else.
-pub fn few_marks() -> [u8; 1024]
-    ensures { λ r. ⌜ r ≡ zeros 1024 ⌝ }
-{
-    [0u8; 1024]
 }
 
 // ---- entries beside each other: the bodies
@@ -295,13 +244,13 @@ fn four_free(table: &[u32], slots: usize, i: usize) -> bool
             & ((first_word(table, slots, i + 3) == 0) & (second_word(table, slots, i + 3) == 0)))
 }
 
-// Passes over free entries from `from` on, four at a time: most tables have room to spare, and the words of four free entries are asked at once.
-fn past_free(table: &[u32], slots: usize, from: usize) -> usize
-    requires { ⌜ (from ≤ slots) × (slots ≤ maxSlots) × (pairsAt slots ≤ length (now table)) ⌝ }
-    ensures { λ r. ⌜ (from ≤ r) × (r ≤ slots) × FreeRun slots (now (table .entry)) from r ⌝ }
+// Passes over free entries from `from` on and before `top`, four at a time: their words are asked at once.
+fn past_free(table: &[u32], slots: usize, top: usize, from: usize) -> usize
+    requires { ⌜ (from ≤ top) × (top ≤ slots) × (slots ≤ maxSlots) × (pairsAt slots ≤ length (now table)) ⌝ }
+    ensures { λ r. ⌜ (from ≤ r) × (r ≤ top) × FreeRun slots (now (table .entry)) from r ⌝ }
 {
     let mut i = from;
-    while i + 4 <= slots {
+    while i + 4 <= top {
         if !four_free(table, slots, i) {
             return i;
         }
@@ -310,18 +259,53 @@ fn past_free(table: &[u32], slots: usize, from: usize) -> usize
     i
 }
 
-// The entry to pass next, from `from` on: that one where it is in use, which is asked first, since entries in use mostly stand side by side.
-fn next_entry(table: &[u32], slots: usize, from: usize) -> usize
-    requires { ⌜ (from ≤ slots) × (slots ≤ maxSlots) × (pairsAt slots ≤ length (now table)) ⌝ }
-    ensures { λ r. ⌜ (from ≤ r) × (r ≤ slots) × FreeRun slots (now (table .entry)) from r ⌝ }
+// The entry to pass next, from `from` on and before `top`: that one where it is in use, which is asked first, since entries in use mostly stand
+// side by side.
+fn next_entry(table: &[u32], slots: usize, top: usize, from: usize) -> usize
+    requires { ⌜ (from ≤ top) × (top ≤ slots) × (slots ≤ maxSlots) × (pairsAt slots ≤ length (now table)) ⌝ }
+    ensures { λ r. ⌜ (from ≤ r) × (r ≤ top) × FreeRun slots (now (table .entry)) from r ⌝ }
 {
-    if from == slots {
-        return slots;
+    if from == top {
+        return top;
     }
     if first_word(table, slots, from) != 0 {
         return from;
     }
-    past_free(table, slots, from)
+    past_free(table, slots, top, from)
+}
+
+// A number of entries behind which all are free. Entries are taken from the front and most tables have room to spare: every pass over the
+// entries ends there. Four are asked at once, so that the number may be three too large.
+fn last_in_use(table: &[u32], slots: usize) -> usize
+    requires { ⌜ (slots ≤ maxSlots) × (pairsAt slots ≤ length (now table)) ⌝ }
+    ensures { λ r. ⌜ EndsAt slots (now (table .entry)) r ⌝ }
+{
+    let mut n = slots;
+    while 4 <= n {
+        if !four_free(table, slots, n - 4) {
+            return n;
+        }
+        n -= 4;
+    }
+    n
+}
+
+// How many entries question 4 passes: those up to the last in use; all of them where pairs are pending, which may fill others. It is asked before
+// any question, of a table of any length, since it says how much room for marks the call needs.
+pub fn reach_of(table: &[u32]) -> usize
+    ensures { λ r. ⌜ Reached (now (table .entry)) r ⌝ }
+{
+    let slots = slots_of(table.len());
+    if slots < 1 {
+        return 0;
+    }
+    if MAX_SLOTS < slots {
+        return 0;
+    }
+    if table[PENDING_AT] != 0 {
+        return slots;
+    }
+    last_in_use(table, slots)
 }
 
 // Is entry i right, by itself and beside those in front of it? Marks its cell and, of a copy, its body.
@@ -335,7 +319,7 @@ fn pass_entry(
     used: &mut [u8],
 ) -> bool
     requires { ⌜ (i < slots) × (slots ≤ maxSlots) × (pairsAt slots ≤ length (now table)) × (live (now table) ≤ maxLive)
-        × (cells ≤ maxCells) × (cells ≤ length (now seen)) × (bodies ≤ length (now used)) ⌝ }
+        × (cells ≤ maxCells) × Room (i + 1) cells (now seen) × (bodies ≤ length (now used)) ⌝ }
     requires { ⌜ Passed cells slots bodies (now table) i (now seen) (now used) ⌝ }
     ensures right { λ r. ⌜ (r ≡ true → Passed cells slots bodies (now (table .entry)) (i + 1) (now (seen .exit)) (now (used .exit))) ⌝ }
     ensures wrong { λ r. ⌜ (r ≡ false → ruleOk cells slots bodies (now (table .entry)) ≡ false) ⌝ }
@@ -360,30 +344,31 @@ pub struct Pass {
     pub vias: usize,
 }
 
-// Passes over all entries, up to the first that is not right, and marks their cells and bodies.
+// Passes over all entries in use, up to the first that is not right, and marks their cells and bodies.
 fn pass_entries(
     table: &[u32],
     cells: u32,
     slots: usize,
+    top: usize,
     bodies: u32,
     seen: &mut [u8],
     used: &mut [u8],
 ) -> Pass
     requires { ⌜ (slots ≤ maxSlots) × (pairsAt slots ≤ length (now table)) × (live (now table) ≤ maxLive)
-        × (cells ≤ maxCells) × (cells ≤ length (now seen)) × (bodies ≤ length (now used)) ⌝ }
+        × (cells ≤ maxCells) × EndsAt slots (now table) top × Room top cells (now seen) × (bodies ≤ length (now used)) ⌝ }
     requires { ⌜ Blank (now seen) × Blank (now used) ⌝ }
     ensures right { λ r. ⌜ (r .right ≡ true → Passed cells slots bodies (now (table .entry)) slots (now (seen .exit)) (now (used .exit))
         × NoVias slots (now (table .entry)) slots (r .vias)) ⌝ }
     ensures wrong { λ r. ⌜ (r .right ≡ false → ruleOk cells slots bodies (now (table .entry)) ≡ false) ⌝ }
 {
     let mut vias: usize = 0;
-    let mut i = next_entry(table, slots, 0);
-    while i < slots {
+    let mut i = next_entry(table, slots, top, 0);
+    while i < top {
         if !pass_entry(table, cells, slots, bodies, i, seen, used) {
             return Pass { right: false, vias };
         }
         vias += via_of(first_word(table, slots, i));
-        i = next_entry(table, slots, i + 1);
+        i = next_entry(table, slots, top, i + 1);
     }
     Pass { right: true, vias }
 }
@@ -391,15 +376,17 @@ fn pass_entries(
 // ---- the rule of a table with no pending pairs
 
 // Are words 4, 5, 8 to 15 and the entries right? The marks that tell it are left in `seen`, of cells, and `used`, of bodies, for the caller to go on with.
-pub fn rule_ok(
+fn rule_ok(
     table: &[u32],
     cells: usize,
     slots: usize,
+    top: usize,
     bodies: usize,
     seen: &mut [u8],
     used: &mut [u8],
 ) -> bool
-    requires { ⌜ (slots ≤ maxSlots) × (pairsAt slots ≤ length (now table)) × (bodies ≤ maxBodies) × (min cells maxCells ≤ length (now seen)) × (bodies ≤ length (now used)) ⌝ }
+    requires { ⌜ (slots ≤ maxSlots) × (pairsAt slots ≤ length (now table)) × (bodies ≤ maxBodies) × EndsAt slots (now table) top
+        × Room top cells (now seen) × (bodies ≤ length (now used)) ⌝ }
     requires { ⌜ Blank (now seen) × Blank (now used) ⌝ }
     ensures { λ r. ⌜ r ≡ ruleOk cells slots bodies (now (table .entry)) ⌝ }
     ensures marks { λ r. ⌜ (r ≡ true → AllMarked slots (now (table .entry)) (now (seen .exit)) (now (used .exit))) ⌝ }
@@ -407,7 +394,15 @@ pub fn rule_ok(
     if !head_ok(table) {
         return false;
     }
-    let pass = pass_entries(table, cells_word(cells), slots, bodies as u32, seen, used);
+    let pass = pass_entries(
+        table,
+        cells_word(cells),
+        slots,
+        top,
+        bodies as u32,
+        seen,
+        used,
+    );
     if !pass.right {
         return false;
     }
@@ -502,7 +497,7 @@ fn pending_ok(
     used: &mut [u8],
 ) -> bool
     requires { ⌜ (slots ≤ maxSlots) × (length (now table) ≡ tableWords slots) × (bodies ≤ maxBodies)
-        × (pairsOk slots (now table) ≡ true) × (min cells maxCells ≤ length (now seen)) × (bodies ≤ length (now used)) ⌝ }
+        × (pairsOk slots (now table) ≡ true) × Room slots cells (now seen) × (bodies ≤ length (now used)) ⌝ }
     requires { ⌜ Blank (now seen) × Blank (now used) ⌝ }
     ensures { λ r. ⌜ r ≡ ruleOk cells slots bodies (effective (pairsAt slots) (now (table .entry))) ⌝ }
 {
@@ -510,28 +505,48 @@ fn pending_ok(
     let mut copy = no_words();
     copy_words(table, first, &mut copy);
     put_pairs(table, first, wide(table[PENDING_AT]), &mut copy);
-    rule_ok(&copy, cells, slots, bodies, seen, used)
+    rule_ok(&copy, cells, slots, slots, bodies, seen, used)
 }
 
-// Question 4: is the table right, pending pairs included? With none pending it is its own meaning, no copy is made, and the marks are its own.
-pub fn table_ok(
+// Question 4 of a table with no pending pairs, which is its own meaning: no copy is made, and the marks are its own. `top` is how far to pass.
+pub fn idle_ok(
     table: &[u32],
     cells: usize,
     slots: usize,
+    top: usize,
     bodies: usize,
     seen: &mut [u8],
     used: &mut [u8],
 ) -> bool
-    requires { ⌜ (slots ≤ maxSlots) × (length (now table) ≡ tableWords slots) × (bodies ≤ maxBodies) × (min cells maxCells ≤ length (now seen)) × (bodies ≤ length (now used)) ⌝ }
+    requires { ⌜ (slots ≤ maxSlots) × (length (now table) ≡ tableWords slots) × (bodies ≤ maxBodies) × EndsAt slots (now table) top
+        × Room top cells (now seen) × (bodies ≤ length (now used)) ⌝ }
+    requires { ⌜ Blank (now seen) × Blank (now used) × (pending (now table) ≡ 0) ⌝ }
+    ensures { λ r. ⌜ r ≡ tableOk cells slots bodies (now (table .entry)) ⌝ }
+    ensures marks { λ r. ⌜ (r ≡ true → AllMarked slots (now (table .entry)) (now (seen .exit)) (now (used .exit))) ⌝ }
+{
+    rule_ok(table, cells, slots, top, bodies, seen, used)
+}
+
+// Question 4: is the table right, pending pairs included?
+pub fn table_ok(
+    table: &[u32],
+    cells: usize,
+    slots: usize,
+    top: usize,
+    bodies: usize,
+    seen: &mut [u8],
+    used: &mut [u8],
+) -> bool
+    requires { ⌜ (slots ≤ maxSlots) × (length (now table) ≡ tableWords slots) × (bodies ≤ maxBodies) × Reaches slots (now table) top
+        × Room top cells (now seen) × (bodies ≤ length (now used)) ⌝ }
     requires { ⌜ Blank (now seen) × Blank (now used) ⌝ }
     ensures { λ r. ⌜ r ≡ tableOk cells slots bodies (now (table .entry)) ⌝ }
-    ensures marks { λ r. ⌜ (r ≡ true → pending (now (table .entry)) ≡ 0 → AllMarked slots (now (table .entry)) (now (seen .exit)) (now (used .exit))) ⌝ }
 {
     if !pairs_ok(table, slots) {
         return false;
     }
     if table[PENDING_AT] == 0 {
-        return rule_ok(table, cells, slots, bodies, seen, used);
+        return idle_ok(table, cells, slots, top, bodies, seen, used);
     }
     pending_ok(table, cells, slots, bodies, seen, used)
 }

@@ -17,8 +17,8 @@ returns c = rw (eq-eqb _ _ (via-zero (c .before .before .before .args .word) (sy
 cell-of-requires : tie.Need-cell-of-requires
 cell-of-requires c κs = search needs
 
-shared-slice-read-has-parent : tie.Need-shared-slice-read-has-parent
-shared-slice-read-has-parent c = let via : viaOf (c .before .before .before .before .before .args .word) ≡ 0 → ⊥ = via-some (c .before .before .before .before .before .args .word) (sym (c .before .before .before .is-via .ensures) ∙ not-false _ (c .before .before .if1 .left)) in omega (arith, c .before .cell-of .ensures, c .before .before .before .before .before .pre via .0)
+mark-of-requires : tie.Need-mark-of-requires
+mark-of-requires c κs = let via : viaOf (c .before .before .before .before .args .word) ≡ 0 → ⊥ = via-some (c .before .before .before .before .args .word) (sym (c .before .before .is-via .ensures) ∙ not-false _ (c .before .if1 .left)) in rw (c .cell-of .ensures) (c .before .before .before .before .pre via .0)
 
 depth-of-requires : tie.Need-depth-of-requires
 depth-of-requires c κs = search needs
@@ -30,7 +30,7 @@ returns-2 : tie.Need-returns-2
 returns-2 c =
     let via : viaOf (c .before .before .before .before .before .before .before .args .word) ≡ 0 → ⊥ = via-some (c .before .before .before .before .before .before .before .args .word) (sym (c .before .before .before .before .before .is-via .ensures) ∙ not-false _ (c .before .before .before .before .if1 .left)) in
     let deep = c .before .before .before .before .before .before .before .pre via .1 in
-    rw (ne-eqb _ _ via) (rw (c .before .before .before .cell-of .ensures, c .before .depth-of .ensures) at (c .has-parent .ensures (omega (arith, c .before .depth-of .ensures, deep))))
+    rw (ne-eqb _ _ via) (rw (c .before .before .mark-of .ensures, c .before .before .before .cell-of .ensures, c .before .depth-of .ensures) at (c .has-parent .ensures (omega (arith, c .before .depth-of .ensures, deep))))
 
 pub parent-marked-spec : {M : Type 1} → statement M
 parent-marked-spec =
@@ -39,7 +39,7 @@ parent-marked-spec =
     is-via-requires
     returns
     cell-of-requires
-    shared-slice-read-has-parent
+    mark-of-requires
     depth-of-requires
     has-parent-requires
     returns-2)

@@ -1,6 +1,6 @@
 -- `table::pass_entries` meets its contract. The loop's invariant: the entries in front are right and marked, and `vias` counts those via parent. Assumes nothing.
 use Prim.Native.Nat.{ℕ, _+_, _-_, _≤_}
-use mathlib.Core.Path.{_≡_, refl, ap, subst, _∙_}
+use mathlib.Core.Path.{_≡_, refl, sym, ap, _∙_}
 use native.Mathlib.Omega.{arith}
 use borrow.Author.Tests.{not-true, not-false}
 use borrow.Author.Needs.{needs}
@@ -13,10 +13,10 @@ use Rattle.table.proofs.pass_entries.Statement.{statement}
 use Rattle.table.proofs.pass_entries.Tie as tie
 
 abbrev Inv-loop : tie.InvT-loop
-Inv-loop table cells slots bodies seen₀ used₀ vias₀ i₀ seen used vias i = (i ≤ slots) × (vias ≤ i) × (length seen ≡ length seen₀) × (length used ≡ length used₀) × Passed cells slots bodies table i seen used × NoVias slots table i vias
+Inv-loop table cells slots top bodies seen₀ used₀ vias₀ i₀ seen used vias i = (i ≤ top) × (vias ≤ i) × (length seen ≡ length seen₀) × (length used ≡ length used₀) × Passed cells slots bodies table i seen used × NoVias slots table i vias
 
 abbrev μ-loop : tie.MeasureT-loop
-μ-loop table cells slots bodies seen₀ used₀ vias₀ i₀ seen used vias i = slots - i
+μ-loop table cells slots top bodies seen₀ used₀ vias₀ i₀ seen used vias i = top - i
 
 next-entry-requires : tie.Need-next-entry-requires Inv-loop μ-loop
 next-entry-requires c κs = search needs
@@ -28,12 +28,12 @@ loop-holds c = let a = c .before .before .before .before .args in
       omega arith,
       refl,
       refl,
-      passed-free (a .cells) (a .slots) (a .bodies) (a .table .now) 0 (a .seen .now) (a .used .now) (passed-none (a .cells) (a .slots) (a .bodies) (a .table .now) (a .seen .now) (a .used .now) (c .before .before .before .before .pre .1 .0) (c .before .before .before .before .pre .1 .1)) (c .next-entry .result) (run .0) (run .2),
+      passed-free (a .cells) (a .slots) (a .bodies) (a .table .now) 0 (a .seen .now) (a .used .now) (passed-none (a .cells) (a .slots) (a .bodies) (a .table .now) (a .seen .now) (a .used .now) (c .before .before .before .before .pre .1 .0) (c .before .before .before .before .pre .1 .1) (omega (arith, c .before .before .before .before .pre .0 .5))) (c .next-entry .result) (run .0) (run .2),
       vias-free (a .slots) (a .table .now) 0 (c .next-entry .result) 0 (run .0) (run .2) (λ none k l. absurd (omega (arith, l))),
     )
 
 pass-entry-requires : tie.Need-pass-entry-requires Inv-loop μ-loop
-pass-entry-requires c κs = let turn = c .before .before .before .loop in ((c .before .before .loop-test .taken, search needs, search needs, search needs, search needs, omega (arith, turn .inv .2), omega (arith, turn .inv .3)), turn .inv .4)
+pass-entry-requires c κs = let turn = c .before .before .before .loop in ((omega (arith, c .before .before .loop-test .taken, c .before .before .before .before .before .before .before .before .pre .0 .4 .0), search needs, search needs, search needs, search needs, omega (arith, c .before .before .loop-test .taken, turn .inv .2, c .before .before .before .before .before .before .before .before .pre .0 .5), omega (arith, turn .inv .3)), turn .inv .4)
 
 same-length : tie.Need-same-length Inv-loop μ-loop
 same-length c = c .before .before .before .before .before .pass-entry .kept .1 .1 .1 .1 .1 .0 ∙ c .before .before .before .before .before .before .before .before .before .loop .inv .2
@@ -85,8 +85,11 @@ same-length-4 c = c .before .loop .inv .3
 returns-2 : tie.Need-returns-2 Inv-loop μ-loop
 returns-2 c = let turn = c .before .loop in
     let a = c .before .before .before .before .before .before .args in
-    let e : turn .i ≡ a .slots = omega arith in (
-      (λ r. (subst (λ (n : ℕ). Passed (a .cells) (a .slots) (a .bodies) (a .table .now) n (turn .seen) (turn .used)) e (turn .inv .4), subst (λ (n : ℕ). NoVias (a .slots) (a .table .now) n (turn .vias)) e (turn .inv .5))),
+    let ends = c .before .before .before .before .before .before .pre .0 .4 in
+    let e : turn .i ≡ a .top = omega arith in
+    let low : turn .i ≤ a .slots = omega (arith, e, ends .0) in
+    let free = rw (sym e) at (ends .1) in (
+      (λ r. (passed-free (a .cells) (a .slots) (a .bodies) (a .table .now) (turn .i) _ _ (turn .inv .4) (a .slots) low free, vias-free (a .slots) (a .table .now) (turn .i) (a .slots) (turn .vias) low free (turn .inv .5))),
       (λ r. absurd (true≢ refl r)),
     )
 

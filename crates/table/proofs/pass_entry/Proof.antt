@@ -10,7 +10,7 @@ use Rattle.table.specs.Marks.{has, markAt}
 use Rattle.table.specs.Rule.{kindOk}
 use Rattle.table.proofs.Rule.{entry-used}
 use Rattle.table.proofs.Marks.{owns-facts}
-use Rattle.table.proofs.Passing.{placed-facts, free-wrong, passed-free, passed-more, cell-taken, body-taken, entry-parts, entry-wrong}
+use Rattle.table.proofs.Passing.{placed-facts, free-wrong, passed-free, passed-spare, passed-more, cell-taken, body-taken, entry-parts, entry-wrong}
 use borrow.Author.Needs.{needs}
 use Rattle.table.proofs.pass_entry.Statement.{statement}
 use Rattle.table.proofs.pass_entry.Tie as tie
@@ -42,8 +42,11 @@ returns-2 c = let a = c .before .before .before .before .before .before .before 
     ((λ r. absurd (true≢ r refl)), (λ r. entry-wrong (a .cells) (a .slots) (a .bodies) (a .table .now) (a .i) (c .before .before .before .before .before .before .before .before .before .pre .0 .0) (entry-parts (a .cells) (a .slots) (a .bodies) (a .table .now) (a .i) used-word ∙ rw off)))
 
 mark-cell-requires : tie.Need-mark-cell-requires
-mark-cell-requires c κs = let on = placed-facts (c .before .before .before .before .before .before .before .before .before .before .args .cells) (live (c .before .before .before .before .before .before .before .before .before .before .args .table .now)) (c .before .before .before .before .before .before .first-word .result) (sym (c .before .before .place-ok .ensures) ∙ not-false _ (c .before .if2 .left)) in
-    (omega (arith, on .1), omega (arith, on .2))
+mark-cell-requires c κs = let a = c .before .before .before .before .before .before .before .before .before .before .args in
+    let start = c .before .before .before .before .before .before .before .before .before .before in
+    let on = placed-facts (c .before .before .before .before .before .before .before .before .before .before .args .cells) (live (c .before .before .before .before .before .before .before .before .before .before .args .table .now)) (c .before .before .before .before .before .before .first-word .result) (sym (c .before .before .place-ok .ensures) ∙ not-false _ (c .before .if2 .left)) in
+    let inside = rw (c .before .before .before .before .before .before .first-word .ensures) at (on .2) in
+    (omega (arith, on .1), start .pre .1 .kept, rw (c .before .before .before .before .before .before .first-word .ensures) (passed-spare (a .cells) (a .slots) (a .bodies) (a .table .now) (a .i) (a .seen .now) (a .used .now) (start .pre .1) (start .pre .0 .0) inside (start .pre .0 .5)))
 
 same-length : tie.Need-same-length
 same-length c = search needs
@@ -76,7 +79,7 @@ returns-4 c = let a = c .before .before .before .before .before .before .before 
           let ok = parts ∙ and-join _ _ on (told .0) in
           let u = entry-used (a .cells) (a .slots) (a .bodies) (a .table .now) (a .i) ok used-word in
           rw (c .before .before .before .before .before .before .before .mark-cell .ensures .1 fits, c .before .before .before .before .before .before .before .before .before .before .before .before .before .before .first-word .ensures, told .2)
-          (passed-more (a .cells) (a .slots) (a .bodies) (a .table .now) (a .i) (a .seen .now) (a .used .now) (c .before .before .before .before .before .before .before .before .before .before .before .before .before .before .before .before .before .before .pre .1) (c .before .before .before .before .before .before .before .before .before .before .before .before .before .before .before .before .before .before .pre .0 .0) ok free (omega (arith, u .cell)) (told .1) (λ copy. omega (arith, u .copy (owns-facts _ copy .1))))),
+          (passed-more (a .cells) (a .slots) (a .bodies) (a .table .now) (a .i) (a .seen .now) (a .used .now) (c .before .before .before .before .before .before .before .before .before .before .before .before .before .before .before .before .before .before .pre .1) (c .before .before .before .before .before .before .before .before .before .before .before .before .before .before .before .before .before .before .pre .0 .0) ok free (u .cell) (c .before .before .before .before .before .before .before .before .before .before .before .before .before .before .before .before .before .before .pre .0 .5) (told .1) (λ copy. omega (arith, u .copy (owns-facts _ copy .1))))),
       (λ r.
           by-bool (kindOk (a .bodies) (word1 (a .slots) (a .table .now) (a .i)) (word2 (a .slots) (a .table .now) (a .i)))
           (λ k. body-taken (a .cells) (a .slots) (a .bodies) (a .table .now) (a .i) (a .seen .now) (a .used .now) (c .before .before .before .before .before .before .before .before .before .before .before .before .before .before .before .before .before .before .pre .1) (c .before .before .before .before .before .before .before .before .before .before .before .before .before .before .before .before .before .before .pre .0 .0) (rw (c .before .before .before .before .before .before .before .before .before .before .before .before .before .before .first-word .ensures, c .before .before .before .before .before .before .before .before .before .before .before .before .before .second-word .ensures) at (c .before .before .mark-body .ensures .1 r (rw (c .before .before .before .before .before .before .before .before .before .before .before .before .before .before .first-word .ensures, c .before .before .before .before .before .before .before .before .before .before .before .before .before .second-word .ensures) k))))

@@ -9,10 +9,10 @@ use Rattle.table.proofs.past_free.Statement.{statement}
 use Rattle.table.proofs.past_free.Tie as tie
 
 abbrev Inv-loop : tie.InvT-loop
-Inv-loop table slots from i₀ i = (from ≤ i) × (i ≤ slots) × FreeRun slots table from i
+Inv-loop table slots top from i₀ i = (from ≤ i) × (i ≤ top) × FreeRun slots table from i
 
 abbrev μ-loop : tie.MeasureT-loop
-μ-loop table slots from i₀ i = slots - i
+μ-loop table slots top from i₀ i = top - i
 
 loop-holds : tie.Need-loop-holds Inv-loop μ-loop
 loop-holds c = (search needs, search needs, (λ k low high. absurd (omega arith)))

@@ -51,7 +51,7 @@ slice-aggregate-rule-ok : tie.Need-slice-aggregate-rule-ok
 slice-aggregate-rule-ok c = search needs
 
 rule-ok-requires : tie.Need-rule-ok-requires
-rule-ok-requires c κs = ((search needs, search needs, search needs, c .before .before .before .before .before .before .before .before .before .before .before .before .before .before .before .before .pre .0 .4, c .before .before .before .before .before .before .before .before .before .before .before .before .before .before .before .before .pre .0 .5), (c .before .before .before .before .before .before .before .before .before .before .before .before .before .before .before .before .pre .1 .0, c .before .before .before .before .before .before .before .before .before .before .before .before .before .before .before .before .pre .1 .1))
+rule-ok-requires c κs = ((search needs, search needs, search needs, (omega arith, λ i low high. absurd (omega (arith, low, high))), c .before .before .before .before .before .before .before .before .before .before .before .before .before .before .before .before .pre .0 .4, c .before .before .before .before .before .before .before .before .before .before .before .before .before .before .before .before .pre .0 .5), (c .before .before .before .before .before .before .before .before .before .before .before .before .before .before .before .before .pre .1 .0, c .before .before .before .before .before .before .before .before .before .before .before .before .before .before .before .before .pre .1 .1))
 
 same-length : tie.Need-same-length
 same-length c = search needs

@@ -5,7 +5,7 @@ use borrow.Author.Tests.{not-true, not-false}
 use Rattle.words.proofs.Scan.{true≢}
 use Rattle.table.proofs.Rule.{no-head}
 use Rattle.table.proofs.Parts.{live-small, entries-inner, entries-markable, decided}
-use Rattle.table.proofs.Passing.{pass-entries, pass-marks, pass-right, pass-wrong, pass-alone, rule-least}
+use Rattle.table.proofs.Passing.{passed-cells, pass-entries, pass-marks, pass-right, pass-wrong, pass-alone, rule-least}
 use borrow.Author.Needs.{needs}
 use Rattle.table.proofs.rule_ok.Statement.{statement}
 use Rattle.table.proofs.rule_ok.Tie as tie
@@ -24,7 +24,7 @@ cast-pass-entries c = search needs
 
 pass-entries-requires : tie.Need-pass-entries-requires
 pass-entries-requires c κs = let small = live-small 0 0 0 (c .before .before .before .before .before .before .before .before .args .table .now) (sym (c .before .before .before .before .head-ok .ensures) ∙ not-false _ (c .before .before .before .if1 .left)) in
-    ((search needs, search needs, small, omega (arith, c .before .before .cells-word .ensures), omega (arith, c .before .before .cells-word .ensures), search needs), (c .before .before .before .before .before .before .before .before .pre .1 .0, c .before .before .before .before .before .before .before .before .pre .1 .1))
+    ((search needs, search needs, small, omega (arith, c .before .before .cells-word .ensures), c .before .before .before .before .before .before .before .before .pre .0 .3, omega (arith, c .before .before .cells-word .ensures, c .before .before .before .before .before .before .before .before .pre .0 .4), search needs), (c .before .before .before .before .before .before .before .before .pre .1 .0, c .before .before .before .before .before .before .before .before .pre .1 .1))
 
 same-length : tie.Need-same-length
 same-length c = search needs
@@ -54,7 +54,7 @@ parents-ok-requires c κs = let a = c .before .before .before .before .before .b
     let passed = c .before .before .before .before .before .before .before .before .before .pass-entries .ensures .0 (not-false _ (c .before .before .before .if2 .left)) in
     let head = sym (c .before .before .before .before .before .before .before .before .before .before .before .before .before .before .head-ok .ensures) ∙ not-false _ (c .before .before .before .before .before .before .before .before .before .before .before .before .before .if1 .left) in
     let entries = pass-entries (c .before .before .before .before .before .before .before .before .before .before .before .before .cells-word .result) (a .slots) (a .bodies) (a .table .now) _ _ (passed .0) head in
-    ((search needs, search needs), (entries-markable (c .before .before .before .before .before .before .before .before .before .before .before .before .cells-word .result) (a .slots) (a .bodies) (a .table .now) entries _ (omega (arith, c .before .before .before .before .before .before .before .before .before .before .before .before .cells-word .ensures, c .before .before .before .before .before .before .before .before .before .pass-entries .kept .1 .1 .1 .1 .0)), passed .0 .cells, entries-inner (c .before .before .before .before .before .before .before .before .before .before .before .before .cells-word .result) (a .slots) (a .bodies) (a .table .now) entries))
+    ((search needs, search needs), (entries-markable (c .before .before .before .before .before .before .before .before .before .before .before .before .cells-word .result) (a .slots) (a .bodies) (a .table .now) entries _ (rw (passed-cells _ _ _ _ _ _ _ (passed .0)) (omega (arith, c .before .before .before .before .before .before .before .before .before .before .before .before .cells-word .ensures))), passed .0 .cells, entries-inner (c .before .before .before .before .before .before .before .before .before .before .before .before .cells-word .result) (a .slots) (a .bodies) (a .table .now) entries))
 
 same-length-5 : tie.Need-same-length-5
 same-length-5 c = search needs

@@ -1,12 +1,7 @@
--- `table::table_ok` meets its contract. With nothing pending the effective table agrees with the table in every word that the rule reads. Assumes nothing.
-use mathlib.Core.Path.{refl, sym, _∙_}
+-- `table::table_ok` meets its contract. Assumes nothing.
+use mathlib.Core.Path.{sym, _∙_}
 use borrow.Author.Tests.{not-true, not-false}
-use Rattle.words.specs.Layout.{pairsAt}
-use Rattle.words.specs.Journal.{effective}
-use Rattle.words.proofs.Scan.{true≢}
 use Rattle.table.specs.Rule.{tableOk}
-use Rattle.table.proofs.Agree.{rule-same}
-use Rattle.table.proofs.Pairs.{idle-same}
 use borrow.Author.Needs.{needs}
 use Rattle.table.proofs.table_ok.Statement.{statement}
 use Rattle.table.proofs.table_ok.Tie as tie
@@ -16,13 +11,13 @@ pairs-ok-requires c κs = search needs
 
 returns : tie.Need-returns
 unfolding tableOk
-returns c = (rw (sym (c .before .pairs-ok .ensures) ∙ not-true _ (c .if1 .taken)), (λ r. absurd (true≢ r refl)))
+returns c = rw (sym (c .before .pairs-ok .ensures) ∙ not-true _ (c .if1 .taken))
 
 shared-slice-read-if2 : tie.Need-shared-slice-read-if2
 shared-slice-read-if2 c = search needs
 
-rule-ok-requires : tie.Need-rule-ok-requires
-rule-ok-requires c κs = ((search needs, search needs, search needs, c .before .before .before .before .before .before .before .before .before .pre .0 .3, c .before .before .before .before .before .before .before .before .before .pre .0 .4), (c .before .before .before .before .before .before .before .before .before .pre .1 .0, c .before .before .before .before .before .before .before .before .before .pre .1 .1))
+idle-ok-requires : tie.Need-idle-ok-requires
+idle-ok-requires c κs = let p = c .before .before .before .before .before .before .before .before .before .pre in ((p .0 .0, p .0 .1, p .0 .2, p .0 .3 .0, p .0 .4, p .0 .5), (p .1 .0, p .1 .1, c .before .before .if2 .taken))
 
 same-length : tie.Need-same-length
 same-length c = search needs
@@ -31,16 +26,10 @@ same-length-2 : tie.Need-same-length-2
 same-length-2 c = search needs
 
 returns-2 : tie.Need-returns-2
-unfolding tableOk
-returns-2 c = let a = c .before .before .before .before .before .before .before .before .before .before .before .before .before .before .args in
-    let t = a .table .now in (
-      rw (sym (c .before .before .before .before .before .before .before .before .before .before .pairs-ok .ensures) ∙ not-false _ (c .before .before .before .before .before .before .before .before .before .if1 .left))
-          (c .before .before .before .before .rule-ok .ensures .0 ∙ sym (rule-same (a .cells) (a .slots) (a .bodies) (effective (pairsAt (a .slots)) t) t (idle-same (pairsAt (a .slots)) t (c .before .before .before .before .before .before .before .if2 .taken)))),
-      (λ r z. c .before .before .before .before .rule-ok .ensures .1 r),
-    )
+returns-2 c = c .before .before .before .before .idle-ok .ensures .0
 
 pending-ok-requires : tie.Need-pending-ok-requires
-pending-ok-requires c κs = ((search needs, search needs, search needs, sym (c .before .before .before .before .before .pairs-ok .ensures) ∙ not-false _ (c .before .before .before .before .if1 .left), c .before .before .before .before .before .before .before .before .before .pre .0 .3, c .before .before .before .before .before .before .before .before .before .pre .0 .4), (c .before .before .before .before .before .before .before .before .before .pre .1 .0, c .before .before .before .before .before .before .before .before .before .pre .1 .1))
+pending-ok-requires c κs = ((search needs, search needs, search needs, sym (c .before .before .before .before .before .pairs-ok .ensures) ∙ not-false _ (c .before .before .before .before .if1 .left), rw (sym (c .before .before .before .before .before .before .before .before .before .pre .0 .3 .1 (c .before .before .if2 .left))) (c .before .before .before .before .before .before .before .before .before .pre .0 .4), c .before .before .before .before .before .before .before .before .before .pre .0 .5), (c .before .before .before .before .before .before .before .before .before .pre .1 .0, c .before .before .before .before .before .before .before .before .before .pre .1 .1))
 
 same-length-3 : tie.Need-same-length-3
 same-length-3 c = search needs
@@ -50,7 +39,7 @@ same-length-4 c = search needs
 
 returns-3 : tie.Need-returns-3
 unfolding tableOk
-returns-3 c = (rw (sym (c .before .before .before .before .before .before .before .before .before .before .pairs-ok .ensures) ∙ not-false _ (c .before .before .before .before .before .before .before .before .before .if1 .left)) (c .before .before .before .before .pending-ok .ensures), (λ r z. absurd (c .before .before .before .before .before .before .before .if2 .left z)))
+returns-3 c = rw (sym (c .before .before .before .before .before .before .before .before .before .before .pairs-ok .ensures) ∙ not-false _ (c .before .before .before .before .before .before .before .before .before .if1 .left)) (c .before .before .before .before .pending-ok .ensures)
 
 pub table-ok-spec : {M : Type 1} → statement M
 table-ok-spec =
@@ -59,7 +48,7 @@ table-ok-spec =
     pairs-ok-requires
     returns
     shared-slice-read-if2
-    rule-ok-requires
+    idle-ok-requires
     same-length
     same-length-2
     returns-2

@@ -1,8 +1,8 @@
--- `table::many_marks` meets its contract. Assumes nothing.
+-- `table::cell_marks::many_marks` meets its contract. Assumes nothing.
 use mathlib.Core.Path.{refl}
 use Rattle.table.specs.Marks.{zeros}
-use Rattle.table.proofs.many_marks.Statement.{statement}
-use Rattle.table.proofs.many_marks.Tie as tie
+use Rattle.table.proofs.cell_marks.many_marks.Statement.{statement}
+use Rattle.table.proofs.cell_marks.many_marks.Tie as tie
 
 returns : tie.Need-returns
 unfolding zeros

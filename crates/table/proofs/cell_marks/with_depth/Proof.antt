@@ -1,9 +1,9 @@
--- `table::with_depth` meets its contract. Assumes nothing.
+-- `table::cell_marks::with_depth` meets its contract. Assumes nothing.
 use native.Mathlib.Omega.{arith}
 use borrow.Author.Needs.{needs}
 use Rattle.table.proofs.Digits.{bit-small, depth-fits}
-use Rattle.table.proofs.with_depth.Statement.{statement}
-use Rattle.table.proofs.with_depth.Tie as tie
+use Rattle.table.proofs.cell_marks.with_depth.Statement.{statement}
+use Rattle.table.proofs.cell_marks.with_depth.Tie as tie
 
 shl-result : tie.Need-shl-result
 shl-result c = search needs

@@ -1,8 +1,8 @@
--- `table::few_marks` meets its contract. Assumes nothing.
+-- `table::cell_marks::few_marks` meets its contract. Assumes nothing.
 use mathlib.Core.Path.{refl}
 use Rattle.table.specs.Marks.{zeros}
-use Rattle.table.proofs.few_marks.Statement.{statement}
-use Rattle.table.proofs.few_marks.Tie as tie
+use Rattle.table.proofs.cell_marks.few_marks.Statement.{statement}
+use Rattle.table.proofs.cell_marks.few_marks.Tie as tie
 
 returns : tie.Need-returns
 unfolding zeros

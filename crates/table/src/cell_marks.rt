@@ -1,0 +1,158 @@
+// The marks of cells: which domains hold a cell, told by the entries passed so far.
+//
+// They are kept in blocks of 64 that are taken as cells are marked, so that a call costs what the table has and not what memory has. In front
+// stands the directory, in numbers of two bytes: how many blocks are taken, then for each group of 64 cells the number of its block, 0 where it
+// has none. The blocks stand behind it; block 0 belongs to no group and is blank. How marks are kept is known here alone.
+use crate::fields::cell_of;
+use crate::fields::depth_of;
+use words::layout::GROUP_SIZE;
+ghost use mathlib.Core.Path.{_≡_};
+ghost use mathlib.Core.Bool.{true, false, not};
+ghost use Prim.Native.Nat.{ℕ, _+_, _*_, _/_, _<_, _≤_};
+ghost use lib.ListN.{length, set};
+ghost use Rattle.words.specs.Layout.{maxCells, maxLive, groupOf};
+ghost use Rattle.table.specs.Entry.{depthOf, cellOf};
+ghost use Rattle.table.specs.Blocks.{number, putNumber, taken, blockOf, maxGroups, directoryEnd, placeOf, markOf, cellsIn, Kept, withBlock, Spare};
+ghost use Rattle.table.specs.Marks.{has, withDepth, markAt, markCell, zeros};
+
+// Where the blocks begin, a whole number of blocks from the front.
+const DIRECTORY_END: usize = 2112;
+
+// ---- the directory
+
+// A byte as an index.
+fn index_of(x: u8) -> usize
+    ensures { λ r. ⌜ (r ≡ x) × (r < 256) ⌝ }
+{
+    x as usize
+}
+
+// Its k-th number, the low byte first.
+fn number_at(seen: &[u8], k: usize) -> usize
+    requires { ⌜ (2 * k + 1 < length (now seen)) × (k ≤ maxGroups) ⌝ }
+    ensures { λ r. ⌜ (r ≡ number (now (seen .entry)) k) × (r < 65536) ⌝ }
+{
+    index_of(seen[2 * k]) + 256 * index_of(seen[2 * k + 1])
+}
+
+fn put_number(seen: &mut [u8], k: usize, x: usize)
+    requires { ⌜ (2 * k + 1 < length (now seen)) × (k ≤ maxGroups) × (x < 65536) ⌝ }
+    ensures { λ _. ⌜ now (seen .exit) ≡ putNumber (now (seen .entry)) k x ⌝ }
+{
+    seen[2 * k] = (x % 256) as u8;
+    seen[2 * k + 1] = (x / 256) as u8;
+}
+
+// The group of cells to which a cell belongs.
+pub fn group_of(cell: usize) -> usize
+    ensures { λ r. ⌜ r ≡ groupOf cell ⌝ }
+{
+    cell / GROUP_SIZE
+}
+
+// The block of a group, or 0.
+pub fn block_of(seen: &[u8], g: usize) -> usize
+    requires { ⌜ (g < maxGroups) × (directoryEnd ≤ length (now seen)) ⌝ }
+    ensures { λ r. ⌜ (r ≡ blockOf (now (seen .entry)) g) × (r < 65536) ⌝ }
+{
+    number_at(seen, 1 + g)
+}
+
+// Gives a group a block if it has none.
+fn take_block(seen: &mut [u8], g: usize)
+    requires { ⌜ (g < maxGroups) × (directoryEnd ≤ length (now seen)) × (taken (now seen) < 65535) ⌝ }
+    ensures { λ _. ⌜ now (seen .exit) ≡ withBlock (now (seen .entry)) g ⌝ }
+{
+    if block_of(seen, g) == 0 {
+        let block = number_at(seen, 0) + 1;
+        put_number(seen, 1 + g, block);
+        put_number(seen, 0, block);
+    }
+}
+
+// ---- a mark
+
+// Where the mark of a cell stands.
+fn place_of(seen: &[u8], cell: usize) -> usize
+    requires { ⌜ (cell < maxCells) × (directoryEnd ≤ length (now seen)) ⌝ }
+    ensures { λ r. ⌜ r ≡ placeOf (now (seen .entry)) cell ⌝ }
+{
+    DIRECTORY_END + GROUP_SIZE * block_of(seen, group_of(cell)) + cell % GROUP_SIZE
+}
+
+// The mark of a cell: which domains hold it. A place behind the end has none, so that a reader need not know that the directory is right.
+pub fn mark_of(seen: &[u8], cell: usize) -> u8
+    requires { ⌜ cell < cellsIn (now seen) ⌝ }
+    ensures { λ r. ⌜ r ≡ markOf (now (seen .entry)) cell ⌝ }
+{
+    let at = place_of(seen, cell);
+    if seen.len() <= at {
+        return 0;
+    }
+    seen[at]
+}
+
+// Does a mark have this depth? The shift takes no branch, where scattered depths would be guessed wrong.
+pub fn has_depth(mark: u8, depth: u32) -> bool
+    requires { ⌜ depth < 16 ⌝ }
+    ensures { λ r. ⌜ r ≡ has depth mark ⌝ }
+{
+    ((2 * mark as u32) >> depth) % 2 == 1
+}
+
+// A mark with one depth more.
+fn with_depth(mark: u8, depth: u32) -> u8
+    requires { ⌜ (depth ≤ maxLive) × (has depth mark ≡ false) ⌝ }
+    ensures { λ r. ⌜ r ≡ withDepth depth mark ⌝ }
+{
+    mark + ((1u32 << depth) / 2) as u8
+}
+
+// Marks the cell of an entry. False where the entry's depth has the cell already.
+pub fn mark_cell(seen: &mut [u8], word: u32) -> bool
+    requires { ⌜ (depthOf word ≤ maxLive) × Kept (now seen) × Spare (now seen) (groupOf (cellOf word)) ⌝ }
+    ensures { λ r. ⌜ (r ≡ not (has (depthOf word) (markAt (now (seen .entry)) word))) × (r ≡ true → now (seen .exit) ≡ markCell word (now (seen .entry))) ⌝ }
+{
+    let depth = depth_of(word);
+    let cell = cell_of(word);
+    take_block(seen, group_of(cell));
+    let at = place_of(seen, cell);
+    let mark = seen[at];
+    if has_depth(mark, depth) {
+        return false;
+    }
+    seen[at] = with_depth(mark, depth);
+    true
+}
+
+// Gives a cell that has a mark another.
+pub fn change_mark(seen: &mut [u8], cell: usize, mark: u8)
+    requires { ⌜ (cell < maxCells) × Kept (now seen) ⌝ }
+    ensures { λ _. ⌜ now (seen .exit) ≡ set (now (seen .entry)) (placeOf (now (seen .entry)) cell) mark ⌝ }
+{
+    let at = place_of(seen, cell);
+    seen[at] = mark;
+}
+
+// ---- room for marks, none made yet. Each is made by a function of its own, so that the checker does not write the list out.
+
+// For 64 groups or entries, and the block that nobody has.
+pub fn few_marks() -> [u8; 6272]
+    ensures { λ r. ⌜ r ≡ zeros 6272 ⌝ }
+{
+    [0u8; 6272]
+}
+
+// For 256.
+pub fn some_marks() -> [u8; 18560]
+    ensures { λ r. ⌜ r ≡ zeros 18560 ⌝ }
+{
+    [0u8; 18560]
+}
+
+// For every group of the largest memory.
+pub fn many_marks() -> [u8; 67712]
+    ensures { λ r. ⌜ r ≡ zeros 67712 ⌝ }
+{
+    [0u8; 67712]
+}
