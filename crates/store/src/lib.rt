@@ -8,12 +8,17 @@ use changes::no_head;
 use changes::with_word;
 use changes::write_head_words;
 use search::find_domain;
-use table::FEW_CELLS;
-use table::few_marks;
+use table::cell_marks::FEW_BLOCKS;
+use table::cell_marks::SOME_BLOCKS;
+use table::cell_marks::blocks_wanted;
+use table::cell_marks::few_marks;
+use table::cell_marks::many_marks;
+use table::cell_marks::some_marks;
 use table::header_ok;
+use table::idle_ok;
 use table::lengths_ok;
-use table::many_marks;
 use table::no_bodies;
+use table::reach_of;
 use table::table_ok;
 use words::apply_pending;
 use words::layout::BODIES_AT;
@@ -39,7 +44,8 @@ ghost use lib.ListN.{length, take, getD};
 ghost use Rattle.words.specs.Layout.{cellsOf, slotsOf, tableWords, maxSlots, maxLive, maxCells, maxBodies, handleAt};
 ghost use Rattle.words.specs.Stores.{stores, tab};
 ghost use Rattle.table.specs.Entry.{live, handle};
-ghost use Rattle.table.specs.Marks.{Blank, AllMarked};
+ghost use Rattle.table.specs.Blocks.{Enough};
+ghost use Rattle.table.specs.Marks.{Reached, RoomForMarks, AllMarked};
 ghost use Rattle.words.specs.Journal.{pending};
 ghost use Rattle.changes.specs.Staged.{HeadOk, headStores, Journaled};
 ghost use Rattle.model.specs.Answer.{ended};
@@ -79,35 +85,30 @@ fn shape_check(memory: usize, bodies: usize, table: &[u32]) -> u32
     0
 }
 
-// Question 4, of a table whose length is allowed. The marks that it makes in what it is lent stay there for the caller.
-fn table_check(memory: usize, bodies: usize, table: &[u32], seen: &mut [u8], used: &mut [u8]) -> u32
-    requires { ⌜ (shapeCheck (lent memory bodies (now table)) ≡ 0) × (min (cellsOf memory) maxCells ≤ length (now seen)) × (length (now used) ≡ maxBodies) ⌝ }
-    requires { ⌜ Blank (now seen) × Blank (now used) ⌝ }
-    ensures { λ r. ⌜ r ≡ tableCheck (lent memory bodies (now (table .entry))) ⌝ }
-    ensures marks { λ r. ⌜ (r ≡ 0 → pending (now (table .entry)) ≡ 0 → AllMarked (slotsOf (length (now (table .entry)))) (now (table .entry)) (now (seen .exit)) (now (used .exit))) ⌝ }
-{
-    let right = table_ok(
-        table,
-        cells_of(memory),
-        slots_of(table.len()),
-        bodies_of(bodies),
-        seen,
-        used,
-    );
-    if right { 0 } else { 4 }
-}
-
 // The questions put to open, with room for marks.
-fn open_marked(memory: usize, bodies: usize, table: &[u32], seen: &mut [u8], used: &mut [u8]) -> u32
-    requires room { ⌜ (min (cellsOf memory) maxCells ≤ length (now seen)) × (length (now used) ≡ maxBodies) ⌝ }
-    requires blank { ⌜ Blank (now seen) × Blank (now used) ⌝ }
+fn open_marked(
+    memory: usize,
+    bodies: usize,
+    table: &[u32],
+    top: usize,
+    seen: &mut [u8],
+    used: &mut [u8],
+) -> u32
+    requires { ⌜ RoomForMarks (now table) (cellsOf memory) top (now seen) (now used) ⌝ }
     ensures { λ r. ⌜ r ≡ openCheck (lent memory bodies (now (table .entry))) ⌝ }
 {
     let no = shape_check(memory, bodies, table);
     if no != 0 {
         return no;
     }
-    table_check(memory, bodies, table, seen, used)
+    let cells = cells_of(memory);
+    let slots = slots_of(table.len());
+    let places = bodies_of(bodies);
+    if table_ok(table, cells, slots, top, places, seen, used) {
+        0
+    } else {
+        4
+    }
 }
 
 // Questions 1 to 3.
@@ -124,17 +125,17 @@ fn idle_check(memory: usize, bodies: usize, table: &[u32]) -> u32
     0
 }
 
-// The questions put to every call but make and open. What is lent for marks has, once no question refuses the call, the marks of the table's
-// entries: the call goes on with these and makes none of its own.
+// The questions put to every call but make and open. `top` is how far question 4 passes over the entries. What is lent for marks has, once no
+// question refuses the call, the marks of the table's entries: the call goes on with these and makes none of its own.
 pub fn store_check(
     memory: usize,
     bodies: usize,
     table: &[u32],
+    top: usize,
     seen: &mut [u8],
     used: &mut [u8],
 ) -> u32
-    requires room { ⌜ (min (cellsOf memory) maxCells ≤ length (now seen)) × (length (now used) ≡ maxBodies) ⌝ }
-    requires blank { ⌜ Blank (now seen) × Blank (now used) ⌝ }
+    requires { ⌜ RoomForMarks (now table) (cellsOf memory) top (now seen) (now used) ⌝ }
     ensures no { λ r. ⌜ r ≡ storeCheck (lent memory bodies (now (table .entry))) ⌝ }
     ensures marks { λ r. ⌜ (r ≡ 0 → AllMarked (slotsOf (length (now (table .entry)))) (now (table .entry)) (now (seen .exit)) (now (used .exit))) ⌝ }
 {
@@ -142,42 +143,68 @@ pub fn store_check(
     if no != 0 {
         return no;
     }
-    table_check(memory, bodies, table, seen, used)
+    let cells = cells_of(memory);
+    let slots = slots_of(table.len());
+    let places = bodies_of(bodies);
+    if idle_ok(table, cells, slots, top, places, seen, used) {
+        0
+    } else {
+        4
+    }
 }
 
-// The questions of open, or of a call that needs no marks afterwards, with marks of its own for a small memory. The marks come first, so that
-// the frame is made where the function begins: behind a question, the compiler made it over a register in use.
-fn ask_few(memory: usize, bodies: usize, table: &[u32], opening: bool) -> u32
-    requires { ⌜ cellsOf memory ≤ 1024 ⌝ }
+// The questions of open, or of a call that needs no marks afterwards, with marks of its own for few blocks. The marks come first, so that the
+// frame is made where the function begins: behind a question, the compiler made it over a register in use.
+fn ask_few(memory: usize, bodies: usize, table: &[u32], top: usize, opening: bool) -> u32
+    requires { ⌜ Enough 64 top (cellsOf memory) × Reached (now table) top ⌝ }
     ensures { λ r. ⌜ r ≡ cond opening (openCheck (lent memory bodies (now (table .entry)))) (storeCheck (lent memory bodies (now (table .entry)))) ⌝ }
 {
     let mut seen = few_marks();
     let mut used = no_bodies();
     if opening {
-        return open_marked(memory, bodies, table, &mut seen, &mut used);
+        return open_marked(memory, bodies, table, top, &mut seen, &mut used);
     }
-    store_check(memory, bodies, table, &mut seen, &mut used)
+    store_check(memory, bodies, table, top, &mut seen, &mut used)
+}
+
+// With marks for some more.
+fn ask_some(memory: usize, bodies: usize, table: &[u32], top: usize, opening: bool) -> u32
+    requires { ⌜ Enough 256 top (cellsOf memory) × Reached (now table) top ⌝ }
+    ensures { λ r. ⌜ r ≡ cond opening (openCheck (lent memory bodies (now (table .entry)))) (storeCheck (lent memory bodies (now (table .entry)))) ⌝ }
+{
+    let mut seen = some_marks();
+    let mut used = no_bodies();
+    if opening {
+        return open_marked(memory, bodies, table, top, &mut seen, &mut used);
+    }
+    store_check(memory, bodies, table, top, &mut seen, &mut used)
 }
 
 // And for any memory.
-fn ask_many(memory: usize, bodies: usize, table: &[u32], opening: bool) -> u32
+fn ask_many(memory: usize, bodies: usize, table: &[u32], top: usize, opening: bool) -> u32
+    requires { ⌜ Reached (now table) top ⌝ }
     ensures { λ r. ⌜ r ≡ cond opening (openCheck (lent memory bodies (now (table .entry)))) (storeCheck (lent memory bodies (now (table .entry)))) ⌝ }
 {
     let mut seen = many_marks();
     let mut used = no_bodies();
     if opening {
-        return open_marked(memory, bodies, table, &mut seen, &mut used);
+        return open_marked(memory, bodies, table, top, &mut seen, &mut used);
     }
-    store_check(memory, bodies, table, &mut seen, &mut used)
+    store_check(memory, bodies, table, top, &mut seen, &mut used)
 }
 
 fn ask_plain(memory: usize, bodies: usize, table: &[u32], opening: bool) -> u32
     ensures { λ r. ⌜ r ≡ cond opening (openCheck (lent memory bodies (now (table .entry)))) (storeCheck (lent memory bodies (now (table .entry)))) ⌝ }
 {
-    if cells_of(memory) <= FEW_CELLS {
-        return ask_few(memory, bodies, table, opening);
+    let top = reach_of(table);
+    let blocks = blocks_wanted(top, cells_of(memory));
+    if blocks <= FEW_BLOCKS {
+        return ask_few(memory, bodies, table, top, opening);
     }
-    ask_many(memory, bodies, table, opening)
+    if blocks <= SOME_BLOCKS {
+        return ask_some(memory, bodies, table, top, opening);
+    }
+    ask_many(memory, bodies, table, top, opening)
 }
 
 // The questions put to open.

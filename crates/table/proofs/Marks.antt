@@ -11,11 +11,12 @@ use borrow.Author.Tests.{eq-eqb, ne-eqb, eqb-true, eqb-false, ltb-true, lt-ltb, 
 use lib.ListN.{length, getD, set, replicate, length-replicate}
 use lib.Seq.{getD-set-same, getD-set-other}
 use lib.Dec.{ltb, eqb}
+use Rattle.words.specs.Layout.{maxBodies}
 use Rattle.words.proofs.Scan.{by-bool, and-split, is-false, true≢}
 use Rattle.table.specs.Entry.{word1, word2, depthOf, viaOf, parent, findIn, holdsIn, ownsBody}
 use Rattle.table.specs.Rule.{parentOk}
-use Rattle.table.specs.Blocks.{markOf, OneMark}
-use Rattle.table.specs.Marks.{Marks, Distinct, zeros, has, withDepth, cellIn, markAt, Marked, CellsOnce, Blank, ViaInner, parentTold, IsCopy, markBody, bodyFits}
+use Rattle.table.specs.Blocks.{markOf, blockAt, Enough, OneMark}
+use Rattle.table.specs.Marks.{Reached, RoomForMarks, Marks, Distinct, zeros, has, withDepth, cellIn, markAt, Marked, CellsOnce, Blank, ViaInner, parentTold, IsCopy, markBody, bodyFits}
 use Rattle.table.proofs.Digits.{has-zero, has-here, has-other}
 use Rattle.table.proofs.Entry.{find-some, find-hit}
 use Rattle.table.proofs.Rule.{outer-facts, outer-make}
@@ -227,3 +228,25 @@ module _ (e : ℕ) (t : List ℕ) (n : ℕ) (s : List ℕ) (m : Marks (IsCopy e 
         let f = m .found (word2 e t n) (u .1) in
         d n l (f .0) (f .1) (u .0) (f .2) (f .3))),
   )
+
+-- ---- room for marks, none made yet
+module _ (t : List ℕ) (m n : ℕ) (reach : Reached t n) where
+  room-in : (k : ℕ) → Enough k n m → (long : ℕ) → blockAt (k + 1) ≤ long → RoomForMarks t m n (zeros long) (zeros maxBodies)
+  room-in k few long fits =
+      record {
+        room = omega (arith, few, fits, zeros-length long);
+        bodies = zeros-length maxBodies;
+        no-cells = blank-zeros long;
+        no-bodies = blank-zeros maxBodies;
+        reached = reach;
+      }
+
+  pub room-few : Enough 64 n m → RoomForMarks t m n (zeros 6272) (zeros 4096)
+  room-few few = room-in 64 few 6272 (omega arith)
+
+  pub room-some : Enough 256 n m → RoomForMarks t m n (zeros 18560) (zeros 4096)
+  room-some few = room-in 256 few 18560 (omega arith)
+
+  -- no memory has more groups
+  pub room-many : RoomForMarks t m n (zeros 67712) (zeros 4096)
+  room-many = room-in 1024 (omega arith) 67712 (omega arith)

@@ -85,6 +85,10 @@ Spare seen g = blockOf seen g ≡ 0 → blockAt (taken seen + 2) ≤ length seen
 abbrev pub Room : ℕ → ℕ → List ℕ → Type 0
 Room n m seen = blockAt (min n (groupsFor m) + 1) ≤ length seen
 
+-- so many blocks are enough for them
+abbrev pub Enough : ℕ → ℕ → ℕ → Type 0
+Enough k n m = min n (groupsFor m) ≤ k
+
 -- cell c has mark v, and every other the mark that it had
 abbrev pub OneMark : (before : List ℕ) (c v : ℕ) (after : List ℕ) → Type 0
 OneMark before c v after = (k : ℕ) → markOf after k ≡ cond (eqb k c) v (markOf before k)

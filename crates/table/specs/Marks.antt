@@ -6,12 +6,12 @@ use mathlib.Core.Path.{_≡_}
 use mathlib.Core.List.{List}
 use lib.Dec.{ltb, leb, eqb}
 use lib.ListN.{length, getD, set, replicate}
-use Rattle.words.specs.Layout.{groupOf, slotsOf, maxSlots}
+use Rattle.words.specs.Layout.{groupOf, slotsOf, maxSlots, maxBodies}
 use Rattle.words.specs.Scan.{all}
 use Rattle.words.specs.Journal.{pending}
 use Rattle.table.specs.Entry.{word1, word2, depthOf, viaOf, unusedOf, cellOf, ownsBody, parent}
 use Rattle.table.specs.Rule.{entryOk, parentOk}
-use Rattle.table.specs.Blocks.{taken, placeOf, Kept, Outside, withBlock}
+use Rattle.table.specs.Blocks.{taken, placeOf, Kept, Outside, withBlock, Room}
 pub use Rattle.table.specs.Blocks.{markOf}
 
 module _ (Wanted : ℕ → Type 0) (key : ℕ → ℕ) (tag : ℕ) where
@@ -134,3 +134,12 @@ pub record AllMarked (e : ℕ) (t : List ℕ) (seen used : List ℕ) : Type 0 wh
   pub cells : Marked e t e seen
   pub copies : Marks (IsCopy e t) (word2 e t) 1 e used
   pub kept : Kept seen
+
+-- what a call is lent for question 4: room for the marks of n entries of a memory of m cells, and of every body, none made yet; and n is how many
+-- entries question 4 passes
+pub record RoomForMarks (t : List ℕ) (m n : ℕ) (seen used : List ℕ) : Type 0 where
+  pub room : Room n m seen
+  pub bodies : length used ≡ maxBodies
+  pub no-cells : Blank seen
+  pub no-bodies : Blank used
+  pub reached : Reached t n

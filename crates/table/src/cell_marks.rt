@@ -6,13 +6,15 @@
 use crate::fields::cell_of;
 use crate::fields::depth_of;
 use words::layout::GROUP_SIZE;
+use words::layout::MAX_CELLS;
+use words::least;
 ghost use mathlib.Core.Path.{_≡_};
 ghost use mathlib.Core.Bool.{true, false, not};
-ghost use Prim.Native.Nat.{ℕ, _+_, _*_, _/_, _<_, _≤_};
+ghost use Prim.Native.Nat.{ℕ, _+_, _*_, _/_, _<_, _≤_, min};
 ghost use lib.ListN.{length, set};
 ghost use Rattle.words.specs.Layout.{maxCells, maxLive, groupOf};
 ghost use Rattle.table.specs.Entry.{depthOf, cellOf};
-ghost use Rattle.table.specs.Blocks.{number, putNumber, taken, blockOf, maxGroups, directoryEnd, placeOf, markOf, cellsIn, Kept, withBlock, Spare};
+ghost use Rattle.table.specs.Blocks.{number, putNumber, taken, blockOf, maxGroups, groupsFor, directoryEnd, placeOf, markOf, cellsIn, Kept, withBlock, Spare};
 ghost use Rattle.table.specs.Marks.{has, withDepth, markAt, markCell, zeros};
 
 // Where the blocks begin, a whole number of blocks from the front.
@@ -136,14 +138,24 @@ pub fn change_mark(seen: &mut [u8], cell: usize, mark: u8)
 
 // ---- room for marks, none made yet. Each is made by a function of its own, so that the checker does not write the list out.
 
-// For 64 groups or entries, and the block that nobody has.
+// How many blocks the cells of so many entries may need, in a memory of so many cells.
+pub fn blocks_wanted(entries: usize, cells: usize) -> usize
+    ensures { λ r. ⌜ r ≡ min entries (groupsFor cells) ⌝ }
+{
+    least(entries, group_of(least(cells, MAX_CELLS) + GROUP_SIZE - 1))
+}
+
+// For so many blocks, and the one that nobody has.
+pub const FEW_BLOCKS: usize = 64;
+
 pub fn few_marks() -> [u8; 6272]
     ensures { λ r. ⌜ r ≡ zeros 6272 ⌝ }
 {
     [0u8; 6272]
 }
 
-// For 256.
+pub const SOME_BLOCKS: usize = 256;
+
 pub fn some_marks() -> [u8; 18560]
     ensures { λ r. ⌜ r ≡ zeros 18560 ⌝ }
 {
