@@ -22,7 +22,7 @@ ghost use lib.ListN.{length};
 ghost use lib.Dec.{eqb};
 ghost use Rattle.words.specs.Layout.{pairsAt, handleAt, maxSlots, maxLive, maxCells};
 ghost use Rattle.table.specs.Entry.{live, depthOf, cellOf, findIn};
-ghost use Rattle.table.specs.Marks.{markAt, Marked, CellsOnce, cellIn};
+ghost use Rattle.table.specs.Marks.{markAt, Marked, CellsOnce, FreeRun, cellIn};
 ghost use Rattle.search.specs.Search.{Bare, IsKey, namedBy, Unnamed, HasSource, holderIn, sourceIn, valueFrom};
 ghost use Rattle.search.specs.Free.{usedSlots, copies, unmarkedFrom};
 ghost use Rattle.search.specs.Domain.{depthNamed};
@@ -230,16 +230,17 @@ pub struct InUse {
     pub copies: usize,
 }
 
-// Both in one pass, which takes no branch on what an entry holds. It counts in numbers as wide as a word, so that the compiler can count
-// several entries at once.
-pub fn count_used(table: &[u32], slots: usize) -> InUse
-    requires { ⌜ (slots ≤ maxSlots) × (pairsAt slots ≤ length (now table)) ⌝ }
+// Both in one pass over the entries below `top`, behind which all are free. It takes no branch on what an entry holds, and counts in numbers
+// as wide as a word, so that the compiler can count several entries at once.
+pub fn count_used(table: &[u32], slots: usize, top: usize) -> InUse
+    requires { ⌜ (slots ≤ maxSlots) × (pairsAt slots ≤ length (now table)) × (top ≤ slots) ⌝ }
+    requires { ⌜ FreeRun slots (now table) top slots ⌝ }
     ensures { λ r. ⌜ (r .entries ≡ usedSlots slots (now (table .entry))) × (r .copies ≡ copies slots (now (table .entry))) ⌝ }
 {
     let mut entries: u32 = 0;
     let mut copies: u32 = 0;
     let mut i: usize = 0;
-    while i < slots {
+    while i < top {
         let word = first_word(table, slots, i);
         entries += (word != 0) as u32;
         copies += owns_body(word) as u32;
