@@ -14,10 +14,11 @@ ghost use Prim.Native.Nat.{_<_, _≤_};
 ghost use lib.ListN.{length};
 ghost use Rattle.words.specs.Layout.{pairsAt, maxSlots};
 
-// So many entries of a bucket are looked at: where more share one, what is left is faster by passing over the entries.
+// At most so many entries of a bucket are looked at: notes that lie may lead in a circle, and where more entries share a bucket, passing over
+// all of them is hardly slower.
 const MAX_LINKS: usize = 64;
 
-// Notes for a table with few entries, and for the largest: 256 numbers are cleared in no time, and 4,096 leave few cells in a bucket.
+// Room for notes of few entries, and of as many as there can be: 256 numbers are cleared in no time, and 4,096 leave few entries in a bucket.
 pub fn few_notes() -> [u16; 256] {
     [0u16; 256]
 }
@@ -31,7 +32,7 @@ pub fn no_notes() -> [u16; 1] {
     [0u16; 1]
 }
 
-// The bucket of a cell, where there is room for so many.
+// The bucket of a cell, where there is room for so many. Both numbers are fixed, so that no division is made.
 fn bucket_of(room: usize, cell: usize) -> usize
     requires { ⌜ 256 ≤ room ⌝ }
     ensures { λ r. ⌜ r < room ⌝ }
