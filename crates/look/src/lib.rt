@@ -2,6 +2,7 @@
 use search::Held;
 use search::find_domain;
 use search::find_value;
+use search::notes::no_notes;
 use store::Answer;
 use store::plain_check;
 use store::range_ok;
@@ -16,6 +17,7 @@ ghost use lib.ListN.{length};
 ghost use Rattle.store.specs.Checks.{lent};
 ghost use Rattle.words.specs.Layout.{pairsAt, maxSlots, maxLive};
 ghost use Rattle.table.specs.Entry.{live};
+ghost use Rattle.table.specs.Marks.{CellsOnce};
 ghost use Rattle.search.specs.Search.{HasSource};
 ghost use Rattle.store.specs.Outcome.{buffers, report};
 ghost use Rattle.look.specs.Look.{lookCheck, placeIn, lookPlace, placePart, placeWithin, shownAt, lookMeans};
@@ -46,11 +48,13 @@ fn look_check(memory: usize, bodies: usize, table: &[u32], handle: u32, cell: u3
 
 // The place of a cell's bytes in a table that passed the questions.
 fn find_place(table: &[u32], slots: usize, depth: u32, cell: u32) -> Place
-    requires { ⌜ (slots ≤ maxSlots) × (pairsAt slots ≤ length (now table)) × (live (now table) ≤ maxLive) ⌝ }
-    requires { ⌜ HasSource slots (now table) depth cell ⌝ }
+    requires { ⌜ (slots ≤ maxSlots) × (pairsAt slots ≤ length (now table)) × (live (now table) ≤ maxLive) × (1 ≤ depth) ⌝ }
+    requires { ⌜ CellsOnce slots (now table) slots × HasSource slots (now table) depth cell ⌝ }
     ensures { λ r. ⌜ r ≡ placeIn slots (now (table .entry)) depth cell ⌝ }
 {
-    match find_value(table, slots, depth, cell) {
+    // one search alone: notes would take longer to make
+    let notes = no_notes();
+    match find_value(table, slots, depth, cell, &notes, &notes) {
         Held::Nowhere => Place::Memory(cell_at(wide(cell))),
         Held::InBody(_, body) => Place::Bodies(cell_at(wide(body))),
     }

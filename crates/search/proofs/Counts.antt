@@ -1,7 +1,7 @@
--- In a right table as many entries of a depth pass a test on their first word as cells that this depth holds with such an entry.
--- Assumes nothing.
+-- How many entries pass a test on their first word. In a right table, of one depth, as many as cells that this depth holds with such an entry;
+-- and where the last entries are free, as many as before these. Assumes nothing.
 use Prim.Native.Nat.{ℕ, _≤_, _<_}
-use mathlib.Core.Bool.{Bool, true, _&&_}
+use mathlib.Core.Bool.{Bool, true, false, _&&_}
 use mathlib.Core.List.{List}
 use mathlib.Core.Path.{_≡_, sym, ap, _∙_}
 use native.Mathlib.Omega.{arith}
@@ -11,9 +11,17 @@ use Rattle.words.specs.Scan.{count}
 use Rattle.words.proofs.Scan.{by-bool, and-split, and-join, true≢, count-ext}
 use Rattle.words.proofs.Image.{meets, meets-make, meets-none, Distinctly, count-image}
 use Rattle.table.specs.Entry.{word1, depthOf, cellOf, findIn, holdsIn}
+use Rattle.table.specs.Marks.{FreeRun}
 use Rattle.table.proofs.Entry.{names-make, find-hit, find-some, holds-true, holds-found}
 use Rattle.table.proofs.Rule.{Rule}
 use Rattle.table.proofs.Single.{only-one}
+use Rattle.search.proofs.From.{count-stop}
+
+-- the entries from `top` on are free, and a test that fails of a free one counts none of them
+pub count-front : (e : ℕ) (t : List ℕ) (top : ℕ) → top ≤ e → FreeRun e t top e → (P : ℕ → Bool) → P 0 ≡ false
+    → count top (λ i. P (word1 e t i)) ≡ count e (λ i. P (word1 e t i))
+count-front e t top within free P none =
+    sym (count-stop e top (λ i. P (word1 e t i)) within (λ k l h. ap P (free k l h .0) ∙ none))
 
 module _ (m e b : ℕ) (t : List ℕ) (ok : Rule m e b t) (d : ℕ) (low : 1 ≤ d) (P : ℕ → Bool) where
   abbrev passes : ℕ → Bool

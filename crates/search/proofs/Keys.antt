@@ -70,10 +70,11 @@ module _ (f : ℕ → Bool) (i : ℕ) where
       let y = or-split c d (two .1) in
       four-failing (sym p ∙ x .0) (sym q ∙ x .1) (sym r ∙ y .0) (sym s ∙ y .1)
 
-  pub none-of-eight : (a b : Bool) → Failing f 0 i → (a ≡ false → Failing f i (i + 4)) → (b ≡ false → Failing f (i + 4) (i + 4 + 4)) → (a || b) ≡ false → Failing f 0 (i + 8)
-  none-of-eight a b h p q z =
+  pub none-of-eight : (from : ℕ) (a b : Bool) → Failing f from i → (a ≡ false → Failing f i (i + 4)) → (b ≡ false → Failing f (i + 4) (i + 4 + 4)) → (a || b) ≡ false
+      → Failing f from (i + 8)
+  none-of-eight from a b h p q z =
       let two = or-split a b z in
-      failing-join f 0 i (i + 8) h (failing-join f i (i + 4) (i + 8) (p (two .0)) (λ k l s. q (two .1) k l (omega arith)))
+      failing-join f from i (i + 8) h (failing-join f i (i + 4) (i + 8) (p (two .0)) (λ k l s. q (two .1) k l (omega arith)))
 
 -- ---- what is found by a key
 module _ (e : ℕ) (t : List ℕ) (d c key : ℕ) (is : IsKey d c key) where

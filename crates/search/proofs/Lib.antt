@@ -1,6 +1,7 @@
 -- Laws that belong to no one function.
 pub mod From
 pub mod Keys
+pub mod Anywhere
 pub mod Holders
 pub mod Value
 pub mod Behind

@@ -1,5 +1,8 @@
 // What a table means: which entry is found for a depth and a cell, the first holder from a domain inwards, the copy behind a via parent
 // chain; and which entry slots and bodies are free.
+pub mod notes;
+
+use notes::noted;
 use table::domains::parent_of;
 use table::fields::cell_of;
 use table::fields::depth_of;
@@ -19,7 +22,7 @@ ghost use lib.ListN.{length};
 ghost use lib.Dec.{eqb};
 ghost use Rattle.words.specs.Layout.{pairsAt, handleAt, maxSlots, maxLive, maxCells};
 ghost use Rattle.table.specs.Entry.{live, depthOf, cellOf, findIn};
-ghost use Rattle.table.specs.Marks.{markAt, Marked, CellsOnce, cellIn};
+ghost use Rattle.table.specs.Marks.{markAt, Marked, CellsOnce, FreeRun, cellIn};
 ghost use Rattle.search.specs.Search.{Bare, IsKey, namedBy, Unnamed, HasSource, holderIn, sourceIn, valueFrom};
 ghost use Rattle.search.specs.Free.{usedSlots, copies, unmarkedFrom};
 ghost use Rattle.search.specs.Domain.{depthNamed};
@@ -71,14 +74,14 @@ fn four_named(table: &[u32], slots: usize, key: u32, i: usize) -> bool
     (a | b) | (c | d)
 }
 
-// How many entries from the front can be passed over, eight at a time, since none of them is named. A search of a long table spends nearly all
-// its time here.
-fn pass_over(table: &[u32], slots: usize, key: u32) -> usize
-    requires { ⌜ (slots ≤ maxSlots) × (pairsAt slots ≤ length (now table)) × Bare key ⌝ }
-    ensures { λ r. ⌜ (r ≤ slots) × Unnamed slots (now (table .entry)) key 0 r ⌝ }
+// How far the entries from `from` on and before `end` can be passed over, eight at a time, since none of them is named. A search of a long
+// table spends nearly all its time here.
+fn pass_over(table: &[u32], slots: usize, key: u32, from: usize, end: usize) -> usize
+    requires { ⌜ (from ≤ end) × (end ≤ slots) × (slots ≤ maxSlots) × (pairsAt slots ≤ length (now table)) × Bare key ⌝ }
+    ensures { λ r. ⌜ (from ≤ r) × (r ≤ end) × Unnamed slots (now (table .entry)) key from r ⌝ }
 {
-    let mut i: usize = 0;
-    while i + 8 <= slots {
+    let mut i = from;
+    while i + 8 <= end {
         if four_named(table, slots, key, i) | four_named(table, slots, key, i + 4) {
             return i;
         }
@@ -87,59 +90,100 @@ fn pass_over(table: &[u32], slots: usize, key: u32) -> usize
     i
 }
 
-// The entry of this depth and cell, or `slots` where there is none. A depth or a cell that no word can hold has none.
-pub fn find_entry(table: &[u32], slots: usize, depth: u32, cell: u32) -> usize
-    requires { ⌜ (slots ≤ maxSlots) × (pairsAt slots ≤ length (now table)) ⌝ }
+// Where a search begins: at the slot asked for, or at the first where the table has no such slot.
+fn start_at(slots: usize, begin: usize) -> usize
+    ensures { λ r. ⌜ r ≤ slots ⌝ }
+{
+    if begin < slots {
+        return begin;
+    }
+    0
+}
+
+// The entry of this depth and cell, or `slots` where there is none. A depth or a cell that no word can hold has none. The search begins at slot
+// `begin`, which may be any number, and goes on from the front: no depth has a cell twice, so that it finds the same entry wherever it begins,
+// and a good place only saves time.
+pub fn find_entry(table: &[u32], slots: usize, depth: u32, cell: u32, begin: usize) -> usize
+    requires { ⌜ (slots ≤ maxSlots) × (pairsAt slots ≤ length (now table)) × (1 ≤ depth) ⌝ }
+    requires { ⌜ CellsOnce slots (now table) slots ⌝ }
     ensures { λ r. ⌜ r ≡ findIn slots (now (table .entry)) depth cell ⌝ }
 {
     if (16 <= depth) | (65536 <= cell) {
         return slots;
     }
+    let start = start_at(slots, begin);
     let key = key_of(depth, cell);
-    let mut i = pass_over(table, slots, key);
+    let mut i = pass_over(table, slots, key, start, slots);
     while i < slots {
         if is_named(first_word(table, slots, i), key) {
             return i;
         }
         i += 1;
     }
-    i
+    let mut j = pass_over(table, slots, key, 0, start);
+    while j < start {
+        if is_named(first_word(table, slots, j), key) {
+            return j;
+        }
+        j += 1;
+    }
+    slots
 }
 
-// The first holder of a cell from this depth to the innermost.
-pub fn find_holder(table: &[u32], slots: usize, from: u32, cell: u32) -> Holder
-    requires { ⌜ (slots ≤ maxSlots) × (pairsAt slots ≤ length (now table)) × (live (now table) ≤ maxLive) ⌝ }
+// The first holder of a cell from this depth to the innermost. At each depth the search begins at slot `begin`, which may be any number, and
+// goes on from the front.
+pub fn find_holder(table: &[u32], slots: usize, from: u32, cell: u32, begin: usize) -> Holder
+    requires { ⌜ (slots ≤ maxSlots) × (pairsAt slots ≤ length (now table)) × (live (now table) ≤ maxLive) × (1 ≤ from) ⌝ }
+    requires { ⌜ CellsOnce slots (now table) slots ⌝ }
     ensures { λ r. ⌜ r ≡ holderIn slots (now (table .entry)) from cell ⌝ }
 {
     if 65536 <= cell {
         return Holder::Nobody;
     }
     let live = table[LIVE_AT];
+    let start = start_at(slots, begin);
     let mut depth = from;
     'search: loop {
         if live < depth {
             break 'search Holder::Nobody;
         }
         let key = key_of(depth, cell);
-        let mut i = pass_over(table, slots, key);
+        let mut i = pass_over(table, slots, key, start, slots);
         while i < slots {
             if is_named(first_word(table, slots, i), key) {
                 break 'search Holder::At(depth, i);
             }
             i += 1;
         }
+        let mut j = pass_over(table, slots, key, 0, start);
+        while j < start {
+            if is_named(first_word(table, slots, j), key) {
+                break 'search Holder::At(depth, j);
+            }
+            j += 1;
+        }
         depth += 1;
     }
 }
 
-// The entry of the copy behind the cell held at this depth, or `slots`: outwards past the via parent entries.
-pub fn find_source(table: &[u32], slots: usize, depth: u32, cell: u32) -> usize
+// The entry of the copy behind the cell held at this depth, or `slots`: outwards past the via parent entries. `last` and `before` are notes of
+// places to begin at (notes), which may be wrong.
+pub fn find_source(
+    table: &[u32],
+    slots: usize,
+    depth: u32,
+    cell: u32,
+    last: &[u16],
+    before: &[u16],
+) -> usize
     requires { ⌜ (slots ≤ maxSlots) × (pairsAt slots ≤ length (now table)) ⌝ }
+    requires { ⌜ CellsOnce slots (now table) slots ⌝ }
     ensures { λ r. ⌜ r ≡ sourceIn slots (now (table .entry)) depth cell ⌝ }
 {
     let mut d = depth;
     while 0 < d {
-        let i = find_entry(table, slots, d, cell);
+        let begin = noted(table, slots, last, before, d, cell);
+        let i = find_entry(table, slots, d, cell, begin);
         if slots <= i {
             return slots;
         }
@@ -151,20 +195,28 @@ pub fn find_source(table: &[u32], slots: usize, depth: u32, cell: u32) -> usize
     slots
 }
 
-// What the first holder of a cell, from this depth to the innermost, has of it.
-pub fn find_value(table: &[u32], slots: usize, from: u32, cell: u32) -> Held
-    requires { ⌜ (slots ≤ maxSlots) × (pairsAt slots ≤ length (now table)) × (live (now table) ≤ maxLive) ⌝ }
-    requires { ⌜ HasSource slots (now table) from cell ⌝ }
+// What the first holder of a cell, from this depth to the innermost, has of it; with notes of places to begin at.
+pub fn find_value(
+    table: &[u32],
+    slots: usize,
+    from: u32,
+    cell: u32,
+    last: &[u16],
+    before: &[u16],
+) -> Held
+    requires { ⌜ (slots ≤ maxSlots) × (pairsAt slots ≤ length (now table)) × (live (now table) ≤ maxLive) × (1 ≤ from) ⌝ }
+    requires { ⌜ CellsOnce slots (now table) slots × HasSource slots (now table) from cell ⌝ }
     ensures { λ r. ⌜ r ≡ valueFrom slots (now (table .entry)) from cell ⌝ }
 {
-    match find_holder(table, slots, from, cell) {
+    let begin = noted(table, slots, last, before, from, cell);
+    match find_holder(table, slots, from, cell, begin) {
         Holder::Nobody => Held::Nowhere,
         Holder::At(depth, entry) => {
             if !is_via(first_word(table, slots, entry)) {
                 return Held::InBody(depth, second_word(table, slots, entry));
             }
             // a via parent entry has no body of its own: the copy further out has
-            let source = find_source(table, slots, parent_of(depth), cell);
+            let source = find_source(table, slots, parent_of(depth), cell, last, before);
             Held::InBody(depth, second_word(table, slots, source))
         }
     }
@@ -178,16 +230,17 @@ pub struct InUse {
     pub copies: usize,
 }
 
-// Both in one pass, which takes no branch on what an entry holds. It counts in numbers as wide as a word, so that the compiler can count
-// several entries at once.
-pub fn count_used(table: &[u32], slots: usize) -> InUse
-    requires { ⌜ (slots ≤ maxSlots) × (pairsAt slots ≤ length (now table)) ⌝ }
+// Both in one pass over the entries below `top`, behind which all are free. It takes no branch on what an entry holds, and counts in numbers
+// as wide as a word, so that the compiler can count several entries at once.
+pub fn count_used(table: &[u32], slots: usize, top: usize) -> InUse
+    requires { ⌜ (slots ≤ maxSlots) × (pairsAt slots ≤ length (now table)) × (top ≤ slots) ⌝ }
+    requires { ⌜ FreeRun slots (now table) top slots ⌝ }
     ensures { λ r. ⌜ (r .entries ≡ usedSlots slots (now (table .entry))) × (r .copies ≡ copies slots (now (table .entry))) ⌝ }
 {
     let mut entries: u32 = 0;
     let mut copies: u32 = 0;
     let mut i: usize = 0;
-    while i < slots {
+    while i < top {
         let word = first_word(table, slots, i);
         entries += (word != 0) as u32;
         copies += owns_body(word) as u32;

@@ -6,10 +6,11 @@ use native.Mathlib.Omega.{arith}
 use borrow.Author.Tests.{eqb-true, eqb-false}
 use lib.Dec.{eqb}
 use lib.ListN.{length}
-use Rattle.words.specs.Layout.{cellsOf, slotsOf, maxCells}
+use Rattle.words.specs.Layout.{cellsOf, bodiesOf, slotsOf, maxCells}
 use Rattle.words.proofs.Scan.{by-bool}
 use Rattle.table.specs.Entry.{word1}
 use Rattle.table.specs.Marks.{CellsOnce, cellIn}
+use Rattle.table.proofs.Parts.{rule-once}
 use Rattle.store.specs.Checks.{storeCheck, lent}
 use Rattle.store.proofs.Checks.{store-lengths}
 use Rattle.store.proofs.Raw.{check-rule}
@@ -17,7 +18,7 @@ use Rattle.store.proofs.Raw.{check-rule}
 module _ (memory bodies : ℕ) (t : List ℕ) (yes : storeCheck (lent memory bodies t) ≡ 0) where
   -- no depth has a cell twice
   pub checked-once : CellsOnce (slotsOf (length t)) t (slotsOf (length t))
-  checked-once i l j k low p q = check-rule memory bodies t yes .apart-from i l j k (λ z. omega (arith, z, low)) (λ z. omega (arith, z, low, p)) .cells p q
+  checked-once = rule-once (cellsOf memory) (slotsOf (length t)) (bodiesOf bodies) t (check-rule memory bodies t yes)
 
   -- marks for every cell of memory do
   pub checked-fits : (marks : ℕ) → min (cellsOf memory) maxCells ≤ marks → (i : ℕ) → i < slotsOf (length t) → cellIn (slotsOf (length t)) t i < marks

@@ -11,7 +11,7 @@ use Rattle.words.specs.Scan.{all}
 use Rattle.words.proofs.Scan.{all-at, all-make, and-split, is-false, true≢}
 use Rattle.table.specs.Entry.{word1, live, word2}
 use Rattle.table.specs.Rule.{headOk, entryOk, parentOk, apart, ruleOk}
-use Rattle.table.specs.Marks.{Distinct, CellsOk, ViasMarkable, ViaInner, IsCopy}
+use Rattle.table.specs.Marks.{Distinct, CellsOnce, CellsOk, ViasMarkable, ViaInner, IsCopy}
 use Rattle.table.proofs.Rule.{Rule, ok-facts, ok-all, ok-not, parts, entry-used, apart-make, via-inner}
 use Rattle.table.proofs.Marks.{owns-facts, owns-make}
 
@@ -30,6 +30,9 @@ module _ (m e b : ℕ) (t : List ℕ) where
 
   pub no-cells : (CellsOk e t → ⊥) → ruleOk m e b t ≡ false
   no-cells h = is-false (ruleOk m e b t) (λ p. h (rule-cells p))
+
+  pub rule-once : Rule m e b t → CellsOnce e t e
+  rule-once ok i l j k low d c = ok .apart-from i l j k (λ z. omega (arith, z, low)) (λ z. omega (arith, z, low, d)) .cells d c
 
   pub rule-bodies : Rule m e b t → Distinct (IsCopy e t) (word2 e t) e
   rule-bodies ok i l j k ui uj q =

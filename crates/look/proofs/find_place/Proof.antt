@@ -4,6 +4,15 @@ use Rattle.look.proofs.Placing.{at-memory, at-bodies}
 use Rattle.look.proofs.find_place.Statement.{statement}
 use Rattle.look.proofs.find_place.Tie as tie
 
+no-notes-requires : tie.Need-no-notes-requires
+no-notes-requires c κs = search needs
+
+slice-aggregate-find-value : tie.Need-slice-aggregate-find-value
+slice-aggregate-find-value c = search needs
+
+slice-aggregate-find-value-2 : tie.Need-slice-aggregate-find-value-2
+slice-aggregate-find-value-2 c = search needs
+
 find-value-requires : tie.Need-find-value-requires
 find-value-requires c κs = search needs
 
@@ -35,6 +44,9 @@ pub find-place-spec : {M : Type 1} → statement M
 find-place-spec =
     tie.close
     (tie.spec
+    no-notes-requires
+    slice-aggregate-find-value
+    slice-aggregate-find-value-2
     find-value-requires
     enum-told
     wide-requires

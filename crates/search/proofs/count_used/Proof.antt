@@ -11,14 +11,15 @@ use Rattle.words.proofs.Scan.{count-le}
 use Rattle.table.specs.Entry.{ownsBody}
 use Rattle.search.specs.Free.{slotFree, isCopy, usedSlots, copies}
 use Rattle.search.proofs.From.{count-byte, byte-small}
+use Rattle.search.proofs.Counts.{count-front}
 use Rattle.search.proofs.count_used.Statement.{statement}
 use Rattle.search.proofs.count_used.Tie as tie
 
 abbrev Inv-loop : tie.InvT-loop
-Inv-loop table slots entries₀ copies₀ i₀ entries copies i = (i ≤ slots) × (entries ≡ count i (λ k. not (slotFree slots table k))) × (copies ≡ count i (isCopy slots table))
+Inv-loop table slots top entries₀ copies₀ i₀ entries copies i = (i ≤ top) × (entries ≡ count i (λ k. not (slotFree slots table k))) × (copies ≡ count i (isCopy slots table))
 
 abbrev μ-loop : tie.MeasureT-loop
-μ-loop table slots entries₀ copies₀ i₀ entries copies i = slots - i
+μ-loop table slots top entries₀ copies₀ i₀ entries copies i = top - i
 
 loop-holds : tie.Need-loop-holds Inv-loop μ-loop
 unfolding count
@@ -67,9 +68,11 @@ returns : tie.Need-returns Inv-loop μ-loop
 unfolding usedSlots copies
 returns c =
     let a = c .before .before .before .before .before .args in
-    let last : c .before .before .before .loop .i ≡ a .slots = omega arith in (
-      c .before .wide .ensures ∙ c .before .before .before .loop .inv .1 ∙ ap (λ (n : ℕ). count n (λ k. not (slotFree (a .slots) (a .table .now) k))) last,
-      c .wide2 .ensures ∙ c .before .before .before .loop .inv .2 ∙ ap (λ (n : ℕ). count n (isCopy (a .slots) (a .table .now))) last,
+    let p = c .before .before .before .before .before .pre in
+    let last : c .before .before .before .loop .i ≡ a .top = omega arith in
+    let front = count-front (a .slots) (a .table .now) (a .top) (p .0 .2) (p .1) in (
+      c .before .wide .ensures ∙ c .before .before .before .loop .inv .1 ∙ ap (λ (n : ℕ). count n (λ k. not (slotFree (a .slots) (a .table .now) k))) last ∙ front (λ w. not (eqb w 0)) refl,
+      c .wide2 .ensures ∙ c .before .before .before .loop .inv .2 ∙ ap (λ (n : ℕ). count n (isCopy (a .slots) (a .table .now))) last ∙ front ownsBody refl,
     )
 
 pub count-used-spec : {M : Type 1} → statement M

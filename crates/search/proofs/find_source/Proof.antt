@@ -10,19 +10,22 @@ use Rattle.search.proofs.find_source.Statement.{statement}
 use Rattle.search.proofs.find_source.Tie as tie
 
 abbrev Inv-loop : tie.InvT-loop
-Inv-loop table slots depth cell d₀ d = sourceIn slots table depth cell ≡ sourceIn slots table d cell
+Inv-loop table slots depth cell last before d₀ d = sourceIn slots table depth cell ≡ sourceIn slots table d cell
 
 abbrev μ-loop : tie.MeasureT-loop
-μ-loop table slots depth cell d₀ d = d
+μ-loop table slots depth cell last before d₀ d = d
 
 loop-holds : tie.Need-loop-holds Inv-loop μ-loop
 loop-holds c = search needs
+
+noted-requires : tie.Need-noted-requires Inv-loop μ-loop
+noted-requires c κs = search needs
 
 find-entry-requires : tie.Need-find-entry-requires Inv-loop μ-loop
 find-entry-requires c κs = search needs
 
 returns : tie.Need-returns Inv-loop μ-loop
-returns c = sym (c .before .before .before .loop .inv ∙ source-none-at _ _ _ _ (c .before .before .loop-test .taken) (rw (← (c .before .find-entry .ensures)) (c .if1 .taken)))
+returns c = sym (c .before .before .before .before .loop .inv ∙ source-none-at _ _ _ _ (c .before .before .before .loop-test .taken) (rw (← (c .before .find-entry .ensures)) (c .if1 .taken)))
 
 first-word-requires : tie.Need-first-word-requires Inv-loop μ-loop
 first-word-requires c κs = search needs
@@ -31,7 +34,7 @@ is-via-requires : tie.Need-is-via-requires Inv-loop μ-loop
 is-via-requires c κs = search needs
 
 returns-2 : tie.Need-returns-2 Inv-loop μ-loop
-returns-2 c = sym (c .before .before .before .before .before .before .loop .inv ∙ source-copy-at _ _ _ _ _ (c .before .before .before .before .before .loop-test .taken) (c .before .before .before .before .find-entry .ensures) (c .before .before .before .if1 .left) (via-zero _ (rw (c .before .before .first-word .ensures) at (sym (c .before .is-via .ensures) ∙ not-true _ (c .if2 .taken)))))
+returns-2 c = sym (c .before .before .before .before .before .before .before .loop .inv ∙ source-copy-at _ _ _ _ _ (c .before .before .before .before .before .before .loop-test .taken) (c .before .before .before .before .find-entry .ensures) (c .before .before .before .if1 .left) (via-zero _ (rw (c .before .before .first-word .ensures) at (sym (c .before .is-via .ensures) ∙ not-true _ (c .if2 .taken)))))
 
 sub-d : tie.Need-sub-d Inv-loop μ-loop
 sub-d c = search needs
@@ -40,7 +43,7 @@ loop-less : tie.Need-loop-less Inv-loop μ-loop
 loop-less c = search needs
 
 loop-again : tie.Need-loop-again Inv-loop μ-loop
-loop-again c = c .before .before .before .before .before .before .loop .inv ∙ source-via-at _ _ _ _ _ (c .before .before .before .before .before .loop-test .taken) (c .before .before .before .before .find-entry .ensures) (c .before .before .before .if1 .left) (via-some _ (rw (c .before .before .first-word .ensures) at (sym (c .before .is-via .ensures) ∙ not-false _ (c .if2 .left))))
+loop-again c = c .before .before .before .before .before .before .before .loop .inv ∙ source-via-at _ _ _ _ _ (c .before .before .before .before .before .before .loop-test .taken) (c .before .before .before .before .find-entry .ensures) (c .before .before .before .if1 .left) (via-some _ (rw (c .before .before .first-word .ensures) at (sym (c .before .is-via .ensures) ∙ not-false _ (c .if2 .left))))
 
 returns-3 : tie.Need-returns-3 Inv-loop μ-loop
 returns-3 c = sym (c .before .loop .inv ∙ source-zero _ _ _ _ (c .loop-test .left))
@@ -52,6 +55,7 @@ find-source-spec =
     Inv-loop
     μ-loop
     loop-holds
+    noted-requires
     find-entry-requires
     returns
     first-word-requires

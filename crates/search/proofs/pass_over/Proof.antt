@@ -9,13 +9,13 @@ use Rattle.search.proofs.pass_over.Statement.{statement}
 use Rattle.search.proofs.pass_over.Tie as tie
 
 abbrev Inv-loop : tie.InvT-loop
-Inv-loop table slots key i₀ i = (i ≤ slots) × Unnamed slots table key 0 i
+Inv-loop table slots key from end i₀ i = (from ≤ i) × (i ≤ end) × Unnamed slots table key from i
 
 abbrev μ-loop : tie.MeasureT-loop
-μ-loop table slots key i₀ i = slots - i
+μ-loop table slots key from end i₀ i = end - i
 
 loop-holds : tie.Need-loop-holds Inv-loop μ-loop
-loop-holds c = (search needs, failing-none _ 0)
+loop-holds c = (search needs, search needs, failing-none _ _)
 
 add-loop : tie.Need-add-loop Inv-loop μ-loop
 add-loop c = search needs
@@ -42,7 +42,8 @@ loop-again : tie.Need-loop-again Inv-loop μ-loop
 loop-again c =
     let a = c .before .before .before .before .before .before .args in (
       search needs,
-      none-of-eight (λ k. namedBy (a .key) (word1 (a .slots) (a .table .now) k)) (c .before .before .before .before .loop .i) _ _ (c .before .before .before .before .loop .inv .1) (c .before .before .four-named .ensures) (c .before .four-named2 .ensures) (c .if1 .left),
+      search needs,
+      none-of-eight (λ k. namedBy (a .key) (word1 (a .slots) (a .table .now) k)) (c .before .before .before .before .loop .i) (a .from) _ _ (c .before .before .before .before .loop .inv .2) (c .before .before .four-named .ensures) (c .before .four-named2 .ensures) (c .if1 .left),
     )
 
 returns-2 : tie.Need-returns-2 Inv-loop μ-loop
