@@ -7,17 +7,18 @@ use native.Mathlib.Nat.{not-suc-le-zero, div-eq-of-lt, div-eq-sub-div}
 use native.Mathlib.Omega.{arith}
 use borrow.Author.Tests.{eq-eqb, ne-eqb, eqb-true, eqb-false}
 use lib.Dec.{eqb}
-use lib.ListN.{length, getD}
+use lib.ListN.{set}
 use lib.Pow.{pow-pos}
-use lib.Seq.{getD-set-same, getD-set-other}
-use Rattle.words.specs.Layout.{maxLive}
+use Rattle.words.specs.Layout.{maxLive, maxCells}
 use Rattle.words.proofs.Scan.{by-bool, by-le, and-split, and-join, is-false, is-true, true≢}
-use Rattle.table.specs.Entry.{word1, depthOf, writableOf, findIn, holdsIn, writesIn}
-use Rattle.table.specs.Marks.{has, withDepth, cellIn, markAt, Marked, CellsOnce}
-use Rattle.table.proofs.Digits.{has-zero, has-other, bit-small}
+use Rattle.table.specs.Entry.{word1, depthOf, cellOf, writableOf, findIn, holdsIn, writesIn}
+use Rattle.table.specs.Blocks.{placeOf, markOf, Kept}
+use Rattle.table.specs.Marks.{has, withDepth, cellIn, markAt, Marked, CellsOnce, FreeRun}
+use Rattle.table.proofs.Digits.{has-zero, has-none, has-other, bit-small}
+use Rattle.table.proofs.Blocks.{marked-own, store-mark, store-kept}
 use Rattle.table.proofs.Marks.{split}
 use Rattle.table.proofs.Entry.{find-some, find-hit, holds-true, holds-found}
-use Rattle.search.specs.Writable.{withoutDepth, takenBy, keepCell, TellWritable}
+use Rattle.search.specs.Writable.{withoutDepth, takenBy, KeepsCell, TellWritable}
 
 -- ---- a depth out of a mark
 even : (d : ℕ) → 1 ≤ d → 2 * (2 ^ d / 2) ≡ 2 ^ d
@@ -89,16 +90,31 @@ module _ (d w : ℕ) where
       (λ a. by-bool (eqb (writableOf w) 0) (λ b. f (eqb-true _ _ a) (eqb-true _ _ b)) (λ b. g (λ p q. eqb-false _ _ b q)))
       (λ a. g (λ p q. eqb-false _ _ a p))
 
+-- an entry of another depth leaves all marks
+pub keeps-same : (d w : ℕ) (s : List ℕ) → (depthOf w ≡ d → ⊥) → KeepsCell d w s s
+keeps-same d w s other k =
+    by-bool (eqb k (cellOf w))
+    (λ b. rw (b, takes-none d w (λ p q. other p)) (ap (markOf s) (eqb-true k (cellOf w) b) ∙ omega arith))
+    (λ b. rw b)
+
+-- and one of this depth, whose cell has a mark, stores its cell's
+pub keeps-stored : (d w : ℕ) (s : List ℕ) → Kept s → 1 ≤ markAt s w → (v : ℕ) → v ≡ withoutDepth (takenBy d w) (markAt s w)
+    → KeepsCell d w s (set s (placeOf s (cellOf w)) v) × Kept (set s (placeOf s (cellOf w)) v)
+keeps-stored d w s ok some v q =
+    let small : cellOf w < maxCells = omega arith in
+    let own = marked-own s ok (cellOf w) small some in
+    ((λ k. store-mark s ok (cellOf w) small own v k ∙ ap (λ (x : ℕ). cond (eqb k (cellOf w)) x (markOf s k)) q), store-kept s ok (cellOf w) small own v)
+
 -- n entries have passed
-pub record Kept (e : ℕ) (t : List ℕ) (d : ℕ) (before : List ℕ) (n : ℕ) (after : List ℕ) : Type 0 where
-  pub others : (k c : ℕ) → (k ≡ d → ⊥) → has k (getD after c 0) ≡ has k (getD before c 0)
-  pub still : (c : ℕ) → has d (getD after c 0) ≡ true
-      → (has d (getD before c 0) ≡ true) × ((j : ℕ) → j < n → depthOf (word1 e t j) ≡ d → writableOf (word1 e t j) ≡ 0 → cellIn e t j ≡ c → ⊥)
-  pub gone : (c : ℕ) → has d (getD after c 0) ≡ false → has d (getD before c 0) ≡ true
+pub record TakenOut (e : ℕ) (t : List ℕ) (d : ℕ) (before : List ℕ) (n : ℕ) (after : List ℕ) : Type 0 where
+  pub others : (k c : ℕ) → (k ≡ d → ⊥) → has k (markOf after c) ≡ has k (markOf before c)
+  pub still : (c : ℕ) → has d (markOf after c) ≡ true
+      → (has d (markOf before c) ≡ true) × ((j : ℕ) → j < n → depthOf (word1 e t j) ≡ d → writableOf (word1 e t j) ≡ 0 → cellIn e t j ≡ c → ⊥)
+  pub gone : (c : ℕ) → has d (markOf after c) ≡ false → has d (markOf before c) ≡ true
       → (j : ℕ) × (j < n) × (depthOf (word1 e t j) ≡ d) × (writableOf (word1 e t j) ≡ 0) × (cellIn e t j ≡ c)
 
 module _ (e : ℕ) (t : List ℕ) (d : ℕ) (s : List ℕ) where
-  pub kept-none : Kept e t d s 0 s
+  pub kept-none : TakenOut e t d s 0 s
   kept-none =
       record {
         others = λ k c n. refl;
@@ -107,50 +123,45 @@ module _ (e : ℕ) (t : List ℕ) (d : ℕ) (s : List ℕ) where
       }
 
   module _ (some : 1 ≤ d) (m : Marked e t e s) (once : CellsOnce e t e) where
-    module _ (n : ℕ) (u : List ℕ) (l : n < e) (kept : Kept e t d s n u) where
-      -- a read-only entry's depth is still in its cell's mark: no other entry of that depth has the cell
-      there : depthOf (word1 e t n) ≡ d → writableOf (word1 e t n) ≡ 0 → has d (markAt u (word1 e t n)) ≡ true
-      there p q =
-          let was : has d (getD s (cellIn e t n) 0) ≡ true = is-true _ (λ z. m .clear d (cellIn e t n) some z n l p refl) in
+    module _ (n : ℕ) (u : List ℕ) (l : n < e) (kept : TakenOut e t d s n u) where
+      -- an entry's depth is still in its cell's mark: no other entry of that depth has the cell
+      there : depthOf (word1 e t n) ≡ d → has d (markAt u (word1 e t n)) ≡ true
+      there p =
+          let was : has d (markOf s (cellIn e t n)) ≡ true = is-true _ (λ z. m .clear d (cellIn e t n) some z n l p refl) in
           is-true _ (λ z.
           let f = kept .gone (cellIn e t n) z was in
           once n l (f .0) (f .1) (omega (arith, p)) (f .2 ∙ sym p) (f .4))
 
+      -- and so its cell has a mark
+      pub marked-there : depthOf (word1 e t n) ≡ d → 1 ≤ markAt u (word1 e t n)
+      marked-there p =
+          by-le 1 (markAt u (word1 e t n)) (λ l. l)
+          (λ l. let none : markAt u (word1 e t n) ≡ 0 = omega (arith, l) in absurd (true≢ (there p) (ap (has d) none ∙ has-none d)))
+
       pub take-fits : 2 ^ takenBy d (word1 e t n) / 2 ≤ markAt u (word1 e t n)
       take-fits =
           by-taken d (word1 e t n)
-          (λ p q. rw (takes d (word1 e t n) p q) (depth-there d _ (there p q)))
+          (λ p q. rw (takes d (word1 e t n) p q) (depth-there d _ (there p)))
           (λ z. rw (takes-none d (word1 e t n) z) (omega arith))
-
-      -- an entry of another depth
-      kept-other : (depthOf (word1 e t n) ≡ d → ⊥) → Kept e t d s (n + 1) u
-      kept-other z =
-          record {
-            others = kept .others;
-            still = λ c h.
-                let f = kept .still c h in
-                (f .0, λ j b p q r. split n j b (λ x. z (subst (λ (y : ℕ). depthOf (word1 e t y) ≡ d) x p)) (λ x. f .1 j x p q r));
-            gone = λ c h g. let f = kept .gone c h g in (f .0, omega arith, f .2, f .3, f .4);
-          }
 
       by-cell : {C : Type 0} (c : ℕ) → (c ≡ cellIn e t n → C) → ((c ≡ cellIn e t n → ⊥) → C) → C
       by-cell c f g = by-bool (eqb c (cellIn e t n)) (λ b. f (eqb-true _ _ b)) (λ b. g (eqb-false _ _ b))
 
-      module _ (fits : cellIn e t n < length u) where
-        here : getD (keepCell d (word1 e t n) u) (cellIn e t n) 0 ≡ withoutDepth (takenBy d (word1 e t n)) (markAt u (word1 e t n))
-        here = getD-set-same u (cellIn e t n) _ 0 fits
+      module _ (after : List ℕ) (one : KeepsCell d (word1 e t n) u after) where
+        here : markOf after (cellIn e t n) ≡ withoutDepth (takenBy d (word1 e t n)) (markAt u (word1 e t n))
+        here = one (cellIn e t n) ∙ rw (eq-eqb (cellIn e t n) (cellIn e t n) refl)
 
-        elsewhere : (c : ℕ) → (c ≡ cellIn e t n → ⊥) → getD (keepCell d (word1 e t n) u) c 0 ≡ getD u c 0
-        elsewhere c z = getD-set-other u (cellIn e t n) c _ 0 z
+        elsewhere : (c : ℕ) → (c ≡ cellIn e t n → ⊥) → markOf after c ≡ markOf u c
+        elsewhere c z = one c ∙ rw (ne-eqb c (cellIn e t n) z)
 
         -- an entry that takes nothing leaves all marks
-        same : takenBy d (word1 e t n) ≡ 0 → (c : ℕ) → getD (keepCell d (word1 e t n) u) c 0 ≡ getD u c 0
+        same : takenBy d (word1 e t n) ≡ 0 → (c : ℕ) → markOf after c ≡ markOf u c
         same z c =
             by-cell c
             (λ q. rw q (here ∙ ap (λ (x : ℕ). withoutDepth x (markAt u (word1 e t n))) z ∙ omega arith))
             (λ q. elsewhere c q)
 
-        kept-skip : (depthOf (word1 e t n) ≡ d → writableOf (word1 e t n) ≡ 0 → ⊥) → Kept e t d s (n + 1) (keepCell d (word1 e t n) u)
+        kept-skip : (depthOf (word1 e t n) ≡ d → writableOf (word1 e t n) ≡ 0 → ⊥) → TakenOut e t d s (n + 1) after
         kept-skip z =
             let eq = same (takes-none d (word1 e t n) z) in
             record {
@@ -164,23 +175,23 @@ module _ (e : ℕ) (t : List ℕ) (d : ℕ) (s : List ℕ) where
             }
 
         module _ (p : depthOf (word1 e t n) ≡ d) (q : writableOf (word1 e t n) ≡ 0) where
-          taken-here : getD (keepCell d (word1 e t n) u) (cellIn e t n) 0 ≡ withoutDepth d (markAt u (word1 e t n))
+          taken-here : markOf after (cellIn e t n) ≡ withoutDepth d (markAt u (word1 e t n))
           taken-here = here ∙ ap (λ (x : ℕ). withoutDepth x (markAt u (word1 e t n))) (takes d (word1 e t n) p q)
 
-          none-here : has d (getD (keepCell d (word1 e t n) u) (cellIn e t n) 0) ≡ false
-          none-here = ap (has d) taken-here ∙ has-out d (markAt u (word1 e t n)) (there p q)
+          none-here : has d (markOf after (cellIn e t n)) ≡ false
+          none-here = ap (has d) taken-here ∙ has-out d (markAt u (word1 e t n)) (there p)
 
-          kept-take : Kept e t d s (n + 1) (keepCell d (word1 e t n) u)
+          kept-take : TakenOut e t d s (n + 1) after
           kept-take =
               record {
                 others = λ k c ne.
                     by-cell c
-                    (λ x. ap (λ (y : ℕ). has k (getD (keepCell d (word1 e t n) u) y 0)) x ∙ ap (has k) taken-here
-                    ∙ has-rest d (markAt u (word1 e t n)) (there p q) k ne ∙ ap (λ (y : ℕ). has k (getD u y 0)) (sym x) ∙ kept .others k c ne)
+                    (λ x. ap (λ (y : ℕ). has k (markOf after y)) x ∙ ap (has k) taken-here
+                    ∙ has-rest d (markAt u (word1 e t n)) (there p) k ne ∙ ap (λ (y : ℕ). has k (markOf u y)) (sym x) ∙ kept .others k c ne)
                     (λ x. ap (has k) (elsewhere c x) ∙ kept .others k c ne);
                 still = λ c h.
                     by-cell c
-                    (λ x. absurd (true≢ h (ap (λ (y : ℕ). has d (getD (keepCell d (word1 e t n) u) y 0)) x ∙ none-here)))
+                    (λ x. absurd (true≢ h (ap (λ (y : ℕ). has d (markOf after y)) x ∙ none-here)))
                     (λ x.
                     let f = kept .still c (sym (ap (has d) (elsewhere c x)) ∙ h) in
                     (f .0, λ j b p q r. split n j b (λ y. x (sym r ∙ ap (cellIn e t) y)) (λ y. f .1 j y p q r)));
@@ -192,11 +203,19 @@ module _ (e : ℕ) (t : List ℕ) (d : ℕ) (s : List ℕ) where
                     (f .0, omega arith, f .2, f .3, f .4));
               }
 
-        pub kept-more : Kept e t d s (n + 1) (cond (eqb (depthOf (word1 e t n)) d) (keepCell d (word1 e t n) u) u)
-        kept-more =
-            by-bool (eqb (depthOf (word1 e t n)) d)
-            (λ b. rw b (by-taken d (word1 e t n) kept-take kept-skip))
-            (λ b. rw b (kept-other (eqb-false _ _ b)))
+        pub kept-more : TakenOut e t d s (n + 1) after
+        kept-more = by-taken d (word1 e t n) kept-take kept-skip
+
+    -- free entries take nothing
+    pub kept-free : (n k : ℕ) (u : List ℕ) → n ≤ k → FreeRun e t n k → TakenOut e t d s n u → TakenOut e t d s k u
+    kept-free n k u low free kept =
+        record {
+          others = kept .others;
+          still = λ c h.
+              let f = kept .still c h in
+              (f .0, λ j b p q r. by-le n j (λ far. omega (arith, free j far b .0, p, some)) (λ near. f .1 j near p q r));
+          gone = λ c h g. let f = kept .gone c h g in (f .0, omega (arith, f .1, low), f .2, f .3, f .4);
+        }
 
     -- the entry of a depth and a cell is the only one
     only : (i j : ℕ) → i < e → j < e → depthOf (word1 e t i) ≡ d → depthOf (word1 e t j) ≡ d → cellIn e t i ≡ cellIn e t j → i ≡ j
@@ -207,17 +226,17 @@ module _ (e : ℕ) (t : List ℕ) (d : ℕ) (s : List ℕ) where
         (λ y. absurd (once j b i y (omega (arith, q)) (p ∙ sym q) r)))
         (λ x. absurd (once i a j x (omega (arith, p)) (q ∙ sym p) (sym r)))
 
-    pub kept-end : (u : List ℕ) → Kept e t d s e u → TellWritable e t d s u
+    pub kept-end : (u : List ℕ) → TakenOut e t d s e u → TellWritable e t d s u
     kept-end u kept =
         record {
           others = kept .others;
           writes = λ c.
-              by-bool (has d (getD u c 0))
+              by-bool (has d (markOf u c))
               (λ h. h ∙ sym (writing c h))
               (λ h. h ∙ sym (not-writing c h));
         }
       where
-        writing : (c : ℕ) → has d (getD u c 0) ≡ true → writesIn e t d c ≡ true
+        writing : (c : ℕ) → has d (markOf u c) ≡ true → writesIn e t d c ≡ true
         writing c h =
             let f = kept .still c h in
             let g = m .found d c (f .0) in
@@ -226,13 +245,13 @@ module _ (e : ℕ) (t : List ℕ) (d : ℕ) (s : List ℕ) where
             and-join _ _ (holds-true e t d c here)
             (is-true _ (λ z. f .1 (findIn e t d c) here (hit .0) (omega (arith, eqb-false (writableOf (word1 e t (findIn e t d c))) 1 z)) (hit .1)))
 
-        not-writing : (c : ℕ) → has d (getD u c 0) ≡ false → writesIn e t d c ≡ false
+        not-writing : (c : ℕ) → has d (markOf u c) ≡ false → writesIn e t d c ≡ false
         not-writing c h =
             is-false (writesIn e t d c) (λ z.
             let w = and-split (holdsIn e t d c) _ z in
             let here = holds-found e t d c (w .0) in
             let hit = find-hit e t d c here in
-            let was : has d (getD s c 0) ≡ true = is-true _ (λ y. m .clear d c some y (findIn e t d c) here (hit .0) (hit .1)) in
+            let was : has d (markOf s c) ≡ true = is-true _ (λ y. m .clear d c some y (findIn e t d c) here (hit .0) (hit .1)) in
             let g = kept .gone c h was in
             let at : findIn e t d c ≡ g .0 = only (findIn e t d c) (g .0) here (g .1) (hit .0) (g .2) (hit .1 ∙ sym (g .4)) in
             omega (arith, eqb-true (writableOf (word1 e t (findIn e t d c))) 1 (w .1), ap (λ (x : ℕ). writableOf (word1 e t x)) at, g .3))

@@ -4,9 +4,9 @@ use mathlib.Core.Bool.{cond, _&&_}
 use mathlib.Core.List.{List}
 use mathlib.Core.Path.{_≡_}
 use lib.Dec.{eqb}
-use lib.ListN.{set}
 use Rattle.table.specs.Entry.{depthOf, cellOf, writableOf, writesIn}
-use Rattle.table.specs.Marks.{markOf, has, markAt}
+use Rattle.table.specs.Blocks.{markOf, OneMark}
+use Rattle.table.specs.Marks.{has, markAt}
 
 -- a mark with one depth less
 abbrev pub withoutDepth : ℕ → ℕ → ℕ
@@ -17,8 +17,8 @@ unfoldable pub takenBy : ℕ → ℕ → ℕ
 takenBy d w = cond (eqb (depthOf w) d && eqb (writableOf w) 0) d 0
 
 -- the marks after that entry
-abbrev pub keepCell : ℕ → ℕ → List ℕ → List ℕ
-keepCell d w seen = set seen (cellOf w) (withoutDepth (takenBy d w) (markAt seen w))
+abbrev pub KeepsCell : (d w : ℕ) (before after : List ℕ) → Type 0
+KeepsCell d w before after = OneMark before (cellOf w) (withoutDepth (takenBy d w) (markAt before w)) after
 
 -- the marks `after` tell of depth d which cells it holds read-write, and of every other depth what the marks `before` tell
 pub record TellWritable (e : ℕ) (t : List ℕ) (d : ℕ) (before after : List ℕ) : Type 0 where

@@ -3,6 +3,8 @@
 pub mod notes;
 
 use notes::noted;
+use table::cell_marks::change_mark;
+use table::cell_marks::mark_of;
 use table::domains::parent_of;
 use table::fields::cell_of;
 use table::fields::depth_of;
@@ -16,17 +18,17 @@ use words::layout::LIVE_AT;
 use words::layout::handle_at;
 use words::wide;
 ghost use mathlib.Core.Path.{_≡_};
-ghost use mathlib.Core.Bool.{false, cond};
+ghost use mathlib.Core.Bool.{false};
 ghost use Prim.Native.Nat.{ℕ, _+_, _/_, _^_, _<_, _≤_};
 ghost use lib.ListN.{length};
-ghost use lib.Dec.{eqb};
 ghost use Rattle.words.specs.Layout.{pairsAt, handleAt, maxSlots, maxLive, maxCells};
-ghost use Rattle.table.specs.Entry.{live, depthOf, cellOf, findIn};
-ghost use Rattle.table.specs.Marks.{markAt, Marked, CellsOnce, FreeRun, cellIn};
+ghost use Rattle.table.specs.Entry.{live, depthOf, findIn};
+ghost use Rattle.table.specs.Blocks.{Kept};
+ghost use Rattle.table.specs.Marks.{markAt, Marked, CellsOnce, FreeRun, EndsAt};
 ghost use Rattle.search.specs.Search.{Bare, IsKey, namedBy, Unnamed, HasSource, holderIn, sourceIn, valueFrom};
 ghost use Rattle.search.specs.Free.{usedSlots, copies, unmarkedFrom};
 ghost use Rattle.search.specs.Domain.{depthNamed};
-ghost use Rattle.search.specs.Writable.{takenBy, keepCell, TellWritable};
+ghost use Rattle.search.specs.Writable.{takenBy, KeepsCell, TellWritable};
 
 // The first holder of a cell in a search inwards: its depth and its entry.
 pub enum Holder {
@@ -303,26 +305,26 @@ fn taken_bit(word: u32, depth: u32) -> u8
 // Takes this depth out of the mark of a read-only entry's cell. Entries of another depth, and free ones, are left out: a free entry's word
 // names cell 0, and storing its mark once for each would hold up the next.
 fn keep_entry(seen: &mut [u8], word: u32, depth: u32)
-    requires { ⌜ (depth ≤ maxLive) × (cellOf word < length (now seen)) × (2 ^ takenBy depth word / 2 ≤ markAt (now seen) word) ⌝ }
-    ensures { λ _. ⌜ now (seen .exit) ≡ cond (eqb (depthOf word) depth) (keepCell depth word (now (seen .entry))) (now (seen .entry)) ⌝ }
+    requires { ⌜ (depth ≤ maxLive) × Kept (now seen) × (2 ^ takenBy depth word / 2 ≤ markAt (now seen) word) × (depthOf word ≡ depth → 1 ≤ markAt (now seen) word) ⌝ }
+    ensures { λ _. ⌜ KeepsCell depth word (now (seen .entry)) (now (seen .exit)) × Kept (now (seen .exit)) ⌝ }
 {
     if depth_of(word) != depth {
         return;
     }
     let cell = cell_of(word);
-    let mark = seen[cell];
-    seen[cell] = mark - taken_bit(word, depth);
+    let mark = mark_of(seen, cell);
+    change_mark(seen, cell, mark - taken_bit(word, depth));
 }
 
 // Takes this depth out of the mark of each cell that the domain at this depth holds read-only, so that the marks tell of this depth which
-// cells it holds read-write.
-pub fn keep_writable(table: &[u32], slots: usize, depth: u32, seen: &mut [u8])
-    requires { ⌜ (slots ≤ maxSlots) × (pairsAt slots ≤ length (now table)) × (1 ≤ depth) × (depth ≤ maxLive) ⌝ }
-    requires { ⌜ ((i : ℕ) → i < slots → cellIn slots (now table) i < length (now seen)) × Marked slots (now table) slots (now seen) × CellsOnce slots (now table) slots ⌝ }
+// cells it holds read-write. The entries from `top` on are free.
+pub fn keep_writable(table: &[u32], slots: usize, top: usize, depth: u32, seen: &mut [u8])
+    requires { ⌜ (slots ≤ maxSlots) × (pairsAt slots ≤ length (now table)) × EndsAt slots (now table) top × (1 ≤ depth) × (depth ≤ maxLive) ⌝ }
+    requires { ⌜ Kept (now seen) × Marked slots (now table) slots (now seen) × CellsOnce slots (now table) slots ⌝ }
     ensures { λ _. ⌜ TellWritable slots (now (table .entry)) depth (now (seen .entry)) (now (seen .exit)) ⌝ }
 {
     let mut i: usize = 0;
-    while i < slots {
+    while i < top {
         keep_entry(seen, first_word(table, slots, i), depth);
         i += 1;
     }
