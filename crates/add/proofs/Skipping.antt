@@ -9,12 +9,11 @@ use native.Mathlib.Numerals.{add-one}
 use native.Mathlib.Omega.{arith}
 use borrow.Author.Tests.{eqb-true, eqb-false, not-true}
 use lib.Dec.{eqb}
-use lib.ListN.{getD}
 use Rattle.words.specs.Scan.{count}
 use Rattle.words.proofs.Scan.{by-bool, by-le, is-true, is-false, count-not}
 use Rattle.words.proofs.Nth.{count-below}
 use Rattle.table.specs.Entry.{live, word1, word2, cellOf}
-use Rattle.table.specs.Marks.{has, Marked}
+use Rattle.table.specs.Marks.{markOf, has, Marked}
 use Rattle.table.specs.Changes.{keep}
 use Rattle.search.specs.Free.{slotFree}
 use Rattle.search.proofs.From.{from-ge}
@@ -52,7 +51,7 @@ module _ (held used : List ℕ) (e b : ℕ) (t : List ℕ) (r : Range) where
       (λ z.
       let new : unheld held (live t) (r .first) (c - r .first) ≡ true =
       count-whole (r .count) (unheld held (live t) (r .first)) (eqb-true _ _ (or-right (eqb (r .label) 0) _ still z)) (c - r .first) (omega arith) in
-      let without : has (live t) (getD held c 0) ≡ false = ap (λ (x : ℕ). has (live t) (getD held x 0)) (sym back) ∙ not-true _ new in
+      let without : has (live t) (markOf held c) ≡ false = ap (λ (x : ℕ). has (live t) (markOf held x)) (sym back) ∙ not-true _ new in
       m .clear (live t) c inner without i h (f .depth) refl))
     where
       zero-one : r .label ≡ 0 → r .label ≡ 1 → ⊥
