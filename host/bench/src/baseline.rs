@@ -6,8 +6,8 @@
 //!   only where an entry is via parent. The pass counts entries and copies in use and notes where the last entry in use stands: later
 //!   passes end there.
 //! - The pass marks which depths hold each cell. Marks stand in blocks of 64, and a directory has the block of each group of 64 cells.
-//!   A block is taken and cleared when the first of its cells is marked, so nothing is done for cells that no entry names; only the
-//!   directory is cleared for each call (2 KiB at the largest memory).
+//!   A block is taken and cleared when the first of its cells is marked, and the next call clears what the directory says of it, so
+//!   that nothing is done for cells that no entry names, however large memory is.
 //! - For the calls that look for entries by cell (restore, advance and add via parent), the pass also notes the last entry of each cell,
 //!   and for each entry the one before it with the same cell. So a holder is found at once, wherever it stands.
 //! - Restore and advance take their cells in order by the directory. Look searches depths and entries by nested loops, which is a form
@@ -58,6 +58,8 @@ struct Notes {
     /// Blocks of marks: for each cell, bit d - 1 tells that depth d holds it. Those up to `blocks` count.
     marks: [[u8; GROUP]; 1 + MAX_GROUPS],
     blocks: usize,
+    /// The group of each of these blocks.
+    groups: [u16; 1 + MAX_GROUPS],
     /// For each mark that is not zero, the last entry of its cell; and for each entry that is not the first of its cell, the one before
     /// it. Only where a call asked for them.
     last: [[u16; GROUP]; 1 + MAX_GROUPS],
@@ -77,6 +79,7 @@ impl Notes {
             marked: [0; MAX_GROUPS / 64],
             marks: [[0; GROUP]; 1 + MAX_GROUPS],
             blocks: 0,
+            groups: [0; 1 + MAX_GROUPS],
             last: [[0; GROUP]; 1 + MAX_GROUPS],
             before: [0; MAX_PLACES],
             used: [0; MAX_PLACES],
@@ -86,9 +89,15 @@ impl Notes {
         }
     }
 
-    /// No cell is marked and no body in use.
+    /// No cell is marked and no body in use. The directory is cleared where the call before took blocks; whole, if these were many.
     fn clear(&mut self, shape: Shape) {
-        self.directory[..shape.cells.div_ceil(GROUP)].fill(0);
+        if self.blocks <= 64 {
+            for &group in &self.groups[1..=self.blocks] {
+                self.directory[group as usize] = 0;
+            }
+        } else {
+            self.directory.fill(0);
+        }
         self.marked.fill(0);
         self.used[..shape.bodies].fill(0);
         self.blocks = 0;
@@ -99,6 +108,7 @@ impl Notes {
     fn take_block(&mut self, group: usize) -> usize {
         self.blocks += 1;
         self.directory[group] = self.blocks as u16;
+        self.groups[self.blocks] = group as u16;
         self.marked[group / 64] |= 1 << (group % 64);
         self.marks[self.blocks] = [0; GROUP];
         self.blocks
