@@ -1,7 +1,7 @@
 //! Prints the library's times beside the same store without proofs, beside a plain scan of the table and beside plain copies, with the
 //! goals that they are held to.
 
-use domain_bench::measure::{FIGURES, Figure, Layout, Medians, Shape, measure};
+use domain_bench::measure::{FIGURES, Figure, Layout, Medians, NEAR, Shape, measure};
 use std::time::Duration;
 
 /// How long each shape is measured.
@@ -27,7 +27,7 @@ const GOAL_GROWTH: f64 = 20.0;
 const GOAL_CHECK: f64 = 2.0;
 
 const LARGE: usize = 65_536;
-const SMALL: usize = 1_024;
+const SMALL: usize = NEAR;
 const MEMORIES: [usize; 2] = [LARGE, SMALL];
 const PLACES: [usize; 4] = [64, 256, 1_024, 4_096];
 /// Where the two memories are held beside each other.
@@ -198,6 +198,9 @@ fn measure_all() -> Vec<Medians> {
     for domains in DOMAINS {
         for cells in CELLS {
             let shapes = shapes(domains, cells);
+            if shapes.is_empty() {
+                continue;
+            }
             eprintln!(
                 "measuring: domains {domains}, n = {}, shapes {}",
                 number(cells),
