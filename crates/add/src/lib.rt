@@ -261,7 +261,15 @@ fn agrees_plain(
 {
     let notes = no_notes();
     parent_agrees(
-        memory, bodies, table, slots, &notes, &notes, held, depth, range,
+        memory,
+        bodies,
+        table,
+        slots,
+        &notes,
+        &notes,
+        held,
+        depth,
+        range,
     )
 }
 
@@ -284,7 +292,15 @@ fn agrees_few(
     let mut before = few_notes();
     note_entries(table, slots, top, &mut last, &mut before);
     parent_agrees(
-        memory, bodies, table, slots, &last, &before, held, depth, range,
+        memory,
+        bodies,
+        table,
+        slots,
+        &last,
+        &before,
+        held,
+        depth,
+        range,
     )
 }
 
@@ -307,7 +323,15 @@ fn agrees_many(
     let mut before = many_notes();
     note_entries(table, slots, top, &mut last, &mut before);
     parent_agrees(
-        memory, bodies, table, slots, &last, &before, held, depth, range,
+        memory,
+        bodies,
+        table,
+        slots,
+        &last,
+        &before,
+        held,
+        depth,
+        range,
     )
 }
 
@@ -370,14 +394,7 @@ fn parent_check(
 }
 
 // Questions 16 and 17, for so many new cells.
-fn room_check(
-    table: &[u32],
-    slots: usize,
-    top: usize,
-    bodies: usize,
-    new: usize,
-    kind: u32,
-) -> u32
+fn room_check(table: &[u32], slots: usize, top: usize, bodies: usize, new: usize, kind: u32) -> u32
     requires { ⌜ (slots ≤ maxSlots) × (pairsAt slots ≤ length (now table)) × (new ≤ maxCells) × EndsAt slots (now table) top ⌝ }
     ensures { λ r. ⌜ r ≡ roomCheck slots (now (table .entry)) bodies new kind ⌝ }
 {
