@@ -18,7 +18,7 @@ use Rattle.words.proofs.Gather.{gather-ext}
 use Rattle.table.specs.Entry.{live, word1}
 use Rattle.table.specs.Changes.{entryStores}
 use Rattle.table.specs.Blocks.{cellsIn}
-use Rattle.table.specs.Marks.{AllMarked}
+use Rattle.table.specs.Marks.{AllMarked, EndsAt}
 use Rattle.search.specs.Free.{slotFree, bodyFree, lowestFree, unmarked}
 use Rattle.search.proofs.Free.{unmarked-free}
 use Rattle.search.proofs.Taking.{taken-free, lowest-free, lowest-taken, lowest-taker}
@@ -89,15 +89,16 @@ module _ (memory bodies t : List ℕ) (range : Range) (r : Ready memory bodies t
       }
 
   pub stageable : range .first + range .count ≤ cellsIn held → length used ≡ maxBodies
-      → (start : ℕ) → (range .kind ≡ 0 → NoneBelow used (bodiesOf (length bodies)) start)
-      → Stageable held used (slotsOf (length t)) (bodiesOf (length bodies)) t range start
-  stageable known many start none =
+      → (start : ℕ) → (range .kind ≡ 0 → NoneBelow used (bodiesOf (length bodies)) start) → (top : ℕ) → EndsAt (slotsOf (length t)) t top
+      → Stageable held used (slotsOf (length t)) (bodiesOf (length bodies)) t range start top
+  stageable known many start none top ends =
       record {
         exact = store-lengths _ _ t (r .store) .table-exact;
         inner = r .inner;
         marks = m .cells;
         walk = walkable known many;
         bodies = none;
+        ends = ends;
       }
 
   bytes-same : copyBytes (bodiesOf (length bodies)) memory held used (live t) (range .first) (range .count) (range .kind) ≡ bytesOfRange memory bodies t range

@@ -13,7 +13,7 @@ use Rattle.words.specs.Cells.{cellBytes, sameCell, cellPlan}
 use Rattle.words.specs.Stores.{Store, gather}
 use Rattle.table.specs.Entry.{live, word1, word2, entryWord, innermost, parent, parentHas}
 use Rattle.table.specs.Blocks.{cellsIn}
-use Rattle.table.specs.Marks.{markOf, has, Marked, CellsOnce}
+use Rattle.table.specs.Marks.{markOf, has, Marked, CellsOnce, EndsAt}
 use Rattle.table.specs.Changes.{Change, keep, put, entryChanges}
 use Rattle.search.specs.Search.{sourceIn, valueIn}
 use Rattle.search.specs.Free.{slotFree, usedSlots, copies, lowestFree, unmarked, unmarkedFrom}
@@ -143,13 +143,14 @@ pub record Walked (held used : List ℕ) (e b : ℕ) (t : List ℕ) (r : Range) 
   pub stands : Stands held used e b t r i c
   pub staged : Stages i (listChange held used e b t r) words bits
 
--- what staging a range asks, with the bodies looked for from `start` on
-pub record Stageable (held used : List ℕ) (e b : ℕ) (t : List ℕ) (r : Range) (start : ℕ) : Type 0 where
+-- what staging a range asks, with the bodies looked for from `start` on, and every entry from `top` on free
+pub record Stageable (held used : List ℕ) (e b : ℕ) (t : List ℕ) (r : Range) (start top : ℕ) : Type 0 where
   pub exact : length t ≡ tableWords e
   pub inner : 1 ≤ live t
   pub marks : Marked e t e held
   pub walk : Walkable held used e b t r
   pub bodies : r .kind ≡ 0 → NoneBelow used b start
+  pub ends : EndsAt e t top
 
 -- the words of a range
 abbrev pub rangeWords : List ℕ → List ℕ → (e b : ℕ) → List ℕ → Range → List Store
@@ -159,11 +160,12 @@ rangeWords held used e b t r = entryChanges e (listChange held used e b t r)
 pub record StagesOn (i : ℕ) (c : Change) (words bits words′ bits′ : List ℕ) : Type 0 where
   pub of : (f : ℕ → Change) → f i ≡ c → Stages i f words bits → Stages (i + 1) f words′ bits′
 
--- the entries from i on and before r are passed over: no label rises, and they are in use unless every new cell is taken
+-- the entries from i on and before r are passed over: no label rises among them, since none rises or they are free; and they are in use unless
+-- every new cell is taken
 pub record Skips (e : ℕ) (t : List ℕ) (still taken : Bool) (i r : ℕ) : Type 0 where
   pub low : i ≤ r
   pub high : r ≤ e
-  pub quiet : i < r → still ≡ true
+  pub quiet : (x : ℕ) → i ≤ x → x < r → still ≡ false → word1 e t x ≡ 0
   pub used : (x : ℕ) → i ≤ x → x < r → taken ≡ false → word1 e t x ≡ 0 → ⊥
 
 -- ---- the call on a range

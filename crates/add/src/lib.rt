@@ -1,10 +1,11 @@
 // Add: names cells of memory for the innermost domain to hold.
 //
 // Which domains hold a cell is told by one mark a cell, and which bodies are in use by one mark a body. Question 4 makes these marks, and
-// the call goes on with them. Then the range is walked once for the bytes, and the entries once to stage those that are taken and those
-// whose label rises. Where no label can rise that walk goes from one free slot to the next, and ends with the last new cell. What is staged
-// is written at the end. The arrays for it are made after the questions, by the number of slots, and the marks before, by how many blocks of
-// cells the entries may need.
+// the call goes on with them. Via parent is compared with notes of where the entries stand, which go before anything is staged. Then the range is
+// walked once for the bytes, and the entries once to stage those that are taken and those whose label rises. Where no label can rise that walk
+// goes from one free slot to the next, and ends with the last new cell; else it ends behind the last entry in use, if no new cell is left. What
+// is staged is written at the end. The arrays for it are made after the questions, by the number of slots, and the marks before, by how many
+// blocks of cells the entries may need.
 use changes::few_bits;
 use changes::few_words;
 use changes::many_bits;
@@ -659,17 +660,24 @@ fn none_rises(held: &[u8], depth: u32, range: Range) -> bool
     (range.label == 0) | (count_new(held, depth, range) == range.count)
 }
 
-// The first entry from `from` on that may change, or `slots`: where no label rises these are the free slots, and none once every new cell is
-// taken.
-fn next_change(table: &[u32], slots: usize, from: usize, still: bool, taken: bool) -> usize
-    requires { ⌜ (slots ≤ maxSlots) × (pairsAt slots ≤ length (now table)) × (from ≤ slots) ⌝ }
+// The first entry from `from` on that may change, or `slots`: where no label rises these are the free slots. Once every new cell is taken none of
+// these changes any more, nor any from `top` on, where all are free.
+fn next_change(
+    table: &[u32],
+    slots: usize,
+    top: usize,
+    from: usize,
+    still: bool,
+    taken: bool,
+) -> usize
+    requires { ⌜ (slots ≤ maxSlots) × (pairsAt slots ≤ length (now table)) × (from ≤ slots) × EndsAt slots (now table) top ⌝ }
     ensures { λ r. ⌜ Skips slots (now (table .entry)) still taken from r ⌝ }
 {
+    if taken & (still | (top <= from)) {
+        return slots;
+    }
     if !still {
         return from;
-    }
-    if taken {
-        return slots;
     }
     let mut i = from;
     while i < slots {
@@ -685,6 +693,7 @@ fn next_change(table: &[u32], slots: usize, from: usize, still: bool, taken: boo
 fn stage_range(
     table: &[u32],
     slots: usize,
+    top: usize,
     held: &[u8],
     used: &[u8],
     bodies: usize,
@@ -694,7 +703,7 @@ fn stage_range(
     changed: &mut [u64],
 )
     requires small { ⌜ (2 * slots ≤ length (now words)) × (slots ≤ groupAt (length (now changed))) ⌝ }
-    requires able { ⌜ Stageable (now held) (now used) slots bodies (now table) range start ⌝ }
+    requires able { ⌜ Stageable (now held) (now used) slots bodies (now table) range start top ⌝ }
     requires blank { ⌜ Stages 0 (listChange (now held) (now used) slots bodies (now table) range) (now words) (now changed) ⌝ }
     ensures { λ _. ⌜ Stages slots (listChange (now (held .entry)) (now (used .entry)) slots bodies (now (table .entry)) range)
         (now (words .exit)) (now (changed .exit)) ⌝ }
@@ -702,7 +711,7 @@ fn stage_range(
     let depth = table[LIVE_AT];
     let still = none_rises(held, depth, range);
     let mut walk = Cursors { at: 0, from: start };
-    let mut i = next_change(table, slots, 0, still, false);
+    let mut i = next_change(table, slots, top, 0, still, false);
     while i < slots {
         walk = pass_entry(
             table,
@@ -716,7 +725,7 @@ fn stage_range(
             words,
             changed,
         );
-        i = next_change(table, slots, i + 1, still, range.count <= walk.at);
+        i = next_change(table, slots, top, i + 1, still, range.count <= walk.at);
     }
 }
 
@@ -724,6 +733,7 @@ fn stage_range(
 fn write_range(
     table: &mut [u32],
     slots: usize,
+    top: usize,
     held: &[u8],
     used: &[u8],
     bodies: usize,
@@ -734,7 +744,7 @@ fn write_range(
     budget: usize,
 ) -> usize
     requires small { ⌜ (2 * slots ≤ length (now words)) × (slots ≤ groupAt (length (now changed))) ⌝ }
-    requires able { ⌜ Stageable (now held) (now used) slots bodies (now table) range start ⌝ }
+    requires able { ⌜ Stageable (now held) (now used) slots bodies (now table) range start top ⌝ }
     requires blank { ⌜ Stages 0 (listChange (now held) (now used) slots bodies (now table) range) (now words) (now changed) ⌝ }
     ensures { λ r. ⌜ Journaled slots (rangeWords (now (held .entry)) (now (used .entry)) slots bodies (now (table .entry)) range) budget
         (now (table .entry)) r (now (table .exit)) ⌝ }
@@ -742,6 +752,7 @@ fn write_range(
     stage_range(
         table,
         slots,
+        top,
         held,
         used,
         bodies,
@@ -757,6 +768,7 @@ fn write_range(
 fn write_few(
     table: &mut [u32],
     slots: usize,
+    top: usize,
     held: &[u8],
     used: &[u8],
     bodies: usize,
@@ -764,7 +776,7 @@ fn write_few(
     start: usize,
     budget: usize,
 ) -> usize
-    requires { ⌜ (slots ≤ 256) × Stageable (now held) (now used) slots bodies (now table) range start ⌝ }
+    requires { ⌜ (slots ≤ 256) × Stageable (now held) (now used) slots bodies (now table) range start top ⌝ }
     ensures { λ r. ⌜ Journaled slots (rangeWords (now (held .entry)) (now (used .entry)) slots bodies (now (table .entry)) range) budget
         (now (table .entry)) r (now (table .exit)) ⌝ }
 {
@@ -773,6 +785,7 @@ fn write_few(
     write_range(
         table,
         slots,
+        top,
         held,
         used,
         bodies,
@@ -788,6 +801,7 @@ fn write_few(
 fn write_many(
     table: &mut [u32],
     slots: usize,
+    top: usize,
     held: &[u8],
     used: &[u8],
     bodies: usize,
@@ -795,7 +809,7 @@ fn write_many(
     start: usize,
     budget: usize,
 ) -> usize
-    requires { ⌜ Stageable (now held) (now used) slots bodies (now table) range start ⌝ }
+    requires { ⌜ Stageable (now held) (now used) slots bodies (now table) range start top ⌝ }
     ensures { λ r. ⌜ Journaled slots (rangeWords (now (held .entry)) (now (used .entry)) slots bodies (now (table .entry)) range) budget
         (now (table .entry)) r (now (table .exit)) ⌝ }
 {
@@ -804,6 +818,7 @@ fn write_many(
     write_range(
         table,
         slots,
+        top,
         held,
         used,
         bodies,
@@ -818,6 +833,7 @@ fn write_many(
 // Add's words, by the marks of all entries. Returns their steps, uncut.
 fn add_words(
     table: &mut [u32],
+    top: usize,
     held: &[u8],
     used: &[u8],
     places: usize,
@@ -825,16 +841,16 @@ fn add_words(
     start: usize,
     budget: usize,
 ) -> usize
-    requires { ⌜ Stageable (now held) (now used) (slotsOf (length (now table))) places (now table) range start ⌝ }
+    requires { ⌜ Stageable (now held) (now used) (slotsOf (length (now table))) places (now table) range start top ⌝ }
     ensures { λ r. ⌜ Journaled (slotsOf (length (now (table .entry))))
         (rangeWords (now (held .entry)) (now (used .entry)) (slotsOf (length (now (table .entry)))) places (now (table .entry)) range) budget
         (now (table .entry)) r (now (table .exit)) ⌝ }
 {
     let slots = slots_of(table.len());
     if slots <= FEW_SLOTS {
-        return write_few(table, slots, held, used, places, range, start, budget);
+        return write_few(table, slots, top, held, used, places, range, start, budget);
     }
-    write_many(table, slots, held, used, places, range, start, budget)
+    write_many(table, slots, top, held, used, places, range, start, budget)
 }
 
 // All of add's stores, once no question refuses it. Returns their number, uncut.
@@ -842,6 +858,7 @@ fn add_stores(
     memory: &[u8],
     bodies: &mut [u8],
     table: &mut [u32],
+    top: usize,
     held: &[u8],
     used: &[u8],
     range: Range,
@@ -849,7 +866,7 @@ fn add_stores(
 ) -> usize
     requires ready { ⌜ Ready (now memory) (now bodies) (now table) (range .first) (range .count) (range .kind) (range .label) ⌝ }
     requires marks { ⌜ (range .first + range .count ≤ cellsIn (now held)) × (length (now used) ≡ maxBodies)
-        × AllMarked (slotsOf (length (now table))) (now table) (now held) (now used) ⌝ }
+        × AllMarked (slotsOf (length (now table))) (now table) (now held) (now used) × EndsAt (slotsOf (length (now table))) (now table) top ⌝ }
     ensures steps { λ r. ⌜ r ≡ stepsOf (length (bytesOfRange (now (memory .entry)) (now (bodies .entry)) (now (table .entry)) range))
         (length (wordsOf (now (bodies .entry)) (now (table .entry)) range)) ⌝ }
     ensures bytes { λ _. ⌜ now (bodies .exit)
@@ -864,7 +881,7 @@ fn add_stores(
     let start = take_body(used, places, range.kind, 0);
     let bytes = copy_new(memory, bodies, held, depth, used, range, start, budget);
     let left = remaining(budget, bytes);
-    bytes + add_words(table, held, used, places, range, start, left)
+    bytes + add_words(table, top, held, used, places, range, start, left)
 }
 
 // The call with room for marks, none made yet.
@@ -887,7 +904,7 @@ fn add_marked(
     if no != 0 {
         return Answer::Refused(no);
     }
-    let steps = add_stores(memory, bodies, table, seen, used, range, budget);
+    let steps = add_stores(memory, bodies, table, top, seen, used, range, budget);
     answer_of(steps, 0, budget)
 }
 
