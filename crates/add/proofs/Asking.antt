@@ -1,19 +1,21 @@
 -- Add's questions as the code puts them: over marks, test by test. Assumes nothing.
-use Prim.Native.Nat.{ℕ, _+_, _≤_, _<_}
+use Prim.Native.Nat.{ℕ, zero, suc, _+_, _≤_, _<_}
 use mathlib.Core.Bool.{Bool, true, false, cond, not, _&&_, _||_}
 use mathlib.Core.List.{List}
 use mathlib.Core.Path.{_≡_, refl, sym, ap, _∙_}
 use native.Mathlib.Omega.{arith}
 use borrow.Author.Tests.{eq-eqb, ne-eqb, eqb-true, le-leb, lt-leb, ltb-true, leb-true}
 use lib.Dec.{leb, ltb, eqb}
-use lib.ListN.{length, getD}
+use lib.ListN.{length}
 use Rattle.store.specs.Outcome.{buffers}
-use Rattle.words.specs.Layout.{cellsOf, bodiesOf, slotsOf}
+use Rattle.words.specs.Layout.{cellsOf, bodiesOf, slotsOf, maxCells}
 use Rattle.words.specs.Scan.{all, count}
 use Rattle.words.specs.Cells.{cellBytes, sameCell}
 use Rattle.words.proofs.Scan.{by-bool, by-le, and-split, true≢, all-at, all-ext, count-ext, count-le, count-more}
 use Rattle.table.specs.Entry.{live, parent, findIn, holdsIn, parentHas}
-use Rattle.table.specs.Marks.{has, Marked}
+use Rattle.table.specs.Blocks.{cellsIn, directoryEnd}
+use Rattle.table.specs.Marks.{markOf, has, Marked, AllMarked, EndsAt, Reached}
+use Rattle.table.proofs.Blocks.{cells-all}
 use Rattle.table.proofs.Digits.{has-zero}
 use Rattle.table.proofs.Marks.{marked-holds}
 use Rattle.table.proofs.Entry.{holds-found}
@@ -21,7 +23,7 @@ use Rattle.search.specs.Search.{sourceIn, valueIn}
 use Rattle.search.specs.Domain.{depthNamed}
 use Rattle.search.specs.Free.{isCopy, usedSlots, copies}
 use Rattle.search.proofs.Free.{slots-all}
-use Rattle.search.proofs.Value.{ends-in-copy, body-fits}
+use Rattle.search.proofs.Value.{ends-in-copy, body-fits, source-zero}
 use Rattle.model.specs.Answer.{ask, orElse}
 use Rattle.model.specs.Holdings.{rangeOk}
 use Rattle.store.specs.Checks.{storeCheck, askInnermostIn, lent}
@@ -71,13 +73,13 @@ module _ (e : ℕ) (t held : List ℕ) (m : Marked e t e held) (inner : 1 ≤ li
   count-held base n = count-ext n (unheld held (live t) base) (isNew e t base) (λ j l. held-new base j)
 
   -- and which the parent holds: no mark has depth 0, so that without a parent there are none
-  parent-told : (c : ℕ) → has (parent (live t)) (getD held c 0) ≡ parentHas e t (live t) c
+  parent-told : (c : ℕ) → has (parent (live t)) (markOf held c) ≡ parentHas e t (live t) c
   parent-told c =
       by-le 2 (live t)
       (λ h. rw (le-leb 2 (live t) h) (marked-holds e t held m (parent (live t)) c (omega arith)))
       (λ h.
       let one : parent (live t) ≡ 0 = omega arith in
-      rw (lt-leb 2 (live t) h) (ap (λ (d : ℕ). has d (getD held c 0)) one ∙ has-zero (getD held c 0)))
+      rw (lt-leb 2 (live t) h) (ap (λ (d : ℕ). has d (markOf held c)) one ∙ has-zero (markOf held c)))
 
 -- one cell more is counted
 pub count-add : (j new : ℕ) (f : ℕ → Bool) → new ≡ count j f → new + cond (f j) 1 0 ≡ count (j + 1) f
@@ -212,12 +214,31 @@ module _ (e : ℕ) (t held : List ℕ) (m : Marked e t e held) (inner : 1 ≤ li
   pub covered-is : all n (λ j. backed held (live t) (base + j)) ≡ all n (covered memory bodies e t base n 0)
   covered-is =
       all-ext n (λ j. backed held (live t) (base + j)) (covered memory bodies e t base n 0)
-      (λ j l. rw (held-new e t held m inner base j, twice (has (parent (live t)) (getD held (base + j) 0)), parent-told e t held m inner (base + j)))
+      (λ j l. rw (held-new e t held m inner base j, twice (has (parent (live t)) (markOf held (base + j))), parent-told e t held m inner (base + j)))
 
   pub agreed-is : all n (λ j. alike memory bodies e t held (live t) (base + j)) ≡ all n (agreed memory bodies e t base n 0)
   agreed-is =
       all-ext n (λ j. alike memory bodies e t held (live t) (base + j)) (agreed memory bodies e t base n 0)
       (λ j l. rw (held-new e t held m inner base j))
+
+-- ---- what is marked
+
+-- no more cells than the largest memory has
+pub cells-small : (seen : List ℕ) → cellsIn seen ≤ maxCells
+unfolding cellsIn
+cells-small seen = by-bool (leb directoryEnd (length seen)) (λ h. rw h (omega arith)) (λ h. rw h (omega arith))
+
+-- every cell has a mark that can be read
+pub marked-cells : (e : ℕ) (t seen used : List ℕ) → AllMarked e t seen used → cellsIn seen ≡ maxCells
+marked-cells e t seen used m = cells-all seen (omega (arith, m .kept .room))
+
+-- depth 0 holds nothing, so that a copy stands behind depth 1 at least
+pub source-low : (e : ℕ) (t : List ℕ) (d c : ℕ) → sourceIn e t d c < e → 1 ≤ d
+source-low e t zero c s = absurd (never (rw (source-zero e t zero c (omega arith)) at s))
+  where
+    never : e < e → ⊥
+    never l = omega arith
+source-low e t (suc d) c s = omega arith
 
 -- ---- a table that passes questions 1 to 4 is right as it stands
 
@@ -229,6 +250,10 @@ module _ (memory bodies t : List ℕ) (yes : storeCheck (lent (length memory) (l
       let f = body-fits _ (slotsOf (length t)) _ t (raw-rule memory bodies t yes) (sourceIn (slotsOf (length t)) t d c) k in
       let w = store-lengths _ _ t yes in
       record { slot = k .slot; fits = omega (arith, w .bodies-exact) }
+
+  -- the passes over the entries may end at the last in use
+  pub ends-at : (top : ℕ) → Reached t top → EndsAt (slotsOf (length t)) t top
+  ends-at top reached = let w = store-lengths _ _ t yes in reached (w .slots-low) (w .slots-high) .0
 
   -- where the parent holds every new cell
   pub sources : (base n : ℕ) (held : List ℕ) → Marked (slotsOf (length t)) t (slotsOf (length t)) held → 1 ≤ live t → all n (covered memory bodies (slotsOf (length t)) t base n 0) ≡ true

@@ -9,12 +9,11 @@ use native.Mathlib.Numerals.{add-one}
 use native.Mathlib.Omega.{arith}
 use borrow.Author.Tests.{eqb-true, eqb-false, not-true}
 use lib.Dec.{eqb}
-use lib.ListN.{getD}
 use Rattle.words.specs.Scan.{count}
 use Rattle.words.proofs.Scan.{by-bool, by-le, is-true, is-false, count-not}
 use Rattle.words.proofs.Nth.{count-below}
 use Rattle.table.specs.Entry.{live, word1, word2, cellOf}
-use Rattle.table.specs.Marks.{has, Marked}
+use Rattle.table.specs.Marks.{markOf, has, Marked}
 use Rattle.table.specs.Changes.{keep}
 use Rattle.search.specs.Free.{slotFree}
 use Rattle.search.proofs.From.{from-ge}
@@ -25,7 +24,7 @@ use Rattle.add.specs.declared.Range.{Range}
 use Rattle.add.specs.Walking.{unheld, newIn, nextUnheld, listChange, Stands, Walked, Skips}
 use Rattle.add.proofs.Asking.{or-right}
 use Rattle.model.proofs.Ranges.{range-both}
-use Rattle.add.proofs.Choices.{rises-facts, raise-no}
+use Rattle.add.proofs.Choices.{rises-facts, rises-free, raise-no}
 use Rattle.add.proofs.Walks.{kept-change, kept-stands, none-change, none-stands}
 
 -- a count that leaves nothing out
@@ -52,7 +51,7 @@ module _ (held used : List ℕ) (e b : ℕ) (t : List ℕ) (r : Range) where
       (λ z.
       let new : unheld held (live t) (r .first) (c - r .first) ≡ true =
       count-whole (r .count) (unheld held (live t) (r .first)) (eqb-true _ _ (or-right (eqb (r .label) 0) _ still z)) (c - r .first) (omega arith) in
-      let without : has (live t) (getD held c 0) ≡ false = ap (λ (x : ℕ). has (live t) (getD held x 0)) (sym back) ∙ not-true _ new in
+      let without : has (live t) (markOf held c) ≡ false = ap (λ (x : ℕ). has (live t) (markOf held x)) (sym back) ∙ not-true _ new in
       m .clear (live t) c inner without i h (f .depth) refl))
     where
       zero-one : r .label ≡ 0 → r .label ≡ 1 → ⊥
@@ -80,16 +79,18 @@ module _ (held used : List ℕ) (e b : ℕ) (t : List ℕ) (r : Range) where
           ))
 
     -- all that are passed over
-    skipped : (still taken : Bool) → (still ≡ true → (i : ℕ) → i < e → rises (live t) (r .first) (r .count) (r .label) (word1 e t i) ≡ false)
+    skipped : 1 ≤ live t → (still taken : Bool) → (still ≡ true → (i : ℕ) → i < e → rises (live t) (r .first) (r .count) (r .label) (word1 e t i) ≡ false)
         → (taken ≡ true → r .count ≤ c .at) → (i n : ℕ) → Skips e t still taken i n → Stands held used e b t r i c
         → Stands held used e b t r n c × ((x : ℕ) → i ≤ x → x < n → listChange held used e b t r x ≡ keep)
-    skipped still taken quiet over i zero h s = let z : i ≡ 0 = omega (arith, h .low) in (rw z at s, λ x l u. absurd (not-suc-le-zero u))
-    skipped still taken quiet over i (suc n) h s =
+    skipped inner still taken quiet over i zero h s = let z : i ≡ 0 = omega (arith, h .low) in (rw z at s, λ x l u. absurd (not-suc-le-zero u))
+    skipped inner still taken quiet over i (suc n) h s =
         by-le i n
         (λ low.
-        let before = skipped still taken quiet over i n
-        (record { low = low; high = omega (arith, h .high); quiet = λ z. h .quiet (omega arith); used = λ x p q. h .used x p (omega arith) }) s in
-        let one = passed-over n (quiet (h .quiet (omega arith)) n (omega (arith, h .high))) (before .0) taken over (h .used n low (omega arith)) in (
+        let before = skipped inner still taken quiet over i n
+        (record { low = low; high = omega (arith, h .high); quiet = λ x p q. h .quiet x p (omega arith); used = λ x p q. h .used x p (omega arith) }) s in
+        let calm : rises (live t) (r .first) (r .count) (r .label) (word1 e t n) ≡ false =
+        by-bool still (λ z. quiet z n (omega (arith, h .high))) (λ z. rw (h .quiet n low (omega arith) z) (rises-free (live t) (r .first) (r .count) (r .label) inner)) in
+        let one = passed-over n calm (before .0) taken over (h .used n low (omega arith)) in (
           rw add-one at (one .1),
           λ x l u. by-bool (eqb x n) (λ q. rw (eqb-true x n q) (one .0)) (λ q. before .1 x l (omega (arith, eqb-false x n q))),
         ))
@@ -102,5 +103,5 @@ module _ (held used : List ℕ) (e b : ℕ) (t : List ℕ) (r : Range) where
         → (taken ≡ true → r .count ≤ c .at) → {i n : ℕ} {words bits : List ℕ} → Skips e t still taken i n
         → Walked held used e b t r i c words bits → Walked held used e b t r n c words bits
     walk-skip m inner still taken q over {i} {n} h w =
-        let s = skipped still taken (λ z. none-rises m inner (sym q ∙ z)) over i n h (w .stands) in
+        let s = skipped inner still taken (λ z. none-rises m inner (sym q ∙ z)) over i n h (w .stands) in
         record { stands = s .0; staged = stages-skip n (w .staged) (h .low) (s .1) }

@@ -17,7 +17,8 @@ use Rattle.words.proofs.Nth.{nth-below, nth-rank, nth-ext}
 use Rattle.words.proofs.Gather.{gather-ext}
 use Rattle.table.specs.Entry.{live, word1}
 use Rattle.table.specs.Changes.{entryStores}
-use Rattle.table.specs.Marks.{AllMarked}
+use Rattle.table.specs.Blocks.{cellsIn}
+use Rattle.table.specs.Marks.{AllMarked, EndsAt}
 use Rattle.search.specs.Free.{slotFree, bodyFree, lowestFree, unmarked}
 use Rattle.search.proofs.Free.{unmarked-free}
 use Rattle.search.proofs.Taking.{taken-free, lowest-free, lowest-taken, lowest-taker}
@@ -71,7 +72,7 @@ module _ (memory bodies t : List ℕ) (range : Range) (r : Ready memory bodies t
       (places-enough memory bodies t (range .first) (range .count) (range .kind) (range .label) r z)
 
   -- the walk over the entries may begin
-  walkable : range .first + range .count ≤ length held → length used ≡ maxBodies → Walkable held used (slotsOf (length t)) (bodiesOf (length bodies)) t range
+  walkable : range .first + range .count ≤ cellsIn held → length used ≡ maxBodies → Walkable held used (slotsOf (length t)) (bodiesOf (length bodies)) t range
   walkable known many =
       let w = store-lengths _ _ t (r .store) in
       record {
@@ -87,16 +88,17 @@ module _ (memory bodies t : List ℕ) (range : Range) (r : Ready memory bodies t
         enough = bodies-enough;
       }
 
-  pub stageable : range .first + range .count ≤ length held → length used ≡ maxBodies
-      → (start : ℕ) → (range .kind ≡ 0 → NoneBelow used (bodiesOf (length bodies)) start)
-      → Stageable held used (slotsOf (length t)) (bodiesOf (length bodies)) t range start
-  stageable known many start none =
+  pub stageable : range .first + range .count ≤ cellsIn held → length used ≡ maxBodies
+      → (start : ℕ) → (range .kind ≡ 0 → NoneBelow used (bodiesOf (length bodies)) start) → (top : ℕ) → EndsAt (slotsOf (length t)) t top
+      → Stageable held used (slotsOf (length t)) (bodiesOf (length bodies)) t range start top
+  stageable known many start none top ends =
       record {
         exact = store-lengths _ _ t (r .store) .table-exact;
         inner = r .inner;
         marks = m .cells;
         walk = walkable known many;
         bodies = none;
+        ends = ends;
       }
 
   bytes-same : copyBytes (bodiesOf (length bodies)) memory held used (live t) (range .first) (range .count) (range .kind) ≡ bytesOfRange memory bodies t range

@@ -12,7 +12,8 @@ use Rattle.words.specs.Scan.{all, count, nth}
 use Rattle.words.specs.Cells.{cellBytes, sameCell, cellPlan}
 use Rattle.words.specs.Stores.{Store, gather}
 use Rattle.table.specs.Entry.{live, word1, word2, entryWord, innermost, parent, parentHas}
-use Rattle.table.specs.Marks.{markOf, has, Marked}
+use Rattle.table.specs.Blocks.{cellsIn}
+use Rattle.table.specs.Marks.{markOf, has, Marked, CellsOnce, EndsAt}
 use Rattle.table.specs.Changes.{Change, keep, put, entryChanges}
 use Rattle.search.specs.Search.{sourceIn, valueIn}
 use Rattle.search.specs.Free.{slotFree, usedSlots, copies, lowestFree, unmarked, unmarkedFrom}
@@ -81,6 +82,19 @@ pub record Source (e : ℕ) (t bodies : List ℕ) (d c : ℕ) : Type 0 where
   pub slot : sourceIn e t d c < e
   pub fits : cellAt (word2 e t (sourceIn e t d c)) + cellSize ≤ length bodies
 
+-- what comparing a range with the values of depth d's parent asks: the parent holds every cell of it that depth d lacks
+pub record Comparable (memory bodies : List ℕ) (e : ℕ) (t held : List ℕ) (d : ℕ) (r : Range) : Type 0 where
+  pub slots : e ≤ maxSlots
+  pub long : pairsAt e ≤ length t
+  pub deep : live t ≤ maxLive
+  pub inner : 1 ≤ d
+  pub among : d ≤ live t
+  pub once : CellsOnce e t e
+  pub few : r .first + r .count ≤ maxCells
+  pub fits : cellAt (r .first + r .count) ≤ length memory
+  pub cells : r .first + r .count ≤ cellsIn held
+  pub sources : (j : ℕ) → j < r .count → lacks held d (r .first + j) ≡ true → Source e t bodies (parent d) (r .first + j)
+
 -- ---- the bytes: the j-th cell, where it is new, goes into the lowest body without a mark that is left
 
 unfoldable pub copyBytes : (b : ℕ) → List ℕ → List ℕ → List ℕ → (d base n k : ℕ) → List Store
@@ -111,7 +125,7 @@ pub record Walkable (held used : List ℕ) (e b : ℕ) (t : List ℕ) (r : Range
   pub deep : live t ≤ maxLive
   pub kind : r .kind ≤ 1
   pub label : r .label ≤ 1
-  pub cells : r .first + r .count ≤ length held
+  pub cells : r .first + r .count ≤ cellsIn held
   pub few : r .first + r .count ≤ maxCells
   pub bodies : b ≤ length used
   pub places : b ≤ maxBodies
@@ -129,13 +143,14 @@ pub record Walked (held used : List ℕ) (e b : ℕ) (t : List ℕ) (r : Range) 
   pub stands : Stands held used e b t r i c
   pub staged : Stages i (listChange held used e b t r) words bits
 
--- what staging a range asks, with the bodies looked for from `start` on
-pub record Stageable (held used : List ℕ) (e b : ℕ) (t : List ℕ) (r : Range) (start : ℕ) : Type 0 where
+-- what staging a range asks, with the bodies looked for from `start` on, and every entry from `top` on free
+pub record Stageable (held used : List ℕ) (e b : ℕ) (t : List ℕ) (r : Range) (start top : ℕ) : Type 0 where
   pub exact : length t ≡ tableWords e
   pub inner : 1 ≤ live t
   pub marks : Marked e t e held
   pub walk : Walkable held used e b t r
   pub bodies : r .kind ≡ 0 → NoneBelow used b start
+  pub ends : EndsAt e t top
 
 -- the words of a range
 abbrev pub rangeWords : List ℕ → List ℕ → (e b : ℕ) → List ℕ → Range → List Store
@@ -145,11 +160,12 @@ rangeWords held used e b t r = entryChanges e (listChange held used e b t r)
 pub record StagesOn (i : ℕ) (c : Change) (words bits words′ bits′ : List ℕ) : Type 0 where
   pub of : (f : ℕ → Change) → f i ≡ c → Stages i f words bits → Stages (i + 1) f words′ bits′
 
--- the entries from i on and before r are passed over: no label rises, and they are in use unless every new cell is taken
+-- the entries from i on and before r are passed over: no label rises among them, since none rises or they are free; and they are in use unless
+-- every new cell is taken
 pub record Skips (e : ℕ) (t : List ℕ) (still taken : Bool) (i r : ℕ) : Type 0 where
   pub low : i ≤ r
   pub high : r ≤ e
-  pub quiet : i < r → still ≡ true
+  pub quiet : (x : ℕ) → i ≤ x → x < r → still ≡ false → word1 e t x ≡ 0
   pub used : (x : ℕ) → i ≤ x → x < r → taken ≡ false → word1 e t x ≡ 0 → ⊥
 
 -- ---- the call on a range

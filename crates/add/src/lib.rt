@@ -1,9 +1,11 @@
 // Add: names cells of memory for the innermost domain to hold.
 //
 // Which domains hold a cell is told by one mark a cell, and which bodies are in use by one mark a body. Question 4 makes these marks, and
-// the call goes on with them. Then the range is walked once for the bytes, and the entries once to stage those that are taken and those
-// whose label rises. Where no label can rise that walk goes from one free slot to the next, and ends with the last new cell. What is staged
-// is written at the end. The arrays for it are made after the questions, by the number of slots, and the marks before, by that of cells.
+// the call goes on with them. Via parent is compared with notes of where the entries stand, which go before anything is staged. Then the range is
+// walked once for the bytes, and the entries once to stage those that are taken and those whose label rises. Where no label can rise that walk
+// goes from one free slot to the next, and ends with the last new cell; else it ends behind the last entry in use, if no new cell is left. What
+// is staged is written at the end. The arrays for it are made after the questions, by the number of slots, and the marks before, by how many
+// blocks of cells the entries may need.
 use changes::few_bits;
 use changes::few_words;
 use changes::many_bits;
@@ -15,25 +17,33 @@ use search::Held;
 use search::count_used;
 use search::find_value;
 use search::next_free_body;
+use search::notes::few_notes;
+use search::notes::many_notes;
+use search::notes::no_notes;
+use search::notes::note_entries;
 use store::Answer;
 use store::answer_of;
 use store::innermost_check;
 use store::range_ok;
 use store::store_check;
-use table::FEW_CELLS;
 use table::FEW_SLOTS;
+use table::cell_marks::FEW_BLOCKS;
+use table::cell_marks::SOME_BLOCKS;
+use table::cell_marks::blocks_wanted;
+use table::cell_marks::few_marks;
+use table::cell_marks::has_depth;
+use table::cell_marks::many_marks;
+use table::cell_marks::mark_of;
+use table::cell_marks::some_marks;
 use table::domains::parent_of;
-use table::few_marks;
 use table::fields::cell_of;
 use table::fields::depth_of;
 use table::fields::entry_word;
 use table::fields::raise;
 use table::fields::writable_of;
 use table::first_word;
-use table::has_depth;
-use table::many_marks;
-use table::mark_of;
 use table::no_bodies;
+use table::reach_of;
 use table::second_word;
 use words::copy_cell;
 use words::layout::CELL_SIZE;
@@ -46,7 +56,7 @@ use words::wide;
 ghost use mathlib.Core.Path.{_≡_};
 ghost use mathlib.Core.Bool.{true, cond, _||_};
 ghost use mathlib.Core.List.{[]};
-ghost use Prim.Native.Nat.{ℕ, _+_, _-_, _*_, _<_, _≤_, min};
+ghost use Prim.Native.Nat.{ℕ, _+_, _-_, _*_, _<_, _≤_};
 ghost use lib.ListN.{length, take};
 ghost use lib.Dec.{eqb};
 ghost use Rattle.words.specs.Layout.{cellAt, cellsOf, bodiesOf, slotsOf, pairsAt, handleAt, maxLive, maxSlots, maxCells, maxBodies, cellSize, groupAt};
@@ -55,7 +65,8 @@ ghost use Rattle.words.specs.Cells.{cellBytes, sameCell, cellPlan};
 ghost use Rattle.words.specs.Stores.{stores};
 ghost use Rattle.words.specs.Journal.{journal};
 ghost use Rattle.table.specs.Entry.{live, word1, word2, parent};
-ghost use Rattle.table.specs.Marks.{Blank, Marked, AllMarked};
+ghost use Rattle.table.specs.Blocks.{cellsIn, Enough};
+ghost use Rattle.table.specs.Marks.{CellsOnce, EndsAt, Reached, RoomForMarks, Marked, AllMarked};
 ghost use Rattle.search.specs.Search.{valueIn};
 ghost use Rattle.search.specs.Free.{unmarked, unmarkedFrom};
 ghost use Rattle.changes.specs.Staged.{Stages, Journaled};
@@ -64,7 +75,7 @@ ghost use Rattle.store.specs.Checks.{storeCheck, lent};
 ghost use Rattle.store.specs.Outcome.{buffers, report, Makes};
 ghost use Rattle.store.specs.Means.{Shows};
 ghost use Rattle.add.specs.Add.{addCheck, addCall, addMeans, rises, raiseChange};
-ghost use Rattle.add.specs.Walking.{lacks, newIn, nextUnheld, rangeCheck, parentCheck, roomCheck, heldCheck, backed, alike, Source, copyBytes};
+ghost use Rattle.add.specs.Walking.{lacks, newIn, nextUnheld, rangeCheck, parentCheck, roomCheck, heldCheck, backed, alike, Source, Comparable, copyBytes};
 ghost use Rattle.add.specs.Walking.{bodyBeyond, listChange, NoneBelow, StagesOn, Walkable, Walked, Stageable, Skips, Ready, bytesOfRange, wordsOf, callOf};
 ghost use Rattle.add.specs.Walking.{rangeWords};
 
@@ -99,7 +110,7 @@ fn range_check(table: &[u32], cells: usize, handle: u32, range: Range) -> u32
 
 // Does the domain at this depth not hold the cell?
 fn is_new(held: &[u8], depth: u32, cell: usize) -> bool
-    requires { ⌜ (cell < length (now held)) × (depth ≤ maxLive) ⌝ }
+    requires { ⌜ (cell < cellsIn (now held)) × (depth ≤ maxLive) ⌝ }
     ensures { λ r. ⌜ r ≡ lacks (now (held .entry)) depth cell ⌝ }
 {
     !has_depth(mark_of(held, cell), depth)
@@ -107,7 +118,7 @@ fn is_new(held: &[u8], depth: u32, cell: usize) -> bool
 
 // 1 where it does not, else 0.
 fn new_here(held: &[u8], depth: u32, cell: usize) -> usize
-    requires { ⌜ (cell < length (now held)) × (depth ≤ maxLive) ⌝ }
+    requires { ⌜ (cell < cellsIn (now held)) × (depth ≤ maxLive) ⌝ }
     ensures { λ r. ⌜ r ≡ cond (lacks (now (held .entry)) depth cell) 1 0 ⌝ }
 {
     if is_new(held, depth, cell) { 1 } else { 0 }
@@ -115,7 +126,7 @@ fn new_here(held: &[u8], depth: u32, cell: usize) -> usize
 
 // How many cells of the range are new.
 fn count_new(held: &[u8], depth: u32, range: Range) -> usize
-    requires { ⌜ (range .first + range .count ≤ length (now held)) × (depth ≤ maxLive) ⌝ }
+    requires { ⌜ (range .first + range .count ≤ cellsIn (now held)) × (depth ≤ maxLive) ⌝ }
     ensures { λ r. ⌜ r ≡ newIn (now (held .entry)) depth range ⌝ }
 {
     let mut new: usize = 0;
@@ -129,7 +140,7 @@ fn count_new(held: &[u8], depth: u32, range: Range) -> usize
 
 // Does the parent hold every new cell of the range? Depth 0, the outermost domain's parent, holds none.
 fn parent_holds(held: &[u8], depth: u32, range: Range) -> bool
-    requires { ⌜ (range .first + range .count ≤ length (now held)) × (1 ≤ depth) × (depth ≤ maxLive) ⌝ }
+    requires { ⌜ (range .first + range .count ≤ cellsIn (now held)) × (1 ≤ depth) × (depth ≤ maxLive) ⌝ }
     ensures { λ r. ⌜ r ≡ all (range .count) (λ j. backed (now (held .entry)) depth (range .first + j)) ⌝ }
 {
     let mut j: usize = 0;
@@ -143,20 +154,23 @@ fn parent_holds(held: &[u8], depth: u32, range: Range) -> bool
     true
 }
 
-// Has memory the value of a cell that the domain at this depth holds?
+// Has memory the value of a cell that the domain at this depth holds? `last` and `before` are notes of where to begin the search.
 fn same_value(
     memory: &[u8],
     bodies: &[u8],
     table: &[u32],
     slots: usize,
+    last: &[u16],
+    before: &[u16],
     depth: u32,
     cell: usize,
 ) -> bool
-    requires { ⌜ (slots ≤ maxSlots) × (pairsAt slots ≤ length (now table)) × (depth ≤ live (now table)) × (live (now table) ≤ maxLive) ⌝ }
+    requires { ⌜ (slots ≤ maxSlots) × (pairsAt slots ≤ length (now table)) × (depth ≤ live (now table)) × (live (now table) ≤ maxLive)
+        × CellsOnce slots (now table) slots ⌝ }
     requires { ⌜ (cell < maxCells) × (cellAt cell + cellSize ≤ length (now memory)) × Source slots (now table) (now bodies) depth cell ⌝ }
     ensures { λ r. ⌜ r ≡ sameCell (valueIn slots (now (table .entry)) (now (bodies .entry)) depth cell) (cellBytes (now (memory .entry)) cell) ⌝ }
 {
-    match find_value(table, slots, depth, cell as u32) {
+    match find_value(table, slots, depth, cell as u32, last, before) {
         Held::Nowhere => false,
         Held::InBody(_, body) => same_cell(bodies, wide(body), memory, cell),
     }
@@ -168,19 +182,31 @@ fn cell_agrees(
     bodies: &[u8],
     table: &[u32],
     slots: usize,
+    last: &[u16],
+    before: &[u16],
     held: &[u8],
     depth: u32,
     cell: usize,
 ) -> bool
-    requires { ⌜ (slots ≤ maxSlots) × (pairsAt slots ≤ length (now table)) × (1 ≤ depth) × (depth ≤ live (now table)) × (live (now table) ≤ maxLive) ⌝ }
-    requires { ⌜ (cell < maxCells) × (cellAt cell + cellSize ≤ length (now memory)) × (cell < length (now held)) ⌝ }
+    requires { ⌜ (slots ≤ maxSlots) × (pairsAt slots ≤ length (now table)) × (1 ≤ depth) × (depth ≤ live (now table)) × (live (now table) ≤ maxLive)
+        × CellsOnce slots (now table) slots ⌝ }
+    requires { ⌜ (cell < maxCells) × (cellAt cell + cellSize ≤ length (now memory)) × (cell < cellsIn (now held)) ⌝ }
     requires { ⌜ (lacks (now held) depth cell ≡ true → Source slots (now table) (now bodies) (parent depth) cell) ⌝ }
     ensures { λ r. ⌜ r ≡ alike (now (memory .entry)) (now (bodies .entry)) slots (now (table .entry)) (now (held .entry)) depth cell ⌝ }
 {
     if !is_new(held, depth, cell) {
         return true;
     }
-    same_value(memory, bodies, table, slots, parent_of(depth), cell)
+    same_value(
+        memory,
+        bodies,
+        table,
+        slots,
+        last,
+        before,
+        parent_of(depth),
+        cell,
+    )
 }
 
 // Has memory the parent's value in every new cell of the range?
@@ -189,22 +215,30 @@ fn parent_agrees(
     bodies: &[u8],
     table: &[u32],
     slots: usize,
+    last: &[u16],
+    before: &[u16],
     held: &[u8],
     depth: u32,
     range: Range,
 ) -> bool
-    requires { ⌜ (slots ≤ maxSlots) × (pairsAt slots ≤ length (now table)) × (1 ≤ depth) × (depth ≤ live (now table)) × (live (now table) ≤ maxLive) ⌝ }
-    requires { ⌜ (range .first + range .count ≤ maxCells) × (cellAt (range .first + range .count) ≤ length (now memory))
-        × (range .first + range .count ≤ length (now held)) ⌝ }
-    requires { ⌜ ((j : ℕ) → j < range .count → lacks (now held) depth (range .first + j) ≡ true
-        → Source slots (now table) (now bodies) (parent depth) (range .first + j)) ⌝ }
+    requires { ⌜ Comparable (now memory) (now bodies) slots (now table) (now held) depth range ⌝ }
     ensures { λ r. ⌜ r ≡ all (range .count) (λ j.
         alike (now (memory .entry)) (now (bodies .entry)) slots (now (table .entry)) (now (held .entry)) depth (range .first + j)) ⌝ }
 {
     let mut j: usize = 0;
     while j < range.count {
         let cell = range.first + j;
-        if !cell_agrees(memory, bodies, table, slots, held, depth, cell) {
+        if !cell_agrees(
+            memory,
+            bodies,
+            table,
+            slots,
+            last,
+            before,
+            held,
+            depth,
+            cell,
+        ) {
             return false;
         }
         j += 1;
@@ -212,11 +246,136 @@ fn parent_agrees(
     true
 }
 
+// The same with no notes.
+fn agrees_plain(
+    memory: &[u8],
+    bodies: &[u8],
+    table: &[u32],
+    slots: usize,
+    held: &[u8],
+    depth: u32,
+    range: Range,
+) -> bool
+    requires { ⌜ Comparable (now memory) (now bodies) slots (now table) (now held) depth range ⌝ }
+    ensures { λ r. ⌜ r ≡ all (range .count) (λ j.
+        alike (now (memory .entry)) (now (bodies .entry)) slots (now (table .entry)) (now (held .entry)) depth (range .first + j)) ⌝ }
+{
+    let notes = no_notes();
+    parent_agrees(
+        memory,
+        bodies,
+        table,
+        slots,
+        &notes,
+        &notes,
+        held,
+        depth,
+        range,
+    )
+}
+
+// With notes of few entries.
+fn agrees_few(
+    memory: &[u8],
+    bodies: &[u8],
+    table: &[u32],
+    slots: usize,
+    top: usize,
+    held: &[u8],
+    depth: u32,
+    range: Range,
+) -> bool
+    requires { ⌜ (top ≤ slots) × Comparable (now memory) (now bodies) slots (now table) (now held) depth range ⌝ }
+    ensures { λ r. ⌜ r ≡ all (range .count) (λ j.
+        alike (now (memory .entry)) (now (bodies .entry)) slots (now (table .entry)) (now (held .entry)) depth (range .first + j)) ⌝ }
+{
+    let mut last = few_notes();
+    let mut before = few_notes();
+    note_entries(table, slots, top, &mut last, &mut before);
+    parent_agrees(
+        memory,
+        bodies,
+        table,
+        slots,
+        &last,
+        &before,
+        held,
+        depth,
+        range,
+    )
+}
+
+// With notes of as many as there can be.
+fn agrees_many(
+    memory: &[u8],
+    bodies: &[u8],
+    table: &[u32],
+    slots: usize,
+    top: usize,
+    held: &[u8],
+    depth: u32,
+    range: Range,
+) -> bool
+    requires { ⌜ (top ≤ slots) × Comparable (now memory) (now bodies) slots (now table) (now held) depth range ⌝ }
+    ensures { λ r. ⌜ r ≡ all (range .count) (λ j.
+        alike (now (memory .entry)) (now (bodies .entry)) slots (now (table .entry)) (now (held .entry)) depth (range .first + j)) ⌝ }
+{
+    let mut last = many_notes();
+    let mut before = many_notes();
+    note_entries(table, slots, top, &mut last, &mut before);
+    parent_agrees(
+        memory,
+        bodies,
+        table,
+        slots,
+        &last,
+        &before,
+        held,
+        depth,
+        range,
+    )
+}
+
+// From so many cells on, notes are made. They cost a pass over the entries, and clearing the room for them; without them the search for one cell
+// takes half a pass.
+const NOTED_CELLS: usize = 8;
+
+// The same with notes where they pay, as many as the entries below `top` need.
+fn range_agrees(
+    memory: &[u8],
+    bodies: &[u8],
+    table: &[u32],
+    slots: usize,
+    top: usize,
+    held: &[u8],
+    depth: u32,
+    range: Range,
+) -> bool
+    requires { ⌜ (top ≤ slots) × Comparable (now memory) (now bodies) slots (now table) (now held) depth range ⌝ }
+    ensures { λ r. ⌜ r ≡ all (range .count) (λ j.
+        alike (now (memory .entry)) (now (bodies .entry)) slots (now (table .entry)) (now (held .entry)) depth (range .first + j)) ⌝ }
+{
+    if range.count < NOTED_CELLS {
+        return agrees_plain(memory, bodies, table, slots, held, depth, range);
+    }
+    if top <= FEW_SLOTS {
+        return agrees_few(memory, bodies, table, slots, top, held, depth, range);
+    }
+    agrees_many(memory, bodies, table, slots, top, held, depth, range)
+}
+
 // Questions 11 and 12, which are put for via parent alone.
-fn parent_check(memory: &[u8], bodies: &[u8], table: &[u32], held: &[u8], range: Range) -> u32
+fn parent_check(
+    memory: &[u8],
+    bodies: &[u8],
+    table: &[u32],
+    top: usize,
+    held: &[u8],
+    range: Range,
+) -> u32
     requires { ⌜ (storeCheck (lent (length (now memory)) (length (now bodies)) (now table)) ≡ 0) × (1 ≤ live (now table))
-        × (range .first + range .count ≤ cellsOf (length (now memory))) ⌝ }
-    requires { ⌜ (range .first + range .count ≤ length (now held))
+        × (range .first + range .count ≤ cellsOf (length (now memory))) × EndsAt (slotsOf (length (now table))) (now table) top ⌝ }
+    requires { ⌜ (range .first + range .count ≤ cellsIn (now held))
         × Marked (slotsOf (length (now table))) (now table) (slotsOf (length (now table))) (now held) ⌝ }
     ensures { λ r. ⌜ r ≡ parentCheck (now (memory .entry)) (now (bodies .entry)) (slotsOf (length (now (table .entry)))) (now (table .entry))
         (range .first) (range .count) (range .kind) ⌝ }
@@ -229,18 +388,18 @@ fn parent_check(memory: &[u8], bodies: &[u8], table: &[u32], held: &[u8], range:
         return 11;
     }
     let slots = slots_of(table.len());
-    if !parent_agrees(memory, bodies, table, slots, held, depth, range) {
+    if !range_agrees(memory, bodies, table, slots, top, held, depth, range) {
         return 12;
     }
     0
 }
 
 // Questions 16 and 17, for so many new cells.
-fn room_check(table: &[u32], slots: usize, bodies: usize, new: usize, kind: u32) -> u32
-    requires { ⌜ (slots ≤ maxSlots) × (pairsAt slots ≤ length (now table)) × (new ≤ maxCells) ⌝ }
+fn room_check(table: &[u32], slots: usize, top: usize, bodies: usize, new: usize, kind: u32) -> u32
+    requires { ⌜ (slots ≤ maxSlots) × (pairsAt slots ≤ length (now table)) × (new ≤ maxCells) × EndsAt slots (now table) top ⌝ }
     ensures { λ r. ⌜ r ≡ roomCheck slots (now (table .entry)) bodies new kind ⌝ }
 {
-    let in_use = count_used(table, slots);
+    let in_use = count_used(table, slots, top);
     if slots < in_use.entries + new {
         return 16;
     }
@@ -254,14 +413,21 @@ fn room_check(table: &[u32], slots: usize, bodies: usize, new: usize, kind: u32)
 }
 
 // Questions 11, 12, 16 and 17: those that ask which cells are new.
-fn held_check(memory: &[u8], bodies: &[u8], table: &[u32], held: &[u8], range: Range) -> u32
+fn held_check(
+    memory: &[u8],
+    bodies: &[u8],
+    table: &[u32],
+    top: usize,
+    held: &[u8],
+    range: Range,
+) -> u32
     requires { ⌜ (storeCheck (lent (length (now memory)) (length (now bodies)) (now table)) ≡ 0) × (1 ≤ live (now table))
-        × (range .first + range .count ≤ cellsOf (length (now memory))) ⌝ }
-    requires { ⌜ (range .first + range .count ≤ length (now held))
+        × (range .first + range .count ≤ cellsOf (length (now memory))) × EndsAt (slotsOf (length (now table))) (now table) top ⌝ }
+    requires { ⌜ (range .first + range .count ≤ cellsIn (now held))
         × Marked (slotsOf (length (now table))) (now table) (slotsOf (length (now table))) (now held) ⌝ }
     ensures { λ r. ⌜ r ≡ heldCheck (now (memory .entry)) (now (bodies .entry)) (now (table .entry)) (range .first) (range .count) (range .kind) ⌝ }
 {
-    let no = parent_check(memory, bodies, table, held, range);
+    let no = parent_check(memory, bodies, table, top, held, range);
     if no != 0 {
         return no;
     }
@@ -269,29 +435,30 @@ fn held_check(memory: &[u8], bodies: &[u8], table: &[u32], held: &[u8], range: R
     room_check(
         table,
         slots_of(table.len()),
+        top,
         cells_of(bodies.len()),
         new,
         range.kind,
     )
 }
 
-// All the questions put to add. Where no question refuses it, the marks are those of all entries.
+// All the questions put to add; the entries from `top` on are free. Where no question refuses it, the marks are those of all entries.
 fn add_check(
     memory: &[u8],
     bodies: &[u8],
     table: &[u32],
+    top: usize,
     seen: &mut [u8],
     used: &mut [u8],
     handle: u32,
     range: Range,
 ) -> u32
-    requires room { ⌜ (min (cellsOf (length (now memory))) maxCells ≤ length (now seen)) × (length (now used) ≡ maxBodies) ⌝ }
-    requires blank { ⌜ Blank (now seen) × Blank (now used) ⌝ }
+    requires { ⌜ RoomForMarks (now table) (cellsOf (length (now memory))) top (now seen) (now used) ⌝ }
     ensures no { λ r. ⌜ r ≡ addCheck (buffers (now (memory .entry)) (now (bodies .entry)) (now (table .entry))) handle
         (range .first) (range .count) (range .kind) (range .label) ⌝ }
     ensures marks { λ r. ⌜ (r ≡ 0 → AllMarked (slotsOf (length (now (table .entry)))) (now (table .entry)) (now (seen .exit)) (now (used .exit))) ⌝ }
 {
-    let no = store_check(memory.len(), bodies.len(), table, seen, used);
+    let no = store_check(memory.len(), bodies.len(), table, top, seen, used);
     if no != 0 {
         return no;
     }
@@ -299,7 +466,7 @@ fn add_check(
     if out != 0 {
         return out;
     }
-    held_check(memory, bodies, table, seen, range)
+    held_check(memory, bodies, table, top, seen, range)
 }
 
 // ---- the bytes
@@ -315,7 +482,7 @@ fn copy_one(
     from: usize,
     budget: usize,
 ) -> usize
-    requires { ⌜ (cell < length (now held)) × (depth ≤ maxLive) × (cellAt cell + cellSize ≤ length (now memory))
+    requires { ⌜ (cell < cellsIn (now held)) × (depth ≤ maxLive) × (cellAt cell + cellSize ≤ length (now memory))
         × (from ≤ bodiesOf (length (now bodies))) × (bodiesOf (length (now bodies)) ≤ length (now used)) ⌝ }
     requires { ⌜ (lacks (now held) depth cell ≡ true → unmarkedFrom (bodiesOf (length (now bodies))) (now used) from < bodiesOf (length (now bodies))) ⌝ }
     ensures bytes { λ _. ⌜ now (bodies .exit) ≡ stores (take budget (cond (lacks (now (held .entry)) depth cell)
@@ -342,7 +509,7 @@ fn copy_new(
     start: usize,
     budget: usize,
 ) -> usize
-    requires { ⌜ (range .first + range .count ≤ length (now held)) × (depth ≤ maxLive) × (range .first + range .count ≤ maxCells)
+    requires { ⌜ (range .first + range .count ≤ cellsIn (now held)) × (depth ≤ maxLive) × (range .first + range .count ≤ maxCells)
         × (cellAt (range .first + range .count) ≤ length (now memory)) × (bodiesOf (length (now bodies)) ≤ length (now used)) ⌝ }
     requires { ⌜ (range .kind ≡ 0 → newIn (now held) depth range ≤ count (bodiesOf (length (now bodies))) (unmarked (now used))) ⌝ }
     requires { ⌜ (range .kind ≡ 0 → NoneBelow (now used) (bodiesOf (length (now bodies))) start) ⌝ }
@@ -385,7 +552,7 @@ pub struct Cursors {
 
 // The lowest new cell of the range, from its `at`-th on, or their number.
 fn next_new(held: &[u8], depth: u32, range: Range, at: usize) -> usize
-    requires { ⌜ (range .first + range .count ≤ length (now held)) × (depth ≤ maxLive) × (at ≤ range .count) ⌝ }
+    requires { ⌜ (range .first + range .count ≤ cellsIn (now held)) × (depth ≤ maxLive) × (at ≤ range .count) ⌝ }
     ensures { λ r. ⌜ r ≡ nextUnheld (now (held .entry)) depth (range .first) (range .count) at ⌝ }
 {
     let mut j = at;
@@ -487,23 +654,30 @@ fn pass_entry(
 
 // Can no label rise: is the label read-only, or every cell of the range new?
 fn none_rises(held: &[u8], depth: u32, range: Range) -> bool
-    requires { ⌜ (range .first + range .count ≤ length (now held)) × (depth ≤ maxLive) ⌝ }
+    requires { ⌜ (range .first + range .count ≤ cellsIn (now held)) × (depth ≤ maxLive) ⌝ }
     ensures { λ r. ⌜ r ≡ (eqb (range .label) 0 || eqb (newIn (now (held .entry)) depth range) (range .count)) ⌝ }
 {
     (range.label == 0) | (count_new(held, depth, range) == range.count)
 }
 
-// The first entry from `from` on that may change, or `slots`: where no label rises these are the free slots, and none once every new cell is
-// taken.
-fn next_change(table: &[u32], slots: usize, from: usize, still: bool, taken: bool) -> usize
-    requires { ⌜ (slots ≤ maxSlots) × (pairsAt slots ≤ length (now table)) × (from ≤ slots) ⌝ }
+// The first entry from `from` on that may change, or `slots`: where no label rises these are the free slots. Once every new cell is taken none of
+// these changes any more, nor any from `top` on, where all are free.
+fn next_change(
+    table: &[u32],
+    slots: usize,
+    top: usize,
+    from: usize,
+    still: bool,
+    taken: bool,
+) -> usize
+    requires { ⌜ (slots ≤ maxSlots) × (pairsAt slots ≤ length (now table)) × (from ≤ slots) × EndsAt slots (now table) top ⌝ }
     ensures { λ r. ⌜ Skips slots (now (table .entry)) still taken from r ⌝ }
 {
+    if taken & (still | (top <= from)) {
+        return slots;
+    }
     if !still {
         return from;
-    }
-    if taken {
-        return slots;
     }
     let mut i = from;
     while i < slots {
@@ -519,6 +693,7 @@ fn next_change(table: &[u32], slots: usize, from: usize, still: bool, taken: boo
 fn stage_range(
     table: &[u32],
     slots: usize,
+    top: usize,
     held: &[u8],
     used: &[u8],
     bodies: usize,
@@ -528,7 +703,7 @@ fn stage_range(
     changed: &mut [u64],
 )
     requires small { ⌜ (2 * slots ≤ length (now words)) × (slots ≤ groupAt (length (now changed))) ⌝ }
-    requires able { ⌜ Stageable (now held) (now used) slots bodies (now table) range start ⌝ }
+    requires able { ⌜ Stageable (now held) (now used) slots bodies (now table) range start top ⌝ }
     requires blank { ⌜ Stages 0 (listChange (now held) (now used) slots bodies (now table) range) (now words) (now changed) ⌝ }
     ensures { λ _. ⌜ Stages slots (listChange (now (held .entry)) (now (used .entry)) slots bodies (now (table .entry)) range)
         (now (words .exit)) (now (changed .exit)) ⌝ }
@@ -536,7 +711,7 @@ fn stage_range(
     let depth = table[LIVE_AT];
     let still = none_rises(held, depth, range);
     let mut walk = Cursors { at: 0, from: start };
-    let mut i = next_change(table, slots, 0, still, false);
+    let mut i = next_change(table, slots, top, 0, still, false);
     while i < slots {
         walk = pass_entry(
             table,
@@ -550,7 +725,7 @@ fn stage_range(
             words,
             changed,
         );
-        i = next_change(table, slots, i + 1, still, range.count <= walk.at);
+        i = next_change(table, slots, top, i + 1, still, range.count <= walk.at);
     }
 }
 
@@ -558,6 +733,7 @@ fn stage_range(
 fn write_range(
     table: &mut [u32],
     slots: usize,
+    top: usize,
     held: &[u8],
     used: &[u8],
     bodies: usize,
@@ -568,7 +744,7 @@ fn write_range(
     budget: usize,
 ) -> usize
     requires small { ⌜ (2 * slots ≤ length (now words)) × (slots ≤ groupAt (length (now changed))) ⌝ }
-    requires able { ⌜ Stageable (now held) (now used) slots bodies (now table) range start ⌝ }
+    requires able { ⌜ Stageable (now held) (now used) slots bodies (now table) range start top ⌝ }
     requires blank { ⌜ Stages 0 (listChange (now held) (now used) slots bodies (now table) range) (now words) (now changed) ⌝ }
     ensures { λ r. ⌜ Journaled slots (rangeWords (now (held .entry)) (now (used .entry)) slots bodies (now (table .entry)) range) budget
         (now (table .entry)) r (now (table .exit)) ⌝ }
@@ -576,6 +752,7 @@ fn write_range(
     stage_range(
         table,
         slots,
+        top,
         held,
         used,
         bodies,
@@ -591,6 +768,7 @@ fn write_range(
 fn write_few(
     table: &mut [u32],
     slots: usize,
+    top: usize,
     held: &[u8],
     used: &[u8],
     bodies: usize,
@@ -598,7 +776,7 @@ fn write_few(
     start: usize,
     budget: usize,
 ) -> usize
-    requires { ⌜ (slots ≤ 256) × Stageable (now held) (now used) slots bodies (now table) range start ⌝ }
+    requires { ⌜ (slots ≤ 256) × Stageable (now held) (now used) slots bodies (now table) range start top ⌝ }
     ensures { λ r. ⌜ Journaled slots (rangeWords (now (held .entry)) (now (used .entry)) slots bodies (now (table .entry)) range) budget
         (now (table .entry)) r (now (table .exit)) ⌝ }
 {
@@ -607,6 +785,7 @@ fn write_few(
     write_range(
         table,
         slots,
+        top,
         held,
         used,
         bodies,
@@ -622,6 +801,7 @@ fn write_few(
 fn write_many(
     table: &mut [u32],
     slots: usize,
+    top: usize,
     held: &[u8],
     used: &[u8],
     bodies: usize,
@@ -629,7 +809,7 @@ fn write_many(
     start: usize,
     budget: usize,
 ) -> usize
-    requires { ⌜ Stageable (now held) (now used) slots bodies (now table) range start ⌝ }
+    requires { ⌜ Stageable (now held) (now used) slots bodies (now table) range start top ⌝ }
     ensures { λ r. ⌜ Journaled slots (rangeWords (now (held .entry)) (now (used .entry)) slots bodies (now (table .entry)) range) budget
         (now (table .entry)) r (now (table .exit)) ⌝ }
 {
@@ -638,6 +818,7 @@ fn write_many(
     write_range(
         table,
         slots,
+        top,
         held,
         used,
         bodies,
@@ -652,6 +833,7 @@ fn write_many(
 // Add's words, by the marks of all entries. Returns their steps, uncut.
 fn add_words(
     table: &mut [u32],
+    top: usize,
     held: &[u8],
     used: &[u8],
     places: usize,
@@ -659,16 +841,16 @@ fn add_words(
     start: usize,
     budget: usize,
 ) -> usize
-    requires { ⌜ Stageable (now held) (now used) (slotsOf (length (now table))) places (now table) range start ⌝ }
+    requires { ⌜ Stageable (now held) (now used) (slotsOf (length (now table))) places (now table) range start top ⌝ }
     ensures { λ r. ⌜ Journaled (slotsOf (length (now (table .entry))))
         (rangeWords (now (held .entry)) (now (used .entry)) (slotsOf (length (now (table .entry)))) places (now (table .entry)) range) budget
         (now (table .entry)) r (now (table .exit)) ⌝ }
 {
     let slots = slots_of(table.len());
     if slots <= FEW_SLOTS {
-        return write_few(table, slots, held, used, places, range, start, budget);
+        return write_few(table, slots, top, held, used, places, range, start, budget);
     }
-    write_many(table, slots, held, used, places, range, start, budget)
+    write_many(table, slots, top, held, used, places, range, start, budget)
 }
 
 // All of add's stores, once no question refuses it. Returns their number, uncut.
@@ -676,14 +858,15 @@ fn add_stores(
     memory: &[u8],
     bodies: &mut [u8],
     table: &mut [u32],
+    top: usize,
     held: &[u8],
     used: &[u8],
     range: Range,
     budget: usize,
 ) -> usize
     requires ready { ⌜ Ready (now memory) (now bodies) (now table) (range .first) (range .count) (range .kind) (range .label) ⌝ }
-    requires marks { ⌜ (range .first + range .count ≤ length (now held)) × (length (now used) ≡ maxBodies)
-        × AllMarked (slotsOf (length (now table))) (now table) (now held) (now used) ⌝ }
+    requires marks { ⌜ (range .first + range .count ≤ cellsIn (now held)) × (length (now used) ≡ maxBodies)
+        × AllMarked (slotsOf (length (now table))) (now table) (now held) (now used) × EndsAt (slotsOf (length (now table))) (now table) top ⌝ }
     ensures steps { λ r. ⌜ r ≡ stepsOf (length (bytesOfRange (now (memory .entry)) (now (bodies .entry)) (now (table .entry)) range))
         (length (wordsOf (now (bodies .entry)) (now (table .entry)) range)) ⌝ }
     ensures bytes { λ _. ⌜ now (bodies .exit)
@@ -698,7 +881,7 @@ fn add_stores(
     let start = take_body(used, places, range.kind, 0);
     let bytes = copy_new(memory, bodies, held, depth, used, range, start, budget);
     let left = remaining(budget, bytes);
-    bytes + add_words(table, held, used, places, range, start, left)
+    bytes + add_words(table, top, held, used, places, range, start, left)
 }
 
 // The call with room for marks, none made yet.
@@ -706,35 +889,36 @@ fn add_marked(
     memory: &[u8],
     bodies: &mut [u8],
     table: &mut [u32],
+    top: usize,
     seen: &mut [u8],
     used: &mut [u8],
     handle: u32,
     range: Range,
     budget: usize,
 ) -> Answer
-    requires room { ⌜ (min (cellsOf (length (now memory))) maxCells ≤ length (now seen)) × (length (now used) ≡ maxBodies) ⌝ }
-    requires blank { ⌜ Blank (now seen) × Blank (now used) ⌝ }
+    requires { ⌜ RoomForMarks (now table) (cellsOf (length (now memory))) top (now seen) (now used) ⌝ }
     ensures made { λ r. ⌜ Makes (callOf handle range) budget (buffers (now (memory .entry)) (now (bodies .entry)) (now (table .entry)))
         (report r) (buffers (now (memory .entry)) (now (bodies .exit)) (now (table .exit))) ⌝ }
 {
-    let no = add_check(memory, bodies, table, seen, used, handle, range);
+    let no = add_check(memory, bodies, table, top, seen, used, handle, range);
     if no != 0 {
         return Answer::Refused(no);
     }
-    let steps = add_stores(memory, bodies, table, seen, used, range, budget);
+    let steps = add_stores(memory, bodies, table, top, seen, used, range, budget);
     answer_of(steps, 0, budget)
 }
 
-// The call in a small memory, where clearing marks for the largest would take longer than all else.
+// The call with marks for few blocks.
 fn add_few(
     memory: &[u8],
     bodies: &mut [u8],
     table: &mut [u32],
+    top: usize,
     handle: u32,
     range: Range,
     budget: usize,
 ) -> Answer
-    requires { ⌜ cellsOf (length (now memory)) ≤ 1024 ⌝ }
+    requires { ⌜ Enough 64 top (cellsOf (length (now memory))) × Reached (now table) top ⌝ }
     ensures made { λ r. ⌜ Makes (callOf handle range) budget (buffers (now (memory .entry)) (now (bodies .entry)) (now (table .entry)))
         (report r) (buffers (now (memory .entry)) (now (bodies .exit)) (now (table .exit))) ⌝ }
 {
@@ -744,6 +928,7 @@ fn add_few(
         memory,
         bodies,
         table,
+        top,
         &mut seen,
         &mut used,
         handle,
@@ -752,15 +937,46 @@ fn add_few(
     )
 }
 
-// The call in any memory.
-fn add_many(
+// With marks for some more.
+fn add_some(
     memory: &[u8],
     bodies: &mut [u8],
     table: &mut [u32],
+    top: usize,
     handle: u32,
     range: Range,
     budget: usize,
 ) -> Answer
+    requires { ⌜ Enough 256 top (cellsOf (length (now memory))) × Reached (now table) top ⌝ }
+    ensures made { λ r. ⌜ Makes (callOf handle range) budget (buffers (now (memory .entry)) (now (bodies .entry)) (now (table .entry)))
+        (report r) (buffers (now (memory .entry)) (now (bodies .exit)) (now (table .exit))) ⌝ }
+{
+    let mut seen = some_marks();
+    let mut used = no_bodies();
+    add_marked(
+        memory,
+        bodies,
+        table,
+        top,
+        &mut seen,
+        &mut used,
+        handle,
+        range,
+        budget,
+    )
+}
+
+// And for any memory.
+fn add_many(
+    memory: &[u8],
+    bodies: &mut [u8],
+    table: &mut [u32],
+    top: usize,
+    handle: u32,
+    range: Range,
+    budget: usize,
+) -> Answer
+    requires { ⌜ Reached (now table) top ⌝ }
     ensures made { λ r. ⌜ Makes (callOf handle range) budget (buffers (now (memory .entry)) (now (bodies .entry)) (now (table .entry)))
         (report r) (buffers (now (memory .entry)) (now (bodies .exit)) (now (table .exit))) ⌝ }
 {
@@ -770,6 +986,7 @@ fn add_many(
         memory,
         bodies,
         table,
+        top,
         &mut seen,
         &mut used,
         handle,
@@ -802,8 +1019,13 @@ pub fn add(
         kind,
         label,
     };
-    if cells_of(memory.len()) <= FEW_CELLS {
-        return add_few(memory, bodies, table, handle, range, budget);
+    let top = reach_of(table);
+    let blocks = blocks_wanted(top, cells_of(memory.len()));
+    if blocks <= FEW_BLOCKS {
+        return add_few(memory, bodies, table, top, handle, range, budget);
     }
-    add_many(memory, bodies, table, handle, range, budget)
+    if blocks <= SOME_BLOCKS {
+        return add_some(memory, bodies, table, top, handle, range, budget);
+    }
+    add_many(memory, bodies, table, top, handle, range, budget)
 }

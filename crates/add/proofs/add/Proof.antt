@@ -12,8 +12,14 @@ wide-requires c κs = search needs
 wide-requires-2 : tie.Need-wide-requires-2
 wide-requires-2 c κs = search needs
 
+reach-of-requires : tie.Need-reach-of-requires
+reach-of-requires c κs = search needs
+
 cells-of-requires : tie.Need-cells-of-requires
 cells-of-requires c κs = search needs
+
+blocks-wanted-requires : tie.Need-blocks-wanted-requires
+blocks-wanted-requires c κs = search needs
 
 add-few-requires : tie.Need-add-few-requires
 add-few-requires c κs = search needs
@@ -25,13 +31,12 @@ same-length-2 : tie.Need-same-length-2
 same-length-2 c = search needs
 
 returns : tie.Need-returns
-returns c =
-    let a = c .before .before .before .before .before .before .before .before .before .before .before .before .before .before .args in
-    let r = rw (c .before .before .before .before .before .before .before .before .before .before .wide .ensures, c .before .before .before .before .before .before .before .before .before .wide2 .ensures) at (c .before .before .before .before .add-few .ensures) in
+returns c = let a = c .before .before .before .before .before .before .before .before .before .before .before .before .before .before .before .before .before .args in
+    let r = rw (c .before .before .before .before .before .before .before .before .before .before .before .before .before .wide .ensures, c .before .before .before .before .before .before .before .before .before .before .before .before .wide2 .ensures) at (c .before .before .before .before .add-few .ensures) in
     (r, ap visibleOf r ∙ add-means (a .handle) (a .first) (a .count) (a .kind) (a .label) _ _)
 
-add-many-requires : tie.Need-add-many-requires
-add-many-requires c κs = search needs
+add-some-requires : tie.Need-add-some-requires
+add-some-requires c κs = search needs
 
 same-length-3 : tie.Need-same-length-3
 same-length-3 c = search needs
@@ -40,9 +45,22 @@ same-length-4 : tie.Need-same-length-4
 same-length-4 c = search needs
 
 returns-2 : tie.Need-returns-2
-returns-2 c =
-    let a = c .before .before .before .before .before .before .before .before .before .before .before .before .before .before .args in
-    let r = rw (c .before .before .before .before .before .before .before .before .before .before .wide .ensures, c .before .before .before .before .before .before .before .before .before .wide2 .ensures) at (c .before .before .before .before .add-many .ensures) in
+returns-2 c = let a = c .before .before .before .before .before .before .before .before .before .before .before .before .before .before .before .before .before .before .args in
+    let r = rw (c .before .before .before .before .before .before .before .before .before .before .before .before .before .before .wide .ensures, c .before .before .before .before .before .before .before .before .before .before .before .before .before .wide2 .ensures) at (c .before .before .before .before .add-some .ensures) in
+    (r, ap visibleOf r ∙ add-means (a .handle) (a .first) (a .count) (a .kind) (a .label) _ _)
+
+add-many-requires : tie.Need-add-many-requires
+add-many-requires c κs = search needs
+
+same-length-5 : tie.Need-same-length-5
+same-length-5 c = search needs
+
+same-length-6 : tie.Need-same-length-6
+same-length-6 c = search needs
+
+returns-3 : tie.Need-returns-3
+returns-3 c = let a = c .before .before .before .before .before .before .before .before .before .before .before .before .before .before .before .before .before .before .args in
+    let r = rw (c .before .before .before .before .before .before .before .before .before .before .before .before .before .before .wide .ensures, c .before .before .before .before .before .before .before .before .before .before .before .before .before .wide2 .ensures) at (c .before .before .before .before .add-many .ensures) in
     (r, ap visibleOf r ∙ add-means (a .handle) (a .first) (a .count) (a .kind) (a .label) _ _)
 
 pub add-spec : {M : Type 1} → statement M
@@ -51,12 +69,18 @@ add-spec =
     (tie.spec
     wide-requires
     wide-requires-2
+    reach-of-requires
     cells-of-requires
+    blocks-wanted-requires
     add-few-requires
     same-length
     same-length-2
     returns
-    add-many-requires
+    add-some-requires
     same-length-3
     same-length-4
-    returns-2)
+    returns-2
+    add-many-requires
+    same-length-5
+    same-length-6
+    returns-3)

@@ -1,9 +1,5 @@
 -- `add::add_many` meets its contract. Assumes nothing.
-use mathlib.Core.Path.{sym, ap, subst, _∙_}
-use native.Mathlib.Omega.{arith}
-use lib.ListN.{length}
-use Rattle.table.specs.Marks.{Blank}
-use Rattle.table.proofs.Marks.{zeros-length, blank-zeros}
+use Rattle.table.proofs.Marks.{room-many}
 use borrow.Author.Needs.{needs}
 use Rattle.add.proofs.add_many.Statement.{statement}
 use Rattle.add.proofs.add_many.Tie as tie
@@ -21,11 +17,7 @@ slice-aggregate-add-marked-2 : tie.Need-slice-aggregate-add-marked-2
 slice-aggregate-add-marked-2 c = search needs
 
 add-marked-requires : tie.Need-add-marked-requires
-add-marked-requires c κs =
-    let long = ap length (c .before .before .before .before .before .many-marks .ensures) ∙ zeros-length 65536 in (
-      (omega (arith, long), ap length (c .before .before .before .before .no-bodies .ensures) ∙ zeros-length 4096),
-      (subst Blank (sym (c .before .before .before .before .before .many-marks .ensures)) (blank-zeros 65536), subst Blank (sym (c .before .before .before .before .no-bodies .ensures)) (blank-zeros 4096)),
-    )
+add-marked-requires c κs = rw (c .before .before .before .before .before .many-marks .ensures, c .before .before .before .before .no-bodies .ensures) (room-many _ _ _ (c .before .before .before .before .before .before .before .before .before .pre))
 
 same-length : tie.Need-same-length
 same-length c = search needs

@@ -41,7 +41,7 @@ add-words-requires c κs =
     let p = c .before .before .before .before .before .before .before .before .before .before .before .before .before .before .pre in
     let none = start-none (a .used .now) _ (a .range .kind) _ (rw (c .before .before .before .before .before .before .before .cells-of .ensures) at (c .before .before .before .before .before .before .take-body .ensures)) in
     rw (c .before .before .before .before .before .before .before .cells-of .ensures)
-    (stageable (a .memory .now) (a .bodies .now) (a .table .now) (a .range) (p .0) (a .held .now) (a .used .now) (p .1 .2) (p .1 .0) (p .1 .1) _ none)
+    (stageable (a .memory .now) (a .bodies .now) (a .table .now) (a .range) (p .0) (a .held .now) (a .used .now) (p .1 .2) (p .1 .0) (p .1 .1) _ none _ (p .1 .3))
 
 add-result : tie.Need-add-result
 add-result c =

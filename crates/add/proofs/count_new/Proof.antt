@@ -5,7 +5,7 @@ use mathlib.Core.Path.{_≡_, refl, ap, _∙_}
 use native.Mathlib.Omega.{arith}
 use Rattle.words.specs.Scan.{count}
 use Rattle.add.specs.Walking.{unheld}
-use Rattle.add.proofs.Asking.{count-add, most-one}
+use Rattle.add.proofs.Asking.{cells-small, count-add, most-one}
 use Rattle.add.proofs.count_new.Statement.{statement}
 use Rattle.add.proofs.count_new.Tie as tie
 
@@ -20,7 +20,7 @@ unfolding count
 loop-holds c = (search needs, search needs, refl)
 
 add-new-here : tie.Need-add-new-here Inv-loop μ-loop
-add-new-here c = search needs
+add-new-here c = omega (arith, cells-small (c .before .before .before .before .before .args .held .now))
 
 new-here-requires : tie.Need-new-here-requires Inv-loop μ-loop
 new-here-requires c κs = search needs

@@ -34,7 +34,7 @@ room-check-requires c κs =
     let a = c .before .before .before .before .before .before .before .before .before .before .args in
     let f = store-lengths _ _ (a .table .now) (c .before .before .before .before .before .before .before .before .before .before .pre .0 .0) in
     let few = count-le (a .range .count) (unheld (a .held .now) (live (a .table .now)) (a .range .first)) in
-    (rw (c .before .slots-of .ensures) (f .slots-high), omega (arith, c .before .slots-of .ensures, f .table-exact), omega (arith, c .before .before .count-new .ensures, c .before .before .before .before .before .before .before .before .before .before .pre .0 .2, f .cells-high, few))
+    (rw (c .before .slots-of .ensures) (f .slots-high), omega (arith, c .before .slots-of .ensures, f .table-exact), omega (arith, c .before .before .count-new .ensures, c .before .before .before .before .before .before .before .before .before .before .pre .0 .2, f .cells-high, few), rw (c .before .slots-of .ensures) (c .before .before .before .before .before .before .before .before .before .before .pre .0 .3))
 
 returns-2 : tie.Need-returns-2
 returns-2 c =

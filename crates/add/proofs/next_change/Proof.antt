@@ -2,10 +2,12 @@
 use Prim.Native.Nat.{ℕ, _-_, _≤_, _<_}
 use mathlib.Core.Path.{_≡_, _∙_}
 use native.Mathlib.Omega.{arith}
-use borrow.Author.Tests.{eqb-true, eqb-false, not-false}
-use lib.Dec.{eqb}
-use Rattle.words.proofs.Scan.{by-bool, true≢}
+use mathlib.Core.Bool.{_||_}
+use borrow.Author.Tests.{eqb-true, eqb-false, leb-true, not-false}
+use lib.Dec.{leb, eqb}
+use Rattle.words.proofs.Scan.{by-bool, and-split, true≢}
 use Rattle.table.specs.Entry.{word1}
+use Rattle.add.proofs.Asking.{or-right}
 use borrow.Author.Needs.{needs}
 use Rattle.add.proofs.next_change.Statement.{statement}
 use Rattle.add.proofs.next_change.Tie as tie
@@ -13,17 +15,29 @@ use Rattle.add.proofs.next_change.Tie as tie
 never : {a x : ℕ} → a ≤ x → x < a → ⊥
 never l h = omega arith
 
+far : {a b x : ℕ} → a ≤ b → b ≤ x → a ≤ x
+far p q = omega arith
+
 abbrev Inv-loop : tie.InvT-loop
-Inv-loop table slots from still taken i₀ i = (from ≤ i) × (i ≤ slots) × ((x : ℕ) → from ≤ x → x < i → word1 slots table x ≡ 0 → ⊥)
+Inv-loop table slots top from still taken i₀ i = (from ≤ i) × (i ≤ slots) × ((x : ℕ) → from ≤ x → x < i → word1 slots table x ≡ 0 → ⊥)
 
 abbrev μ-loop : tie.MeasureT-loop
-μ-loop table slots from still taken i₀ i = slots - i
+μ-loop table slots top from still taken i₀ i = slots - i
 
 returns : tie.Need-returns Inv-loop μ-loop
-returns c = record { low = search needs; high = search needs; quiet = λ h. absurd (never (search needs) h); used = λ x l h. absurd (never l h) }
+returns c =
+    let a = c .before .before .args in
+    let ends = c .before .before .pre .3 in
+    let both = and-split (a .taken) (a .still || leb (a .top) (a .from)) (c .if1 .taken) in
+    record {
+      low = search needs;
+      high = search needs;
+      quiet = λ x l h z. ends .1 x (far (leb-true (a .top) (a .from) (or-right (a .still) _ (both .1) z)) l) h .0;
+      used = λ x l h z. absurd (true≢ (both .0) z);
+    }
 
 returns-2 : tie.Need-returns-2 Inv-loop μ-loop
-returns-2 c = record { low = search needs; high = search needs; quiet = λ h. not-false _ (c .before .if1 .left); used = λ x l h z. absurd (true≢ (c .if2 .taken) z) }
+returns-2 c = record { low = search needs; high = search needs; quiet = λ x l h. absurd (never l h); used = λ x l h. absurd (never l h) }
 
 loop-holds : tie.Need-loop-holds Inv-loop μ-loop
 loop-holds c = (search needs, search needs, λ x l h. absurd (never l h))
@@ -32,7 +46,7 @@ first-word-requires : tie.Need-first-word-requires Inv-loop μ-loop
 first-word-requires c κs = search needs
 
 returns-3 : tie.Need-returns-3 Inv-loop μ-loop
-returns-3 c = record { low = c .before .before .before .loop .inv .0; high = c .before .before .before .loop .inv .1; quiet = λ h. not-false _ (c .before .before .before .before .before .if1 .left); used = λ x l h z. c .before .before .before .loop .inv .2 x l h }
+returns-3 c = record { low = c .before .before .before .loop .inv .0; high = c .before .before .before .loop .inv .1; quiet = λ x l h z. absurd (true≢ (not-false _ (c .before .before .before .before .if2 .left)) z); used = λ x l h z. c .before .before .before .loop .inv .2 x l h }
 
 add-i : tie.Need-add-i Inv-loop μ-loop
 add-i c = search needs
@@ -52,7 +66,7 @@ loop-again c =
     )
 
 returns-4 : tie.Need-returns-4 Inv-loop μ-loop
-returns-4 c = record { low = c .before .loop .inv .0; high = c .before .loop .inv .1; quiet = λ h. not-false _ (c .before .before .before .if1 .left); used = λ x l h z. c .before .loop .inv .2 x l h }
+returns-4 c = record { low = c .before .loop .inv .0; high = c .before .loop .inv .1; quiet = λ x l h z. absurd (true≢ (not-false _ (c .before .before .if2 .left)) z); used = λ x l h z. c .before .loop .inv .2 x l h }
 
 pub next-change-spec : {M : Type 1} → statement M
 next-change-spec =

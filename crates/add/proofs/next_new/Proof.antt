@@ -2,9 +2,11 @@
 use borrow.Author.Needs.{needs}
 use Prim.Native.Nat.{_-_, _≤_}
 use mathlib.Core.Path.{sym, _∙_}
+use native.Mathlib.Omega.{arith}
 use Rattle.words.proofs.Scan.{not-lt}
 use Rattle.search.proofs.From.{Failing, failing-none, failing-more, from-at}
 use Rattle.add.specs.Walking.{unheld, nextUnheld}
+use Rattle.add.proofs.Asking.{cells-small}
 use Rattle.add.proofs.next_new.Statement.{statement}
 use Rattle.add.proofs.next_new.Tie as tie
 
@@ -18,7 +20,7 @@ loop-holds : tie.Need-loop-holds Inv-loop μ-loop
 loop-holds c = (search needs, search needs, failing-none _ _)
 
 add-is-new : tie.Need-add-is-new Inv-loop μ-loop
-add-is-new c = search needs
+add-is-new c = omega (arith, cells-small (c .before .before .before .before .before .args .held .now))
 
 is-new-requires : tie.Need-is-new-requires Inv-loop μ-loop
 is-new-requires c κs = search needs

@@ -12,10 +12,10 @@ use Rattle.add.proofs.parent_agrees.Statement.{statement}
 use Rattle.add.proofs.parent_agrees.Tie as tie
 
 abbrev Inv-loop : tie.InvT-loop
-Inv-loop memory bodies table slots held depth range j₀ j = (j ≤ range .count) × ((i : ℕ) → i < j → alike memory bodies slots table held depth (range .first + i) ≡ true)
+Inv-loop memory bodies table slots last before held depth range j₀ j = (j ≤ range .count) × ((i : ℕ) → i < j → alike memory bodies slots table held depth (range .first + i) ≡ true)
 
 abbrev μ-loop : tie.MeasureT-loop
-μ-loop memory bodies table slots held depth range j₀ j = range .count - j
+μ-loop memory bodies table slots last before held depth range j₀ j = range .count - j
 
 loop-holds : tie.Need-loop-holds Inv-loop μ-loop
 loop-holds c = (search needs, below-none _)
@@ -25,11 +25,12 @@ add-cell c = search needs
 
 cell-agrees-requires : tie.Need-cell-agrees-requires Inv-loop μ-loop
 cell-agrees-requires c κs =
-    ((search needs, search needs, search needs, search needs, search needs), ((search needs, search needs, search needs), c .before .before .before .before .before .before .before .before .pre .1 .1 (c .before .before .before .loop .j) (c .before .if1 .taken)))
+    let p = c .before .before .before .before .before .before .before .before .before .before .pre in
+    ((p .slots, p .long, p .inner, p .among, p .deep, p .once), ((search needs, search needs, search needs), p .sources (c .before .before .before .loop .j) (c .before .if1 .taken)))
 
 returns : tie.Need-returns Inv-loop μ-loop
 returns c =
-    let a = c .before .before .before .before .before .before .before .before .before .before .args in
+    let a = c .before .before .before .before .before .before .before .before .before .before .before .before .args in
     sym (all-not (a .range .count) (λ j. alike (a .memory .now) (a .bodies .now) (a .slots) (a .table .now) (a .held .now) (a .depth) (a .range .first + j)) (c .before .before .before .before .before .loop .j) (c .before .before .before .if1 .taken) (sym (c .before .cell-agrees .ensures) ∙ not-true _ (c .if2 .taken)))
 
 add-j : tie.Need-add-j Inv-loop μ-loop
@@ -43,7 +44,7 @@ loop-again c = (search needs, below-more _ _ (c .before .before .before .before 
 
 returns-2 : tie.Need-returns-2 Inv-loop μ-loop
 returns-2 c =
-    let a = c .before .before .before .before .before .before .before .args in
+    let a = c .before .before .before .before .before .before .before .before .before .args in
     let last : c .before .before .loop .j ≡ a .range .count = omega arith in
     sym (all-make (a .range .count) (λ j. alike (a .memory .now) (a .bodies .now) (a .slots) (a .table .now) (a .held .now) (a .depth) (a .range .first + j)) (λ i l. c .before .before .loop .inv .1 i (omega arith)))
 

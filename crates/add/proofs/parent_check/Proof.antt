@@ -6,6 +6,7 @@ use lib.ListN.{length}
 use Rattle.words.specs.Layout.{slotsOf}
 use Rattle.store.proofs.Raw.{raw-rule}
 use Rattle.store.proofs.Checks.{store-lengths}
+use Rattle.store.proofs.Checked.{checked-once}
 use Rattle.add.proofs.Asking.{parent-0, parent-11, parent-12, parent-yes, covered-is, agreed-is, sources}
 use borrow.Author.Needs.{needs}
 use Rattle.add.proofs.parent_check.Statement.{statement}
@@ -29,18 +30,26 @@ returns-2 c =
 slots-of-requires : tie.Need-slots-of-requires
 slots-of-requires c κs = search needs
 
-parent-agrees-requires : tie.Need-parent-agrees-requires
-parent-agrees-requires c κs =
+range-agrees-requires : tie.Need-range-agrees-requires
+range-agrees-requires c κs =
     let a = c .before .before .before .before .before .before .before .before .before .before .args in
     let p = c .before .before .before .before .before .before .before .before .before .before .pre in
     let f = store-lengths _ _ (a .table .now) (p .0 .0) in
     let same = covered-is (slotsOf (length (a .table .now))) (a .table .now) (a .held .now) (p .1 .1) (p .0 .1) (a .memory .now) (a .bodies .now) (a .range .first) (a .range .count) in
-    let deep = raw-rule (a .memory .now) (a .bodies .now) (a .table .now) (p .0 .0) .live in (
-      (rw (c .slots-of .ensures) (f .slots-high), omega (arith, c .slots-of .ensures, f .table-exact), p .0 .1, omega arith, deep),
-      (
-        (omega (arith, p .0 .2, f .cells-high), omega (arith, p .0 .2, f .memory-exact), p .1 .0),
-        rw (c .slots-of .ensures) (sources (a .memory .now) (a .bodies .now) (a .table .now) (p .0 .0) (a .range .first) (a .range .count) (a .held .now) (p .1 .1) (p .0 .1) (sym same ∙ sym (c .before .before .parent-holds .ensures) ∙ not-false _ (c .before .if2 .left))),
-      ),
+    rw (c .slots-of .ensures) (
+      p .0 .3 .0,
+      record {
+        slots = f .slots-high;
+        long = omega (arith, f .table-exact);
+        deep = raw-rule (a .memory .now) (a .bodies .now) (a .table .now) (p .0 .0) .live;
+        inner = p .0 .1;
+        among = omega arith;
+        once = checked-once _ _ (a .table .now) (p .0 .0);
+        few = omega (arith, p .0 .2, f .cells-high);
+        fits = omega (arith, p .0 .2, f .memory-exact);
+        cells = p .1 .0;
+        sources = sources (a .memory .now) (a .bodies .now) (a .table .now) (p .0 .0) (a .range .first) (a .range .count) (a .held .now) (p .1 .1) (p .0 .1) (sym same ∙ sym (c .before .before .parent-holds .ensures) ∙ not-false _ (c .before .if2 .left));
+      },
     )
 
 returns-3 : tie.Need-returns-3
@@ -49,7 +58,7 @@ returns-3 c =
     let same = covered-is (slotsOf (length (a .table .now))) (a .table .now) (a .held .now) (c .before .before .before .before .before .before .before .before .before .before .before .before .pre .1 .1) (c .before .before .before .before .before .before .before .before .before .before .before .before .pre .0 .1) (a .memory .now) (a .bodies .now) (a .range .first) (a .range .count) in
     let like = agreed-is (slotsOf (length (a .table .now))) (a .table .now) (a .held .now) (c .before .before .before .before .before .before .before .before .before .before .before .before .pre .1 .1) (c .before .before .before .before .before .before .before .before .before .before .before .before .pre .0 .1) (a .memory .now) (a .bodies .now) (a .range .first) (a .range .count) in
     parent-12 (a .memory .now) (a .bodies .now) (slotsOf (length (a .table .now))) (a .table .now) (a .range .first) (a .range .count) (a .range .kind) (c .before .before .before .before .before .before .if1 .left) (sym same ∙ sym (c .before .before .before .before .parent-holds .ensures) ∙ not-false _ (c .before .before .before .if2 .left))
-    (sym like ∙ sym (rw (c .before .before .slots-of .ensures) at (c .before .parent-agrees .ensures)) ∙ not-true _ (c .if3 .taken))
+    (sym like ∙ sym (rw (c .before .before .slots-of .ensures) at (c .before .range-agrees .ensures)) ∙ not-true _ (c .if3 .taken))
 
 returns-4 : tie.Need-returns-4
 returns-4 c =
@@ -57,7 +66,7 @@ returns-4 c =
     let same = covered-is (slotsOf (length (a .table .now))) (a .table .now) (a .held .now) (c .before .before .before .before .before .before .before .before .before .before .before .before .pre .1 .1) (c .before .before .before .before .before .before .before .before .before .before .before .before .pre .0 .1) (a .memory .now) (a .bodies .now) (a .range .first) (a .range .count) in
     let like = agreed-is (slotsOf (length (a .table .now))) (a .table .now) (a .held .now) (c .before .before .before .before .before .before .before .before .before .before .before .before .pre .1 .1) (c .before .before .before .before .before .before .before .before .before .before .before .before .pre .0 .1) (a .memory .now) (a .bodies .now) (a .range .first) (a .range .count) in
     parent-yes (a .memory .now) (a .bodies .now) (slotsOf (length (a .table .now))) (a .table .now) (a .range .first) (a .range .count) (a .range .kind) (c .before .before .before .before .before .before .if1 .left) (sym same ∙ sym (c .before .before .before .before .parent-holds .ensures) ∙ not-false _ (c .before .before .before .if2 .left))
-    (sym like ∙ sym (rw (c .before .before .slots-of .ensures) at (c .before .parent-agrees .ensures)) ∙ not-false _ (c .if3 .left))
+    (sym like ∙ sym (rw (c .before .before .slots-of .ensures) at (c .before .range-agrees .ensures)) ∙ not-false _ (c .if3 .left))
 
 pub parent-check-spec : {M : Type 1} → statement M
 parent-check-spec =
@@ -68,6 +77,6 @@ parent-check-spec =
     parent-holds-requires
     returns-2
     slots-of-requires
-    parent-agrees-requires
+    range-agrees-requires
     returns-3
     returns-4)

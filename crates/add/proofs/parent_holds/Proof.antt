@@ -8,7 +8,7 @@ use borrow.Author.Count.{below-none, below-more}
 use Rattle.words.proofs.Scan.{all-not, all-make}
 use Rattle.table.specs.Entry.{parent}
 use Rattle.add.specs.Walking.{lacks, backed}
-use Rattle.add.proofs.Asking.{or-fails, or-holds}
+use Rattle.add.proofs.Asking.{cells-small, or-fails, or-holds}
 use Rattle.add.proofs.parent_holds.Statement.{statement}
 use Rattle.add.proofs.parent_holds.Tie as tie
 
@@ -22,7 +22,7 @@ loop-holds : tie.Need-loop-holds Inv-loop μ-loop
 loop-holds c = (search needs, below-none _)
 
 add-cell : tie.Need-add-cell Inv-loop μ-loop
-add-cell c = search needs
+add-cell c = omega (arith, cells-small (c .before .before .before .before .before .args .held .now))
 
 is-new-requires : tie.Need-is-new-requires Inv-loop μ-loop
 is-new-requires c κs = search needs

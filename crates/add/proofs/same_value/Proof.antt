@@ -8,6 +8,7 @@ use Rattle.search.specs.Search.{sourceIn, valueFrom, valueIn}
 use Rattle.search.specs.declared.Held.{Held}
 use Rattle.search.specs.declared.Held.the-variants.{Nowhere, InBody}
 use Rattle.search.proofs.Behind.{source-here, value-here}
+use Rattle.add.proofs.Asking.{source-low}
 use borrow.Author.Needs.{needs}
 use Rattle.add.proofs.same_value.Statement.{statement}
 use Rattle.add.proofs.same_value.Tie as tie
@@ -23,7 +24,11 @@ cast-find-value : tie.Need-cast-find-value
 cast-find-value c = search needs
 
 find-value-requires : tie.Need-find-value-requires
-find-value-requires c κs = ((c .before .before .before .pre .0 .0, c .before .before .before .pre .0 .1, c .before .before .before .pre .0 .3), source-here (c .before .before .before .args .slots) (c .before .before .before .args .table .now) (c .before .before .before .args .depth) (c .before .before .before .args .cell) (c .before .before .before .pre .0 .2) (c .before .before .before .pre .1 .2 .slot))
+find-value-requires c κs =
+    let a = c .before .before .before .before .before .args in
+    let p = c .before .before .before .before .before .pre in
+    let low = source-low (a .slots) (a .table .now) (a .depth) (a .cell) (p .1 .2 .slot) in
+    ((p .0 .0, p .0 .1, p .0 .3, low), (p .0 .4, source-here (a .slots) (a .table .now) (a .depth) (a .cell) (p .0 .2) (p .1 .2 .slot)))
 
 enum-told : tie.Need-enum-told
 enum-told c = search needs
@@ -36,18 +41,18 @@ wide-requires c κs = search needs
 
 same-cell-requires : tie.Need-same-cell-requires
 same-cell-requires c κs =
-    let a = c .before .before .before .before .before .before .before .before .args in
-    let own = own-body (a .slots) (a .table .now) (a .depth) (a .cell) (c .before .before .before .before .before .before .before .before .pre .0 .2) (c .before .before .before .before .before .before .before .before .pre .1 .2 .slot) _ (c .before .before .before .before .find-value .ensures) _ _ (c .before .before .body .given .1) in
-    (rw (c .wide .ensures, own) (c .before .before .before .before .before .before .before .before .pre .1 .2 .fits), c .before .before .before .before .before .before .before .before .pre .1 .1)
+    let a = c .before .before .before .before .before .before .before .before .before .before .args in
+    let own = own-body (a .slots) (a .table .now) (a .depth) (a .cell) (c .before .before .before .before .before .before .before .before .before .before .pre .0 .2) (c .before .before .before .before .before .before .before .before .before .before .pre .1 .2 .slot) _ (c .before .before .before .before .find-value .ensures) _ _ (c .before .before .body .given .1) in
+    (rw (c .wide .ensures, own) (c .before .before .before .before .before .before .before .before .before .before .pre .1 .2 .fits), c .before .before .before .before .before .before .before .before .before .before .pre .1 .1)
 
 returns : tie.Need-returns
-returns c = absurd (somewhere (c .before .before .before .before .before .before .args .slots) (c .before .before .before .before .before .before .args .table .now) (c .before .before .before .before .before .before .args .depth) (c .before .before .before .before .before .before .args .cell) (c .before .before .before .before .before .before .pre .0 .2) (c .before .before .before .before .before .before .pre .1 .2 .slot) _ (c .before .before .find-value .ensures) (c .enum-told .given .1))
+returns c = absurd (somewhere (c .before .before .before .before .before .before .before .before .args .slots) (c .before .before .before .before .before .before .before .before .args .table .now) (c .before .before .before .before .before .before .before .before .args .depth) (c .before .before .before .before .before .before .before .before .args .cell) (c .before .before .before .before .before .before .before .before .pre .0 .2) (c .before .before .before .before .before .before .before .before .pre .1 .2 .slot) _ (c .before .before .find-value .ensures) (c .enum-told .given .1))
 
 returns-2 : tie.Need-returns-2
 unfolding valueIn
 returns-2 c =
-    let a = c .before .before .before .before .before .before .before .before .before .args in
-    let own = own-body (a .slots) (a .table .now) (a .depth) (a .cell) (c .before .before .before .before .before .before .before .before .before .pre .0 .2) (c .before .before .before .before .before .before .before .before .before .pre .1 .2 .slot) _ (c .before .before .before .before .before .find-value .ensures) _ _ (c .before .before .before .body .given .1) in
+    let a = c .before .before .before .before .before .before .before .before .before .before .before .args in
+    let own = own-body (a .slots) (a .table .now) (a .depth) (a .cell) (c .before .before .before .before .before .before .before .before .before .before .before .pre .0 .2) (c .before .before .before .before .before .before .before .before .before .before .before .pre .1 .2 .slot) _ (c .before .before .before .before .before .find-value .ensures) _ _ (c .before .before .before .body .given .1) in
     c .same-cell .ensures ∙ rw (c .before .wide .ensures, own)
 
 pub same-value-spec : {M : Type 1} → statement M

@@ -15,11 +15,11 @@ use Rattle.add.proofs.stage_range.Statement.{statement}
 use Rattle.add.proofs.stage_range.Tie as tie
 
 abbrev Inv-loop : tie.InvT-loop
-Inv-loop table slots held used bodies range start words₀ changed₀ depth still walk₀ i₀ words changed walk i =
+Inv-loop table slots top held used bodies range start words₀ changed₀ depth still walk₀ i₀ words changed walk i =
     (i ≤ slots) × (length words ≡ length words₀) × (length changed ≡ length changed₀) × Walked held used slots bodies table range i walk words changed
 
 abbrev μ-loop : tie.MeasureT-loop
-μ-loop table slots held used bodies range start words₀ changed₀ depth still walk₀ i₀ words changed walk i = slots - i
+μ-loop table slots top held used bodies range start words₀ changed₀ depth still walk₀ i₀ words changed walk i = slots - i
 
 shared-slice-read-depth : tie.Need-shared-slice-read-depth Inv-loop μ-loop
 shared-slice-read-depth c = search needs
@@ -47,7 +47,7 @@ add-next-change : tie.Need-add-next-change Inv-loop μ-loop
 add-next-change c = search needs
 
 next-change-requires-2 : tie.Need-next-change-requires-2 Inv-loop μ-loop
-next-change-requires-2 c κs = (c .before .before .before .before .before .before .before .before .before .before .before .before .before .before .before .before .before .before .before .pre .1 .0 .walk .slots, c .before .before .before .before .before .before .before .before .before .before .before .before .before .before .before .before .before .before .before .pre .1 .0 .walk .long, omega (arith, c .before .before .before .before .before .before .before .before .before .loop-test .taken))
+next-change-requires-2 c κs = (c .before .before .before .before .before .before .before .before .before .before .before .before .before .before .before .before .before .before .before .pre .1 .0 .walk .slots, c .before .before .before .before .before .before .before .before .before .before .before .before .before .before .before .before .before .before .before .pre .1 .0 .walk .long, omega (arith, c .before .before .before .before .before .before .before .before .before .loop-test .taken), c .before .before .before .before .before .before .before .before .before .before .before .before .before .before .before .before .before .before .before .pre .1 .0 .ends)
 
 loop-less : tie.Need-loop-less Inv-loop μ-loop
 loop-less c = omega (arith, c .before .before .before .before .before .before .before .before .before .before .loop-test .taken, c .next-change2 .ensures .low, c .next-change2 .ensures .high)
