@@ -1,5 +1,5 @@
 -- Commit, from its stores to what it means and to what opening finds after every cut of it. Assumes nothing.
-use Prim.Native.Nat.{ℕ, suc, _+_, _-_, _*_, _≤_, _<_, min}
+use Prim.Native.Nat.{ℕ, suc, _+_, _-_, _*_, _≤_}
 use mathlib.Core.Bool.{true}
 use mathlib.Core.List.{List, []}
 use mathlib.Core.Option.{Option}
@@ -16,7 +16,9 @@ use Rattle.words.proofs.Scan.{count-le}
 use Rattle.words.proofs.Names.{name-live, name-from}
 use Rattle.table.specs.Entry.{live}
 use Rattle.table.specs.Changes.{isChanged, entryChanges}
-use Rattle.table.specs.Marks.{cellIn, CellsOnce}
+use Rattle.table.specs.Blocks.{cellsIn, Kept}
+use Rattle.table.specs.Marks.{CellsOnce, EndsAt, Reached}
+use Rattle.table.proofs.Blocks.{cells-all}
 use Rattle.table.proofs.Rule.{Rule}
 use Rattle.table.proofs.Entries.{changes-count, changes-names}
 use Rattle.search.specs.Domain.{depthNamed}
@@ -30,7 +32,7 @@ use Rattle.store.specs.Checks.{storeCheck, lent, lentOf}
 use Rattle.store.specs.State.{stateIn, stateOf}
 use Rattle.store.specs.Means.{orRefused, callMeans}
 use Rattle.store.proofs.Checks.{ask-yes, orElse-both, orElse-go, store-lengths}
-use Rattle.store.proofs.Checked.{checked-once, checked-fits}
+use Rattle.store.proofs.Checked.{checked-once}
 use Rattle.store.proofs.Outcome.{refuses}
 use Rattle.store.proofs.Means.{visibleOf, by-check, store-standing, live-count}
 use Rattle.store.proofs.Bounds.{change-bound}
@@ -164,14 +166,18 @@ commit-pending h k b good =
 
 -- ---- what the code cites
 
+-- every cell has a mark that can be read, also once some are changed
+pub marks-ready : (seen after : List ℕ) → Kept seen → length after ≡ length seen → maxCells ≤ cellsIn after
+marks-ready seen after kept same = omega (arith, cells-all after (omega (arith, kept .room, same)))
+
 -- what passed questions tell, e being what the code took for the number of slots
-pub record Ready (memory e : ℕ) (t : List ℕ) : Type 0 where
+pub record Ready (e : ℕ) (t : List ℕ) : Type 0 where
   pub small : e ≤ maxSlots
   pub long : length t ≡ tableWords e
   pub low : 1 ≤ live t
   pub high : live t ≤ maxLive
   pub once : CellsOnce e t e
-  pub fits : (marks : ℕ) → min (cellsOf memory) maxCells ≤ marks → (i : ℕ) → i < e → cellIn e t i < marks
+  pub ends : (top : ℕ) → Reached t top → EndsAt e t top
 
 module _ (memory bodies : ℕ) (t : List ℕ) (h : ℕ) (passed : commitCheck (lent memory bodies t) h ≡ 0) where
   pub commit-store : storeCheck (lent memory bodies t) ≡ 0
@@ -182,7 +188,7 @@ module _ (memory bodies : ℕ) (t : List ℕ) (h : ℕ) (passed : commitCheck (l
   unfolding commitCheck
   commit-live = asked-live t h (orElse-both (storeCheck (lent memory bodies t)) (asked t h) passed .1)
 
-  pub commit-ready : {e : ℕ} → e ≡ slotsOf (length t) → Ready memory e t
+  pub commit-ready : {e : ℕ} → e ≡ slotsOf (length t) → Ready e t
   commit-ready slots =
       let f = store-lengths memory bodies t commit-store in
       rw slots
@@ -192,7 +198,7 @@ module _ (memory bodies : ℕ) (t : List ℕ) (h : ℕ) (passed : commitCheck (l
         low = commit-live;
         high = live-within memory bodies t commit-store;
         once = checked-once memory bodies t commit-store;
-        fits = checked-fits memory bodies t commit-store;
+        ends = λ top reach. reach (f .slots-low) (f .slots-high) .0;
       })
 
 module _ (m b t : List ℕ) (h k : ℕ) where

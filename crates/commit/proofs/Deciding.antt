@@ -80,6 +80,19 @@ module _ (e : ℕ) (t : List ℕ) (d i : ℕ) (low : 1 ≤ d) where
   unfolding commitChange
   change-apart h = decided-apart d w (word2 e t i) (writesIn e t d (cellOf w)) (parentHas e t d (cellOf w)) low h
 
+  -- a free entry stays
+  pub change-free : word1 e t i ≡ 0 → commitChange e t d i ≡ keep
+  change-free free =
+      let far : eqb (depthOf w) d ≡ false = ne-eqb (depthOf w) d (λ q. omega (arith, q, free)) in
+      change-apart
+      (rw far
+      (by-bool (leb 2 d)
+      (λ z.
+      let deep = leb-true 2 d z in
+      let no : eqb (depthOf w) (parent d) ≡ false = ne-eqb (depthOf w) (parent d) (λ q. omega (arith, q, free, deep)) in
+      rw (z, no))
+      (λ z. rw z)))
+
   module _ (seen : List ℕ) (told : TellsBoth e t d seen) where
     abbrev inner : Bool
     inner = has d (markAt seen w)

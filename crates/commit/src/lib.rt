@@ -2,8 +2,8 @@
 // value stays, and the outer label becomes read-write if the inner was.
 //
 // The questions leave a mark for each cell, the set of the depths that hold it. One pass over the entries has the marks tell of the innermost
-// depth which cells it holds read-write, and another stages each entry's change by them, so that no entry is compared with another. What is
-// staged is then written.
+// depth which cells it holds read-write, and another stages each entry's change by them, so that no entry is compared with another. Both end
+// behind the last entry in use. What is staged is then written.
 use changes::Head;
 use changes::few_bits;
 use changes::few_words;
@@ -19,21 +19,25 @@ use store::Answer;
 use store::answer_of;
 use store::innermost_check;
 use store::store_check;
-use table::FEW_CELLS;
 use table::FEW_SLOTS;
+use table::cell_marks::FEW_BLOCKS;
+use table::cell_marks::SOME_BLOCKS;
+use table::cell_marks::blocks_wanted;
+use table::cell_marks::few_marks;
+use table::cell_marks::has_depth;
+use table::cell_marks::many_marks;
+use table::cell_marks::mark_of;
+use table::cell_marks::some_marks;
 use table::domains::is_inner;
 use table::domains::parent_of;
-use table::few_marks;
 use table::fields::cell_of;
 use table::fields::depth_of;
 use table::fields::move_out;
 use table::fields::raise;
 use table::fields::writable_of;
 use table::first_word;
-use table::has_depth;
-use table::many_marks;
-use table::mark_of;
 use table::no_bodies;
+use table::reach_of;
 use table::second_word;
 use words::layout::GROUP_SIZE;
 use words::layout::LIVE_AT;
@@ -44,12 +48,13 @@ use words::least;
 use words::wide;
 ghost use mathlib.Core.Path.{_≡_};
 ghost use mathlib.Core.Bool.{true, cond};
-ghost use Prim.Native.Nat.{ℕ, _+_, _*_, _≤_, _<_, min};
+ghost use Prim.Native.Nat.{_+_, _*_, _≤_, _<_, min};
 ghost use lib.ListN.{length};
 ghost use Rattle.store.specs.Checks.{lent};
 ghost use Rattle.words.specs.Layout.{cellsOf, pairsAt, slotsOf, tableWords, maxSlots, maxLive, maxCells, groupSize, groupAt};
 ghost use Rattle.table.specs.Entry.{depthOf, writableOf, parent, outward, writable};
-ghost use Rattle.table.specs.Marks.{has, cellIn, Marked, CellsOnce, Blank};
+ghost use Rattle.table.specs.Blocks.{cellsIn, Kept, Enough};
+ghost use Rattle.table.specs.Marks.{has, Marked, CellsOnce, EndsAt, Reached, RoomForMarks, AllMarked};
 ghost use Rattle.changes.specs.Staged.{Turned, Stages, HeadOk, headStores, Journaled};
 ghost use Rattle.store.specs.Outcome.{buffers, report, Makes};
 ghost use Rattle.store.specs.Means.{Shows};
@@ -58,13 +63,20 @@ ghost use Rattle.commit.specs.Decide.{concerned, moves, TellsBoth};
 ghost use Rattle.commit.specs.Parts.{headWords, endingWords};
 
 // The questions put to commit: 0, or the number of the first no. The first of them leave the entries marked.
-fn commit_check(memory: usize, bodies: usize, table: &[u32], handle: u32, seen: &mut [u8]) -> u32
-    requires { ⌜ (min (cellsOf memory) maxCells ≤ length (now seen)) × Blank (now seen) ⌝ }
+fn commit_check(
+    memory: usize,
+    bodies: usize,
+    table: &[u32],
+    top: usize,
+    handle: u32,
+    seen: &mut [u8],
+    used: &mut [u8],
+) -> u32
+    requires { ⌜ RoomForMarks (now table) (cellsOf memory) top (now seen) (now used) ⌝ }
     ensures no { λ r. ⌜ r ≡ commitCheck (lent memory bodies (now (table .entry))) handle ⌝ }
-    ensures marks { λ r. ⌜ (r ≡ 0 → Marked (slotsOf (length (now (table .entry)))) (now (table .entry)) (slotsOf (length (now (table .entry)))) (now (seen .exit))) ⌝ }
+    ensures marks { λ r. ⌜ (r ≡ 0 → AllMarked (slotsOf (length (now (table .entry)))) (now (table .entry)) (now (seen .exit)) (now (used .exit))) ⌝ }
 {
-    let mut used = no_bodies();
-    let no = store_check(memory, bodies, table, seen, &mut used);
+    let no = store_check(memory, bodies, table, top, seen, used);
     if no != 0 {
         return no;
     }
@@ -73,15 +85,15 @@ fn commit_check(memory: usize, bodies: usize, table: &[u32], handle: u32, seen: 
 
 // Has the marks tell of the innermost depth which cells it holds read-write. The outermost domain has no parent whose entries could be
 // raised, so that nothing is asked of its marks.
-fn tell_writable(table: &[u32], slots: usize, live: u32, seen: &mut [u8])
-    requires { ⌜ (slots ≤ maxSlots) × (pairsAt slots ≤ length (now table)) × (1 ≤ live) × (live ≤ maxLive) ⌝ }
-    requires { ⌜ ((i : ℕ) → i < slots → cellIn slots (now table) i < length (now seen)) × Marked slots (now table) slots (now seen) × CellsOnce slots (now table) slots ⌝ }
+fn tell_writable(table: &[u32], slots: usize, top: usize, live: u32, seen: &mut [u8])
+    requires { ⌜ (slots ≤ maxSlots) × (pairsAt slots ≤ length (now table)) × EndsAt slots (now table) top × (1 ≤ live) × (live ≤ maxLive) ⌝ }
+    requires { ⌜ Kept (now seen) × Marked slots (now table) slots (now seen) × CellsOnce slots (now table) slots ⌝ }
     ensures { λ _. ⌜ TellsBoth slots (now (table .entry)) live (now (seen .exit)) ⌝ }
 {
     if live < 2 {
         return;
     }
-    keep_writable(table, slots, live, seen);
+    keep_writable(table, slots, top, live, seen);
 }
 
 // The words of the head: the number of live domains, and the handle that leaves.
@@ -154,7 +166,7 @@ fn commit_entry(
     i: usize,
 ) -> bool
     requires small { ⌜ (i < slots) × (slots ≤ maxSlots) × (pairsAt slots ≤ length (now table)) × (1 ≤ live) × (live ≤ maxLive) × (2 * slots ≤ length (now words)) ⌝ }
-    requires told { ⌜ (cellIn slots (now table) i < length (now seen)) × TellsBoth slots (now table) live (now seen) ⌝ }
+    requires told { ⌜ (maxCells ≤ cellsIn (now seen)) × TellsBoth slots (now table) live (now seen) ⌝ }
     ensures { λ r. ⌜ Turned (commitChange slots (now (table .entry)) live i) i (now (words .entry)) (now (words .exit)) r ⌝ }
 {
     let word = first_word(table, slots, i);
@@ -185,7 +197,7 @@ fn commit_group(
 )
     requires small { ⌜ (groupAt k < slots) × (slots ≤ maxSlots) × (pairsAt slots ≤ length (now table)) × (1 ≤ live) × (live ≤ maxLive) ⌝ }
     requires room { ⌜ (2 * slots ≤ length (now words)) × (slots ≤ groupAt (length (now changed))) ⌝ }
-    requires told { ⌜ ((i : ℕ) → i < slots → cellIn slots (now table) i < length (now seen)) × TellsBoth slots (now table) live (now seen) ⌝ }
+    requires told { ⌜ (maxCells ≤ cellsIn (now seen)) × TellsBoth slots (now table) live (now seen) ⌝ }
     requires before { ⌜ Stages (groupAt k) (commitChange slots (now table) live) (now words) (now changed) ⌝ }
     ensures { λ _. ⌜ Stages (min slots (groupAt k + groupSize)) (commitChange slots (now (table .entry)) live) (now (words .exit)) (now (changed .exit)) ⌝ }
 {
@@ -203,23 +215,25 @@ fn commit_group(
     changed[k] = bits;
 }
 
-// Stages all entries that change.
+// Stages all entries that change. Those from `top` on are free, and no group of them is passed.
 fn commit_entries(
     table: &[u32],
     slots: usize,
+    top: usize,
     live: u32,
     seen: &[u8],
     words: &mut [u32],
     changed: &mut [u64],
 )
     requires small { ⌜ (slots ≤ maxSlots) × (pairsAt slots ≤ length (now table)) × (1 ≤ live) × (live ≤ maxLive) ⌝ }
+    requires ends { ⌜ EndsAt slots (now table) top ⌝ }
     requires room { ⌜ (2 * slots ≤ length (now words)) × (slots ≤ groupAt (length (now changed))) ⌝ }
-    requires told { ⌜ ((i : ℕ) → i < slots → cellIn slots (now table) i < length (now seen)) × TellsBoth slots (now table) live (now seen) ⌝ }
+    requires told { ⌜ (maxCells ≤ cellsIn (now seen)) × TellsBoth slots (now table) live (now seen) ⌝ }
     requires before { ⌜ Stages 0 (commitChange slots (now table) live) (now words) (now changed) ⌝ }
     ensures { λ _. ⌜ Stages slots (commitChange slots (now (table .entry)) live) (now (words .exit)) (now (changed .exit)) ⌝ }
 {
     let mut k: usize = 0;
-    while GROUP_SIZE * k < slots {
+    while GROUP_SIZE * k < top {
         commit_group(table, slots, live, seen, words, changed, k);
         k += 1;
     }
@@ -229,6 +243,7 @@ fn commit_entries(
 fn end_domain(
     table: &mut [u32],
     slots: usize,
+    top: usize,
     live: u32,
     seen: &[u8],
     words: &mut [u32],
@@ -236,97 +251,198 @@ fn end_domain(
     budget: usize,
 ) -> usize
     requires small { ⌜ (slots ≤ maxSlots) × (length (now table) ≡ tableWords slots) × (1 ≤ live) × (live ≤ maxLive) ⌝ }
+    requires ends { ⌜ EndsAt slots (now table) top ⌝ }
     requires room { ⌜ (2 * slots ≤ length (now words)) × (slots ≤ groupAt (length (now changed))) ⌝ }
-    requires told { ⌜ ((i : ℕ) → i < slots → cellIn slots (now table) i < length (now seen)) × TellsBoth slots (now table) live (now seen) ⌝ }
+    requires told { ⌜ (maxCells ≤ cellsIn (now seen)) × TellsBoth slots (now table) live (now seen) ⌝ }
     requires before { ⌜ Stages 0 (commitChange slots (now table) live) (now words) (now changed) ⌝ }
     ensures { λ r. ⌜ Journaled slots (endingWords slots (now (table .entry)) live) budget (now (table .entry)) r (now (table .exit)) ⌝ }
 {
-    commit_entries(table, slots, live, seen, words, changed);
+    commit_entries(table, slots, top, live, seen, words, changed);
     write_staged(table, slots, commit_head(live), words, changed, budget)
 }
 
 // The same with arrays for a table of few slots.
-fn end_few(table: &mut [u32], slots: usize, live: u32, seen: &[u8], budget: usize) -> usize
+fn end_few(
+    table: &mut [u32],
+    slots: usize,
+    top: usize,
+    live: u32,
+    seen: &[u8],
+    budget: usize,
+) -> usize
     requires small { ⌜ (slots ≤ 256) × (length (now table) ≡ tableWords slots) × (1 ≤ live) × (live ≤ maxLive) ⌝ }
-    requires told { ⌜ ((i : ℕ) → i < slots → cellIn slots (now table) i < length (now seen)) × TellsBoth slots (now table) live (now seen) ⌝ }
+    requires ends { ⌜ EndsAt slots (now table) top ⌝ }
+    requires told { ⌜ (maxCells ≤ cellsIn (now seen)) × TellsBoth slots (now table) live (now seen) ⌝ }
     ensures { λ r. ⌜ Journaled slots (endingWords slots (now (table .entry)) live) budget (now (table .entry)) r (now (table .exit)) ⌝ }
 {
     let mut words = few_words();
     let mut changed = few_bits();
-    end_domain(table, slots, live, seen, &mut words, &mut changed, budget)
+    end_domain(
+        table,
+        slots,
+        top,
+        live,
+        seen,
+        &mut words,
+        &mut changed,
+        budget,
+    )
 }
 
 // The same with arrays for any table.
-fn end_many(table: &mut [u32], slots: usize, live: u32, seen: &[u8], budget: usize) -> usize
+fn end_many(
+    table: &mut [u32],
+    slots: usize,
+    top: usize,
+    live: u32,
+    seen: &[u8],
+    budget: usize,
+) -> usize
     requires small { ⌜ (slots ≤ maxSlots) × (length (now table) ≡ tableWords slots) × (1 ≤ live) × (live ≤ maxLive) ⌝ }
-    requires told { ⌜ ((i : ℕ) → i < slots → cellIn slots (now table) i < length (now seen)) × TellsBoth slots (now table) live (now seen) ⌝ }
+    requires ends { ⌜ EndsAt slots (now table) top ⌝ }
+    requires told { ⌜ (maxCells ≤ cellsIn (now seen)) × TellsBoth slots (now table) live (now seen) ⌝ }
     ensures { λ r. ⌜ Journaled slots (endingWords slots (now (table .entry)) live) budget (now (table .entry)) r (now (table .exit)) ⌝ }
 {
     let mut words = many_words();
     let mut changed = many_bits();
-    end_domain(table, slots, live, seen, &mut words, &mut changed, budget)
+    end_domain(
+        table,
+        slots,
+        top,
+        live,
+        seen,
+        &mut words,
+        &mut changed,
+        budget,
+    )
 }
 
 // The same for any table, in arrays chosen by its slots alone. They are made here and not beside the marks, so that a call that is refused
 // clears none, and a large memory does not make the arrays of a small table large.
-fn commit_words(table: &mut [u32], slots: usize, live: u32, seen: &[u8], budget: usize) -> usize
+fn commit_words(
+    table: &mut [u32],
+    slots: usize,
+    top: usize,
+    live: u32,
+    seen: &[u8],
+    budget: usize,
+) -> usize
     requires small { ⌜ (slots ≤ maxSlots) × (length (now table) ≡ tableWords slots) × (1 ≤ live) × (live ≤ maxLive) ⌝ }
-    requires told { ⌜ ((i : ℕ) → i < slots → cellIn slots (now table) i < length (now seen)) × TellsBoth slots (now table) live (now seen) ⌝ }
+    requires ends { ⌜ EndsAt slots (now table) top ⌝ }
+    requires told { ⌜ (maxCells ≤ cellsIn (now seen)) × TellsBoth slots (now table) live (now seen) ⌝ }
     ensures { λ r. ⌜ Journaled slots (endingWords slots (now (table .entry)) live) budget (now (table .entry)) r (now (table .exit)) ⌝ }
 {
     if slots <= FEW_SLOTS {
-        return end_few(table, slots, live, seen, budget);
+        return end_few(table, slots, top, live, seen, budget);
     }
-    end_many(table, slots, live, seen, budget)
+    end_many(table, slots, top, live, seen, budget)
 }
 
-// Commit with marks that are lent for it, none made yet: the questions leave them made.
+// Commit with room for marks: the questions leave them made.
 fn commit_marked(
     memory: &[u8],
     bodies: &[u8],
     table: &mut [u32],
+    top: usize,
     handle: u32,
     seen: &mut [u8],
+    used: &mut [u8],
     budget: usize,
 ) -> Answer
-    requires { ⌜ (min (cellsOf (length (now memory))) maxCells ≤ length (now seen)) × Blank (now seen) ⌝ }
+    requires { ⌜ RoomForMarks (now table) (cellsOf (length (now memory))) top (now seen) (now used) ⌝ }
     ensures { λ r. ⌜ Makes (commitCall handle) budget (buffers (now (memory .entry)) (now (bodies .entry)) (now (table .entry)))
         (report r) (buffers (now (memory .entry)) (now (bodies .entry)) (now (table .exit))) ⌝ }
 {
-    let no = commit_check(memory.len(), bodies.len(), table, handle, seen);
+    let no = commit_check(memory.len(), bodies.len(), table, top, handle, seen, used);
     if no != 0 {
         return Answer::Refused(no);
     }
     let slots = slots_of(table.len());
     let live = table[LIVE_AT];
-    tell_writable(table, slots, live, seen);
-    let steps = commit_words(table, slots, live, seen, budget);
+    tell_writable(table, slots, top, live, seen);
+    let steps = commit_words(table, slots, top, live, seen, budget);
     answer_of(steps, 0, budget)
 }
 
-// Commit in a small memory, where clearing marks for the largest would take longer than all else.
-fn commit_few(memory: &[u8], bodies: &[u8], table: &mut [u32], handle: u32, budget: usize) -> Answer
-    requires { ⌜ cellsOf (length (now memory)) ≤ 1024 ⌝ }
+// Commit with marks of its own for few blocks, where clearing more would take longer than all else.
+fn commit_few(
+    memory: &[u8],
+    bodies: &[u8],
+    table: &mut [u32],
+    top: usize,
+    handle: u32,
+    budget: usize,
+) -> Answer
+    requires { ⌜ Enough 64 top (cellsOf (length (now memory))) × Reached (now table) top ⌝ }
     ensures { λ r. ⌜ Makes (commitCall handle) budget (buffers (now (memory .entry)) (now (bodies .entry)) (now (table .entry)))
         (report r) (buffers (now (memory .entry)) (now (bodies .entry)) (now (table .exit))) ⌝ }
 {
     let mut seen = few_marks();
-    commit_marked(memory, bodies, table, handle, &mut seen, budget)
+    let mut used = no_bodies();
+    commit_marked(
+        memory,
+        bodies,
+        table,
+        top,
+        handle,
+        &mut seen,
+        &mut used,
+        budget,
+    )
 }
 
-// Commit in any memory.
+// With marks for some more.
+fn commit_some(
+    memory: &[u8],
+    bodies: &[u8],
+    table: &mut [u32],
+    top: usize,
+    handle: u32,
+    budget: usize,
+) -> Answer
+    requires { ⌜ Enough 256 top (cellsOf (length (now memory))) × Reached (now table) top ⌝ }
+    ensures { λ r. ⌜ Makes (commitCall handle) budget (buffers (now (memory .entry)) (now (bodies .entry)) (now (table .entry)))
+        (report r) (buffers (now (memory .entry)) (now (bodies .entry)) (now (table .exit))) ⌝ }
+{
+    let mut seen = some_marks();
+    let mut used = no_bodies();
+    commit_marked(
+        memory,
+        bodies,
+        table,
+        top,
+        handle,
+        &mut seen,
+        &mut used,
+        budget,
+    )
+}
+
+// And for any memory.
 fn commit_many(
     memory: &[u8],
     bodies: &[u8],
     table: &mut [u32],
+    top: usize,
     handle: u32,
     budget: usize,
 ) -> Answer
+    requires { ⌜ Reached (now table) top ⌝ }
     ensures { λ r. ⌜ Makes (commitCall handle) budget (buffers (now (memory .entry)) (now (bodies .entry)) (now (table .entry)))
         (report r) (buffers (now (memory .entry)) (now (bodies .entry)) (now (table .exit))) ⌝ }
 {
     let mut seen = many_marks();
-    commit_marked(memory, bodies, table, handle, &mut seen, budget)
+    let mut used = no_bodies();
+    commit_marked(
+        memory,
+        bodies,
+        table,
+        top,
+        handle,
+        &mut seen,
+        &mut used,
+        budget,
+    )
 }
 
 // Ends the innermost domain.
@@ -336,8 +452,13 @@ pub fn commit(memory: &[u8], bodies: &[u8], table: &mut [u32], handle: u32, budg
     ensures means { λ r. ⌜ Shows (commitMeans handle) budget (buffers (now (memory .entry)) (now (bodies .entry)) (now (table .entry)))
         (report r) (buffers (now (memory .entry)) (now (bodies .entry)) (now (table .exit))) ⌝ }
 {
-    if cells_of(memory.len()) <= FEW_CELLS {
-        return commit_few(memory, bodies, table, handle, budget);
+    let top = reach_of(table);
+    let blocks = blocks_wanted(top, cells_of(memory.len()));
+    if blocks <= FEW_BLOCKS {
+        return commit_few(memory, bodies, table, top, handle, budget);
     }
-    commit_many(memory, bodies, table, handle, budget)
+    if blocks <= SOME_BLOCKS {
+        return commit_some(memory, bodies, table, top, handle, budget);
+    }
+    commit_many(memory, bodies, table, top, handle, budget)
 }

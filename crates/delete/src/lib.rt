@@ -1,7 +1,7 @@
 // Delete: frees the named cells of the named domain.
 //
 // The questions come first, in one function that only reads. Then one pass over the entries stages those that are freed, and what is staged
-// is written. No body is stored: a free body means nothing.
+// is written. No body is stored: a free body means nothing. Each pass ends behind the last entry in use, which is looked for once.
 use changes::few_bits;
 use changes::few_words;
 use changes::many_bits;
@@ -15,18 +15,22 @@ use store::Answer;
 use store::answer_of;
 use store::range_ok;
 use store::store_check;
-use table::FEW_CELLS;
 use table::FEW_SLOTS;
+use table::cell_marks::FEW_BLOCKS;
+use table::cell_marks::SOME_BLOCKS;
+use table::cell_marks::blocks_wanted;
+use table::cell_marks::few_marks;
+use table::cell_marks::has_depth;
+use table::cell_marks::many_marks;
+use table::cell_marks::mark_of;
+use table::cell_marks::some_marks;
 use table::domains::child_of;
-use table::few_marks;
 use table::fields::cell_of;
 use table::fields::depth_of;
 use table::fields::is_via;
 use table::first_word;
-use table::has_depth;
-use table::many_marks;
-use table::mark_of;
 use table::no_bodies;
+use table::reach_of;
 use words::layout::GROUP_SIZE;
 use words::layout::cells_of;
 use words::layout::slots_of;
@@ -40,7 +44,8 @@ ghost use Rattle.store.specs.Checks.{lent};
 ghost use Rattle.words.specs.Layout.{cellsOf, pairsAt, tableWords, maxSlots, maxCells, groupSize, groupAt};
 ghost use Rattle.words.specs.Scan.{all};
 ghost use Rattle.table.specs.Entry.{word1};
-ghost use Rattle.table.specs.Marks.{markOf, has, Blank};
+ghost use Rattle.table.specs.Blocks.{markOf, cellsIn, Enough};
+ghost use Rattle.table.specs.Marks.{has, EndsAt, Reached, RoomForMarks};
 ghost use Rattle.table.specs.Changes.{keep, entryChanges};
 ghost use Rattle.changes.specs.Staged.{Turned, Stages, Journaled};
 ghost use Rattle.store.specs.Outcome.{buffers, report, Makes};
@@ -52,7 +57,7 @@ ghost use Rattle.delete.specs.Parts.{inCells, viaWord};
 
 // Question 13: does the domain at this depth hold each of `count` cells from `first` on? All marks are asked, with no branch.
 fn all_held(seen: &[u8], depth: u32, first: usize, count: usize) -> bool
-    requires { ⌜ (first + count ≤ length (now seen)) × (depth < 16) ⌝ }
+    requires { ⌜ (first + count ≤ maxCells) × (maxCells ≤ cellsIn (now seen)) × (depth < 16) ⌝ }
     ensures { λ r. ⌜ r ≡ all count (λ j. has depth (markOf (now (seen .entry)) (first + j))) ⌝ }
 {
     let mut held = true;
@@ -73,15 +78,15 @@ fn in_cells(word: u32, depth: u32, first: u32, count: u32) -> bool
     (depth_of(word) == depth) & ((first <= cell) & (cell < first + count))
 }
 
-// Question 14, asked of the depth of the next domain in: is none of its entries via parent and of one of these cells? All entries are
-// asked, with no branch.
-fn none_via(table: &[u32], slots: usize, depth: u32, first: u32, count: u32) -> bool
-    requires { ⌜ (slots ≤ maxSlots) × (pairsAt slots ≤ length (now table)) × (first + count ≤ maxCells) ⌝ }
+// Question 14, asked of the depth of the next domain in: is none of its entries via parent and of one of these cells? All entries up to `top`
+// are asked, with no branch; those behind it are free.
+fn none_via(table: &[u32], slots: usize, top: usize, depth: u32, first: u32, count: u32) -> bool
+    requires { ⌜ (slots ≤ maxSlots) × (pairsAt slots ≤ length (now table)) × EndsAt slots (now table) top × (first + count ≤ maxCells) ⌝ }
     ensures { λ r. ⌜ r ≡ all slots (λ i. not (viaWord depth first count (word1 slots (now (table .entry)) i))) ⌝ }
 {
     let mut none = true;
     let mut i: usize = 0;
-    while i < slots {
+    while i < top {
         let word = first_word(table, slots, i);
         none = none & !(is_via(word) & in_cells(word, depth, first, count));
         i += 1;
@@ -89,21 +94,22 @@ fn none_via(table: &[u32], slots: usize, depth: u32, first: u32, count: u32) -> 
     none
 }
 
-// The questions put to delete, with marks lent for them, none of which is made yet: 0, or the number of the first no.
+// The questions put to delete, with room for marks: 0, or the number of the first no.
 fn check_marked(
     memory: usize,
     bodies: usize,
     table: &[u32],
+    top: usize,
     handle: u32,
     first: u32,
     count: u32,
     seen: &mut [u8],
+    used: &mut [u8],
 ) -> u32
-    requires { ⌜ (min (cellsOf memory) maxCells ≤ length (now seen)) × Blank (now seen) ⌝ }
+    requires { ⌜ RoomForMarks (now table) (cellsOf memory) top (now seen) (now used) ⌝ }
     ensures { λ r. ⌜ r ≡ deleteCheck (lent memory bodies (now (table .entry))) handle first count ⌝ }
 {
-    let mut used = no_bodies();
-    let no = store_check(memory, bodies, table, seen, &mut used);
+    let no = store_check(memory, bodies, table, top, seen, used);
     if no != 0 {
         return no;
     }
@@ -119,41 +125,95 @@ fn check_marked(
     if !all_held(seen, depth, from, cells) {
         return 13;
     }
-    if !none_via(table, slots_of(table.len()), child_of(depth), first, count) {
+    let slots = slots_of(table.len());
+    if !none_via(table, slots, top, child_of(depth), first, count) {
         return 14;
     }
     0
 }
 
-// The same in a small memory, where clearing marks for the largest would take longer than all else.
+// The same with marks of its own for few blocks, where clearing more would take longer than all else.
 fn check_few(
     memory: usize,
     bodies: usize,
     table: &[u32],
+    top: usize,
     handle: u32,
     first: u32,
     count: u32,
 ) -> u32
-    requires { ⌜ cellsOf memory ≤ 1024 ⌝ }
+    requires { ⌜ Enough 64 top (cellsOf memory) × Reached (now table) top ⌝ }
     ensures { λ r. ⌜ r ≡ deleteCheck (lent memory bodies (now (table .entry))) handle first count ⌝ }
 {
     let mut seen = few_marks();
-    check_marked(memory, bodies, table, handle, first, count, &mut seen)
+    let mut used = no_bodies();
+    check_marked(
+        memory,
+        bodies,
+        table,
+        top,
+        handle,
+        first,
+        count,
+        &mut seen,
+        &mut used,
+    )
 }
 
-// The same in any memory.
+// With marks for some more.
+fn check_some(
+    memory: usize,
+    bodies: usize,
+    table: &[u32],
+    top: usize,
+    handle: u32,
+    first: u32,
+    count: u32,
+) -> u32
+    requires { ⌜ Enough 256 top (cellsOf memory) × Reached (now table) top ⌝ }
+    ensures { λ r. ⌜ r ≡ deleteCheck (lent memory bodies (now (table .entry))) handle first count ⌝ }
+{
+    let mut seen = some_marks();
+    let mut used = no_bodies();
+    check_marked(
+        memory,
+        bodies,
+        table,
+        top,
+        handle,
+        first,
+        count,
+        &mut seen,
+        &mut used,
+    )
+}
+
+// And for any memory.
 fn check_many(
     memory: usize,
     bodies: usize,
     table: &[u32],
+    top: usize,
     handle: u32,
     first: u32,
     count: u32,
 ) -> u32
+    requires { ⌜ Reached (now table) top ⌝ }
     ensures { λ r. ⌜ r ≡ deleteCheck (lent memory bodies (now (table .entry))) handle first count ⌝ }
 {
     let mut seen = many_marks();
-    check_marked(memory, bodies, table, handle, first, count, &mut seen)
+    let mut used = no_bodies();
+    check_marked(
+        memory,
+        bodies,
+        table,
+        top,
+        handle,
+        first,
+        count,
+        &mut seen,
+        &mut used,
+    )
 }
 
 // The questions put to delete. They alone need marks.
@@ -161,16 +221,22 @@ fn delete_check(
     memory: usize,
     bodies: usize,
     table: &[u32],
+    top: usize,
     handle: u32,
     first: u32,
     count: u32,
 ) -> u32
+    requires { ⌜ Reached (now table) top ⌝ }
     ensures { λ r. ⌜ r ≡ deleteCheck (lent memory bodies (now (table .entry))) handle first count ⌝ }
 {
-    if cells_of(memory) <= FEW_CELLS {
-        return check_few(memory, bodies, table, handle, first, count);
+    let blocks = blocks_wanted(top, cells_of(memory));
+    if blocks <= FEW_BLOCKS {
+        return check_few(memory, bodies, table, top, handle, first, count);
     }
-    check_many(memory, bodies, table, handle, first, count)
+    if blocks <= SOME_BLOCKS {
+        return check_some(memory, bodies, table, top, handle, first, count);
+    }
+    check_many(memory, bodies, table, top, handle, first, count)
 }
 
 // ---- what is staged
@@ -247,10 +313,11 @@ fn free_group(
     changed[k] = bits;
 }
 
-// Stages all entries that are freed.
+// Stages all entries that are freed. Those from `top` on are free already, and no group of them is passed.
 fn free_entries(
     table: &[u32],
     slots: usize,
+    top: usize,
     depth: u32,
     first: u32,
     count: u32,
@@ -258,12 +325,13 @@ fn free_entries(
     changed: &mut [u64],
 )
     requires small { ⌜ (slots ≤ maxSlots) × (pairsAt slots ≤ length (now table)) × (first + count ≤ maxCells) ⌝ }
+    requires ends { ⌜ EndsAt slots (now table) top × (1 ≤ depth) ⌝ }
     requires room { ⌜ (2 * slots ≤ length (now words)) × (slots ≤ groupAt (length (now changed))) ⌝ }
     requires before { ⌜ Stages 0 (deleteChange slots (now table) depth first count) (now words) (now changed) ⌝ }
     ensures { λ _. ⌜ Stages slots (deleteChange slots (now (table .entry)) depth first count) (now (words .exit)) (now (changed .exit)) ⌝ }
 {
     let mut k: usize = 0;
-    while GROUP_SIZE * k < slots {
+    while GROUP_SIZE * k < top {
         free_group(table, slots, depth, first, count, words, changed, k);
         k += 1;
     }
@@ -275,6 +343,7 @@ fn free_entries(
 fn free_staged(
     table: &mut [u32],
     slots: usize,
+    top: usize,
     depth: u32,
     first: u32,
     count: u32,
@@ -283,11 +352,12 @@ fn free_staged(
     budget: usize,
 ) -> usize
     requires small { ⌜ (slots ≤ maxSlots) × (length (now table) ≡ tableWords slots) × (first + count ≤ maxCells) ⌝ }
+    requires ends { ⌜ EndsAt slots (now table) top × (1 ≤ depth) ⌝ }
     requires room { ⌜ (2 * slots ≤ length (now words)) × (slots ≤ groupAt (length (now changed))) ⌝ }
     requires before { ⌜ Stages 0 (deleteChange slots (now table) depth first count) (now words) (now changed) ⌝ }
     ensures { λ r. ⌜ Journaled slots (entryChanges slots (deleteChange slots (now (table .entry)) depth first count)) budget (now (table .entry)) r (now (table .exit)) ⌝ }
 {
-    free_entries(table, slots, depth, first, count, words, changed);
+    free_entries(table, slots, top, depth, first, count, words, changed);
     write_staged(table, slots, no_head(), words, changed, budget)
 }
 
@@ -295,12 +365,14 @@ fn free_staged(
 fn free_few(
     table: &mut [u32],
     slots: usize,
+    top: usize,
     depth: u32,
     first: u32,
     count: u32,
     budget: usize,
 ) -> usize
-    requires { ⌜ (slots ≤ 256) × (length (now table) ≡ tableWords slots) × (first + count ≤ maxCells) ⌝ }
+    requires small { ⌜ (slots ≤ 256) × (length (now table) ≡ tableWords slots) × (first + count ≤ maxCells) ⌝ }
+    requires ends { ⌜ EndsAt slots (now table) top × (1 ≤ depth) ⌝ }
     ensures { λ r. ⌜ Journaled slots (entryChanges slots (deleteChange slots (now (table .entry)) depth first count)) budget (now (table .entry)) r (now (table .exit)) ⌝ }
 {
     let mut words = few_words();
@@ -308,6 +380,7 @@ fn free_few(
     free_staged(
         table,
         slots,
+        top,
         depth,
         first,
         count,
@@ -321,12 +394,14 @@ fn free_few(
 fn free_many(
     table: &mut [u32],
     slots: usize,
+    top: usize,
     depth: u32,
     first: u32,
     count: u32,
     budget: usize,
 ) -> usize
-    requires { ⌜ (slots ≤ maxSlots) × (length (now table) ≡ tableWords slots) × (first + count ≤ maxCells) ⌝ }
+    requires small { ⌜ (slots ≤ maxSlots) × (length (now table) ≡ tableWords slots) × (first + count ≤ maxCells) ⌝ }
+    requires ends { ⌜ EndsAt slots (now table) top × (1 ≤ depth) ⌝ }
     ensures { λ r. ⌜ Journaled slots (entryChanges slots (deleteChange slots (now (table .entry)) depth first count)) budget (now (table .entry)) r (now (table .exit)) ⌝ }
 {
     let mut words = many_words();
@@ -334,6 +409,7 @@ fn free_many(
     free_staged(
         table,
         slots,
+        top,
         depth,
         first,
         count,
@@ -347,18 +423,20 @@ fn free_many(
 fn free_cells(
     table: &mut [u32],
     slots: usize,
+    top: usize,
     depth: u32,
     first: u32,
     count: u32,
     budget: usize,
 ) -> usize
-    requires { ⌜ (slots ≤ maxSlots) × (length (now table) ≡ tableWords slots) × (first + count ≤ maxCells) ⌝ }
+    requires small { ⌜ (slots ≤ maxSlots) × (length (now table) ≡ tableWords slots) × (first + count ≤ maxCells) ⌝ }
+    requires ends { ⌜ EndsAt slots (now table) top × (1 ≤ depth) ⌝ }
     ensures { λ r. ⌜ Journaled slots (entryChanges slots (deleteChange slots (now (table .entry)) depth first count)) budget (now (table .entry)) r (now (table .exit)) ⌝ }
 {
     if slots <= FEW_SLOTS {
-        return free_few(table, slots, depth, first, count, budget);
+        return free_few(table, slots, top, depth, first, count, budget);
     }
-    free_many(table, slots, depth, first, count, budget)
+    free_many(table, slots, top, depth, first, count, budget)
 }
 
 // ---- the call
@@ -378,12 +456,13 @@ pub fn delete(
     ensures means { λ r. ⌜ Shows (deleteMeans handle first count) budget (buffers (now (memory .entry)) (now (bodies .entry)) (now (table .entry)))
         (report r) (buffers (now (memory .entry)) (now (bodies .entry)) (now (table .exit))) ⌝ }
 {
-    let no = delete_check(memory.len(), bodies.len(), table, handle, first, count);
+    let top = reach_of(table);
+    let no = delete_check(memory.len(), bodies.len(), table, top, handle, first, count);
     if no != 0 {
         return Answer::Refused(no);
     }
     let slots = slots_of(table.len());
     let depth = find_domain(table, handle);
-    let steps = free_cells(table, slots, depth, first, count, budget);
+    let steps = free_cells(table, slots, top, depth, first, count, budget);
     answer_of(steps, 0, budget)
 }

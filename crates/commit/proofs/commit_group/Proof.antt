@@ -31,7 +31,7 @@ loop-holds : tie.Need-loop-holds Inv-loop μ-loop
 loop-holds c = (search needs, search needs, refl, group-start (c .before .before .before .before .before .args .k) (c .before .before .before .before .before .pre .1 .1 .1) refl (search needs))
 
 commit-entry-requires : tie.Need-commit-entry-requires Inv-loop μ-loop
-commit-entry-requires c κs = (search needs, (c .before .before .before .before .before .before .before .before .pre .1 .1 .0 .0 _ (search needs), c .before .before .before .before .before .before .before .before .pre .1 .1 .0 .1))
+commit-entry-requires c κs = (search needs, c .before .before .before .before .before .before .before .before .pre .1 .1 .0)
 
 with-bit-requires : tie.Need-with-bit-requires Inv-loop μ-loop
 with-bit-requires c κs = search needs

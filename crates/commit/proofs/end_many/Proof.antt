@@ -17,7 +17,7 @@ slice-aggregate-end-domain-2 : tie.Need-slice-aggregate-end-domain-2
 slice-aggregate-end-domain-2 c = search needs
 
 end-domain-requires : tie.Need-end-domain-requires
-end-domain-requires c κs = (search needs, (search needs, (c .before .before .before .before .before .before .before .pre .1, stages-start 64 (c .before .before .before .many-bits .ensures))))
+end-domain-requires c κs = (search needs, (c .before .before .before .before .before .before .before .pre .1 .0, (search needs, (c .before .before .before .before .before .before .before .pre .1 .1, stages-start 64 (c .before .before .before .many-bits .ensures)))))
 
 same-length : tie.Need-same-length
 same-length c = search needs

@@ -1,22 +1,25 @@
--- `delete::free_entries` meets its contract. The loop's invariant: the groups passed are staged. Assumes nothing.
+-- `delete::free_entries` meets its contract. The loop's invariant: the groups passed are staged; the entries behind them are
+-- free. Assumes nothing.
 use Prim.Native.Nat.{_+_, _-_, _*_, _≤_, min}
 use mathlib.Core.Path.{_≡_, refl, _∙_}
+use native.Mathlib.Omega.{arith}
 use borrow.Author.Needs.{needs}
 use lib.ListN.{length}
 use Rattle.changes.specs.Staged.{Stages}
-use Rattle.changes.proofs.Staging.{stages-to}
+use Rattle.changes.proofs.Staging.{stages-skip, stages-to}
 use Rattle.delete.specs.Delete.{deleteChange}
+use Rattle.delete.proofs.Deleting.{free-kept}
 use Rattle.delete.proofs.free_entries.Statement.{statement}
 use Rattle.delete.proofs.free_entries.Tie as tie
 
 abbrev Inv-loop : tie.InvT-loop
-Inv-loop table slots depth first count words₀ changed₀ k₀ words changed k = (64 * k ≤ slots + 63) × (length words ≡ length words₀) × (length changed ≡ length changed₀) × Stages (min slots (64 * k)) (deleteChange slots table depth first count) words changed
+Inv-loop table slots top depth first count words₀ changed₀ k₀ words changed k = (64 * k ≤ top + 63) × (length words ≡ length words₀) × (length changed ≡ length changed₀) × Stages (min slots (64 * k)) (deleteChange slots table depth first count) words changed
 
 abbrev μ-loop : tie.MeasureT-loop
-μ-loop table slots depth first count words₀ changed₀ k₀ words changed k = slots + 64 - 64 * k
+μ-loop table slots top depth first count words₀ changed₀ k₀ words changed k = top + 64 - 64 * k
 
 loop-holds : tie.Need-loop-holds Inv-loop μ-loop
-loop-holds c = (search needs, refl, refl, stages-to _ (c .before .before .before .pre .1 .1) (search needs))
+loop-holds c = (search needs, refl, refl, stages-to _ (c .before .before .before .pre .1 .1 .1) (search needs))
 
 mul-loop : tie.Need-mul-loop Inv-loop μ-loop
 mul-loop c = search needs
@@ -40,7 +43,10 @@ same-length-2 : tie.Need-same-length-2 Inv-loop μ-loop
 same-length-2 c = search needs
 
 returns : tie.Need-returns Inv-loop μ-loop
-returns c = stages-to _ (c .before .loop .inv .3) (search needs)
+returns c =
+    let a = c .before .before .before .before .before .args in
+    let p = c .before .before .before .before .before .pre in
+    stages-skip _ (c .before .loop .inv .3) (search needs) (λ i low l. free-kept (a .slots) (a .table .now) (a .depth) (a .first) (a .count) i (p .1 .0 .1) (p .1 .0 .0 .1 i (omega arith) l .0))
 
 pub free-entries-spec : {M : Type 1} → statement M
 free-entries-spec =

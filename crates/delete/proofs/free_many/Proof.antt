@@ -17,7 +17,7 @@ slice-aggregate-free-staged-2 : tie.Need-slice-aggregate-free-staged-2
 slice-aggregate-free-staged-2 c = search needs
 
 free-staged-requires : tie.Need-free-staged-requires
-free-staged-requires c κs = (search needs, (search needs, stages-start 64 (c .before .before .before .many-bits .ensures)))
+free-staged-requires c κs = (search needs, (c .before .before .before .before .before .before .pre .1, (search needs, stages-start 64 (c .before .before .before .many-bits .ensures))))
 
 same-length : tie.Need-same-length
 same-length c = search needs
