@@ -15,7 +15,6 @@ use Rattle.words.proofs.Scan.{by-bool, by-le, and-split, true≢, all-at, all-e
 use Rattle.table.specs.Entry.{live, parent, findIn, holdsIn, parentHas}
 use Rattle.table.specs.Blocks.{cellsIn, directoryEnd}
 use Rattle.table.specs.Marks.{markOf, has, Marked, AllMarked, EndsAt, Reached}
-use Rattle.table.proofs.Blocks.{cells-all}
 use Rattle.table.proofs.Digits.{has-zero}
 use Rattle.table.proofs.Marks.{marked-holds}
 use Rattle.table.proofs.Entry.{holds-found}
@@ -223,15 +222,6 @@ module _ (e : ℕ) (t held : List ℕ) (m : Marked e t e held) (inner : 1 ≤ li
 
 -- ---- what is marked
 
--- no more cells than the largest memory has
-pub cells-small : (seen : List ℕ) → cellsIn seen ≤ maxCells
-unfolding cellsIn
-cells-small seen = by-bool (leb directoryEnd (length seen)) (λ h. rw h (omega arith)) (λ h. rw h (omega arith))
-
--- every cell has a mark that can be read
-pub marked-cells : (e : ℕ) (t seen used : List ℕ) → AllMarked e t seen used → cellsIn seen ≡ maxCells
-marked-cells e t seen used m = cells-all seen (omega (arith, m .kept .room))
-
 -- depth 0 holds nothing, so that a copy stands behind depth 1 at least
 pub source-low : (e : ℕ) (t : List ℕ) (d c : ℕ) → sourceIn e t d c < e → 1 ≤ d
 source-low e t zero c s = absurd (never (rw (source-zero e t zero c (omega arith)) at s))
@@ -250,10 +240,6 @@ module _ (memory bodies t : List ℕ) (yes : storeCheck (lent (length memory) (l
       let f = body-fits _ (slotsOf (length t)) _ t (raw-rule memory bodies t yes) (sourceIn (slotsOf (length t)) t d c) k in
       let w = store-lengths _ _ t yes in
       record { slot = k .slot; fits = omega (arith, w .bodies-exact) }
-
-  -- the passes over the entries may end at the last in use
-  pub ends-at : (top : ℕ) → Reached t top → EndsAt (slotsOf (length t)) t top
-  ends-at top reached = let w = store-lengths _ _ t yes in reached (w .slots-low) (w .slots-high) .0
 
   -- where the parent holds every new cell
   pub sources : (base n : ℕ) (held : List ℕ) → Marked (slotsOf (length t)) t (slotsOf (length t)) held → 1 ≤ live t → all n (covered memory bodies (slotsOf (length t)) t base n 0) ≡ true

@@ -18,7 +18,7 @@ use Rattle.table.specs.Entry.{live}
 use Rattle.table.specs.Changes.{isChanged, entryChanges}
 use Rattle.table.specs.Blocks.{cellsIn, Kept}
 use Rattle.table.specs.Marks.{CellsOnce, EndsAt, Reached}
-use Rattle.table.proofs.Blocks.{cells-all}
+use Rattle.table.proofs.Blocks.{kept-cells, cells-same}
 use Rattle.table.proofs.Rule.{Rule}
 use Rattle.table.proofs.Entries.{changes-count, changes-names}
 use Rattle.search.specs.Domain.{depthNamed}
@@ -168,7 +168,7 @@ commit-pending h k b good =
 
 -- every cell has a mark that can be read, also once some are changed
 pub marks-ready : (seen after : List ℕ) → Kept seen → length after ≡ length seen → maxCells ≤ cellsIn after
-marks-ready seen after kept same = omega (arith, cells-all after (omega (arith, kept .room, same)))
+marks-ready seen after kept same = omega (arith, kept-cells seen kept, cells-same after seen same)
 
 -- what passed questions tell, e being what the code took for the number of slots
 pub record Ready (e : ℕ) (t : List ℕ) : Type 0 where

@@ -48,6 +48,14 @@ pub cells-all : (s : List ℕ) → directoryEnd ≤ length s → cellsIn s ≡ m
 unfolding cellsIn
 cells-all s l = rw (le-leb directoryEnd (length s) l)
 
+pub cells-small : (s : List ℕ) → cellsIn s ≤ maxCells
+unfolding cellsIn
+cells-small s = by-bool (leb directoryEnd (length s)) (λ h. rw h (omega arith)) (λ h. rw h (omega arith))
+
+-- of every cell, where blocks are kept
+pub kept-cells : (s : List ℕ) → Kept s → cellsIn s ≡ maxCells
+kept-cells s ok = cells-all s (omega (arith, ok .room))
+
 pub cells-same : (a b : List ℕ) → length a ≡ length b → cellsIn a ≡ cellsIn b
 unfolding cellsIn
 cells-same a b q = rw q

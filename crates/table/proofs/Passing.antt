@@ -16,7 +16,7 @@ use Rattle.table.specs.Rule.{headOk, kindOk, entryOk, parentOk, ruleOk}
 use Rattle.table.specs.Blocks.{blockAt, cellsIn, Spare, Room}
 use Rattle.table.specs.Marks.{Blank, has, cellIn, markAt, markCell, IsCopy, markBody, bodyFits, placed, FreeRun, NoVias, Passed, AllMarked}
 use Rattle.table.proofs.Digits.{has-none}
-use Rattle.table.proofs.Blocks.{cells-all, kept-none, taken-none, outside-none, cells-none, cell-one, cell-kept, cell-blocks, cell-outside, room-spare}
+use Rattle.table.proofs.Blocks.{kept-cells, kept-none, taken-none, outside-none, cells-none, cell-one, cell-kept, cell-blocks, cell-outside, room-spare}
 use Rattle.table.proofs.Marks.{owns-facts, split, marks-none, once-none, once-not, once-more, marked-more, distinct-none, bodies-more, single-more}
 use Rattle.table.proofs.Rule.{entry-least, outer-make}
 use Rattle.table.proofs.Parts.{no-entries, no-cells, no-single, all-parts}
@@ -74,7 +74,7 @@ module _ (m e b : ℕ) (t : List ℕ) where
 
     -- its marks can be read
     pub passed-cells : cellsIn seen ≡ maxCells
-    passed-cells = cells-all seen (omega (arith, p .kept .room))
+    passed-cells = kept-cells seen (p .kept)
 
     -- one more entry
     module _ (l : n < e) where

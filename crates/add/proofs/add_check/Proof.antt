@@ -5,8 +5,10 @@ use lib.ListN.{length}
 use Rattle.words.specs.Layout.{cellsOf}
 use Rattle.store.proofs.Raw.{raw-rule}
 use Rattle.store.proofs.Checks.{store-lengths}
-use Rattle.add.proofs.Asking.{marked-cells, ends-at, range-facts, check-store, check-range, check-rest}
+use Rattle.add.proofs.Asking.{range-facts, check-store, check-range, check-rest}
 use borrow.Author.Needs.{needs}
+use Rattle.table.proofs.Blocks.{kept-cells}
+use Rattle.store.proofs.Checked.{checked-ends}
 use Rattle.add.proofs.add_check.Statement.{statement}
 use Rattle.add.proofs.add_check.Tie as tie
 
@@ -53,8 +55,8 @@ held-check-requires c κs =
     let marks = c .before .before .before .before .before .before .before .before .before .store-check .ensures .1 (c .before .before .before .before .if1 .left) in
     let f = store-lengths _ _ (a .table .now) good in
     let r = range-facts (a .table .now) (cellsOf (length (a .memory .now))) (a .handle) (a .range .first) (a .range .count) (a .range .kind) (a .range .label) (sym (rw (c .before .before .before .cells-of .ensures) at (c .before .before .range-check .ensures)) ∙ c .before .if2 .left) in (
-      (good, r .inner, r .range, ends-at (a .memory .now) (a .bodies .now) (a .table .now) good (a .top) (c .before .before .before .before .before .before .before .before .before .before .before .before .before .before .before .before .before .pre .reached)),
-      (omega (arith, r .range, f .cells-high, marked-cells _ _ _ _ marks), marks .cells),
+      (good, r .inner, r .range, checked-ends _ _ (a .table .now) good (a .top) (c .before .before .before .before .before .before .before .before .before .before .before .before .before .before .before .before .before .pre .reached)),
+      (omega (arith, r .range, f .cells-high, kept-cells _ (marks .kept)), marks .cells),
     )
 
 same-length-5 : tie.Need-same-length-5

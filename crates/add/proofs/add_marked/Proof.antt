@@ -2,9 +2,11 @@
 use mathlib.Core.Path.{sym, _∙_}
 use native.Mathlib.Omega.{arith}
 use Rattle.store.proofs.Checks.{store-lengths}
-use Rattle.add.proofs.Asking.{marked-cells, ends-at, add-ready}
+use Rattle.add.proofs.Asking.{add-ready}
 use Rattle.add.proofs.Added.{add-refused, add-performed}
 use borrow.Author.Needs.{needs}
+use Rattle.table.proofs.Blocks.{kept-cells}
+use Rattle.store.proofs.Checked.{checked-ends}
 use Rattle.add.proofs.add_marked.Statement.{statement}
 use Rattle.add.proofs.add_marked.Tie as tie
 
@@ -34,7 +36,7 @@ add-stores-requires c κs =
     let ready = add-ready (a .memory .now) (a .bodies .now) (a .table .now) (a .handle) (a .range .first) (a .range .count) (a .range .kind) (a .range .label) (sym (c .before .before .before .before .before .before .before .before .before .add-check .ensures .0) ∙ c .before .before .before .before .if1 .left) in
     let marks = c .before .before .before .before .before .before .before .before .before .add-check .ensures .1 (c .before .before .before .before .if1 .left) in
     let f = store-lengths _ _ (a .table .now) (ready .store) in
-    (ready, (omega (arith, ready .range, f .cells-high, marked-cells _ _ _ _ marks), c .before .before .before .before .before .before .before .before .before .add-check .kept .1 .1 .1 .1 .1 .0 ∙ c .before .before .before .before .before .before .before .before .before .before .before .before .before .before .before .before .before .before .before .pre .bodies, marks, ends-at (a .memory .now) (a .bodies .now) (a .table .now) (ready .store) (a .top) (c .before .before .before .before .before .before .before .before .before .before .before .before .before .before .before .before .before .before .before .pre .reached)))
+    (ready, (omega (arith, ready .range, f .cells-high, kept-cells _ (marks .kept)), c .before .before .before .before .before .before .before .before .before .add-check .kept .1 .1 .1 .1 .1 .0 ∙ c .before .before .before .before .before .before .before .before .before .before .before .before .before .before .before .before .before .before .before .pre .bodies, marks, checked-ends _ _ (a .table .now) (ready .store) (a .top) (c .before .before .before .before .before .before .before .before .before .before .before .before .before .before .before .before .before .before .before .pre .reached)))
 
 answer-of-requires : tie.Need-answer-of-requires
 answer-of-requires c κs = search needs

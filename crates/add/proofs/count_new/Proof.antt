@@ -1,11 +1,12 @@
 -- `add::count_new` meets its contract. The loop's invariant: `new` counts the new cells among those passed. Assumes nothing.
 use borrow.Author.Needs.{needs}
+use Rattle.table.proofs.Blocks.{cells-small}
 use Prim.Native.Nat.{ℕ, _-_, _≤_}
 use mathlib.Core.Path.{_≡_, refl, ap, _∙_}
 use native.Mathlib.Omega.{arith}
 use Rattle.words.specs.Scan.{count}
 use Rattle.add.specs.Walking.{unheld}
-use Rattle.add.proofs.Asking.{cells-small, count-add, most-one}
+use Rattle.add.proofs.Asking.{count-add, most-one}
 use Rattle.add.proofs.count_new.Statement.{statement}
 use Rattle.add.proofs.count_new.Tie as tie
 

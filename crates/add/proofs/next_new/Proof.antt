@@ -1,12 +1,12 @@
 -- `add::next_new` meets its contract. The loop's invariant: no cell from `at` on and before j is new. Assumes nothing.
 use borrow.Author.Needs.{needs}
+use Rattle.table.proofs.Blocks.{cells-small}
 use Prim.Native.Nat.{_-_, _≤_}
 use mathlib.Core.Path.{sym, _∙_}
 use native.Mathlib.Omega.{arith}
 use Rattle.words.proofs.Scan.{not-lt}
 use Rattle.search.proofs.From.{Failing, failing-none, failing-more, from-at}
 use Rattle.add.specs.Walking.{unheld, nextUnheld}
-use Rattle.add.proofs.Asking.{cells-small}
 use Rattle.add.proofs.next_new.Statement.{statement}
 use Rattle.add.proofs.next_new.Tie as tie
 

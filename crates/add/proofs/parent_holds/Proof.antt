@@ -1,5 +1,6 @@
 -- `add::parent_holds` meets its contract. The loop's invariant: of every cell passed, the domain or its parent holds it. Assumes nothing.
 use borrow.Author.Needs.{needs}
+use Rattle.table.proofs.Blocks.{cells-small}
 use Prim.Native.Nat.{ℕ, _+_, _-_, _≤_, _<_}
 use mathlib.Core.Path.{_≡_, sym}
 use mathlib.Core.Bool.{true}
@@ -8,7 +9,7 @@ use borrow.Author.Count.{below-none, below-more}
 use Rattle.words.proofs.Scan.{all-not, all-make}
 use Rattle.table.specs.Entry.{parent}
 use Rattle.add.specs.Walking.{lacks, backed}
-use Rattle.add.proofs.Asking.{cells-small, or-fails, or-holds}
+use Rattle.add.proofs.Asking.{or-fails, or-holds}
 use Rattle.add.proofs.parent_holds.Statement.{statement}
 use Rattle.add.proofs.parent_holds.Tie as tie
 

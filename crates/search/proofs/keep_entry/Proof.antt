@@ -1,6 +1,6 @@
 use mathlib.Core.Path.{refl, sym, _∙_}
 use native.Mathlib.Omega.{arith}
-use Rattle.table.proofs.Blocks.{cells-all}
+use Rattle.table.proofs.Blocks.{kept-cells}
 use Rattle.search.proofs.Writable.{keeps-same, keeps-stored}
 use borrow.Author.Needs.{needs}
 use Rattle.search.proofs.keep_entry.Statement.{statement}
@@ -27,7 +27,7 @@ cell-of-requires c κs = search needs
 
 -- src/lib.rt:315:9
 mark-of-requires : tie.Need-mark-of-requires
-mark-of-requires c κs = rw (cells-all (c .before .before .before .before .before .args .seen .now) (omega (arith, c .before .before .before .before .before .pre .1 .room))) (omega (arith, c .before .cell-of .ensures))
+mark-of-requires c κs = rw (kept-cells (c .before .before .before .before .before .args .seen .now) (c .before .before .before .before .before .pre .1)) (omega (arith, c .before .cell-of .ensures))
 
 -- src/lib.rt:316:36
 taken-bit-requires : tie.Need-taken-bit-requires
