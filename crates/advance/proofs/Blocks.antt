@@ -1,11 +1,12 @@
 -- Numbers that stand at the blocks of the marks, seen in the order of the groups of cells: what a store at the block of one group does to those
 -- of all. By the directory's rule no block belongs to two groups. Assumes nothing.
-use Prim.Native.Nat.{ℕ, _+_, _≤_, _<_}
+use Prim.Native.Nat.{ℕ, _+_, _/_, _%_, _^_, _≤_, _<_}
 use mathlib.Core.Bool.{true, false}
 use mathlib.Core.List.{List}
 use mathlib.Core.Path.{_≡_, refl, sym, ap, _∙_}
 use native.Mathlib.Omega.{arith}
 use borrow.Author.Tests.{eq-eqb, eqb-true, eqb-false}
+use lib.Count.{ones}
 use lib.Dec.{eqb}
 use lib.ListN.{length, getD, set, length-set, List·getD-eq-default}
 use lib.Seq.{getD-set-same, getD-set-other, set-getD, ext-getD}
@@ -23,7 +24,7 @@ use Rattle.changes.specs.Staged.{withBit, isSet}
 use Rattle.changes.proofs.Bits.{bit-kept}
 use Rattle.advance.specs.Advance.{turns}
 use Rattle.advance.specs.Notes.{NoBits, byGroup, BlockBits, markTurning, Ends}
-use Rattle.advance.proofs.Bits.{group-some, group-known}
+use Rattle.advance.proofs.Bits.{count-next, group-some, group-known, ends-rank}
 
 module _ (seen numbers : List ℕ) where
   pub by-length : length (byGroup seen numbers) ≡ maxGroups
@@ -123,6 +124,24 @@ module _ (seen bits : List ℕ) (b : BlockBits seen bits) where
       let q = eqb-true (blockOf seen (groupOf c)) 0 z in
       absurd (group-some (byGroup seen bits) c h (by-at seen bits (groupOf c) (omega (arith, bit-cell seen bits c h)) ∙ ap (λ (x : ℕ). getD bits x 0) q ∙ b .front)))
       (λ z. let ne = eqb-false (blockOf seen (groupOf c)) 0 z in omega (arith, ne))
+
+  -- up to the end of a group
+  pub count-more : (g : ℕ) → g < maxGroups → getD bits (blockOf seen g) 0 < 2 ^ 64
+      → count (groupAt g) (isSet (byGroup seen bits)) + ones (getD bits (blockOf seen g) 0) ≡ count (groupAt (g + 1)) (isSet (byGroup seen bits))
+  count-more g l small =
+      let q = by-at seen bits g l in
+      omega (arith, ap ones q, count-next (byGroup seen bits) g (omega (arith, q, small)))
+
+  -- the rank of a cell with a bit, by what is noted at its group's block
+  pub rank-noted : (ends : List ℕ) (c : ℕ) → getD bits (blockOf seen (groupOf c)) 0 < 2 ^ 64 → Ends (byGroup seen bits) maxGroups (byGroup seen ends)
+      → isSet (byGroup seen bits) c ≡ true
+      → getD ends (blockOf seen (groupOf c)) 0 ≡ count c (isSet (byGroup seen bits)) + ones (getD bits (blockOf seen (groupOf c)) 0 / 2 ^ (c % 64))
+  rank-noted ends c small noted h =
+      let l : groupOf c < maxGroups = omega (arith, bit-cell seen bits c h) in
+      let q = by-at seen bits (groupOf c) l in
+      sym (by-at seen ends (groupOf c) l)
+      ∙ ends-rank (byGroup seen bits) maxGroups (byGroup seen ends) c (omega (arith, q, small)) noted l h
+      ∙ ap (λ (x : ℕ). count c (isSet (byGroup seen bits)) + ones (x / 2 ^ (c % 64))) q
 
   -- one group more is noted
   pub ends-more : (g v : ℕ) (ends : List ℕ) → g < maxGroups → blockOf seen g < length ends → v ≡ count (groupAt (g + 1)) (isSet (byGroup seen bits))
