@@ -1,16 +1,16 @@
 -- Laws of marks that are kept in blocks: what taking a block and storing a mark do to the marks of all cells. Assumes nothing.
 use Prim.Native.Nat.{ℕ, zero, suc, _+_, _-_, _*_, _/_, _%_, _<_, _≤_, min}
-use mathlib.Core.Bool.{Bool, true, false, cond, not}
+use mathlib.Core.Bool.{Bool, true, false, cond, not, _||_}
 use mathlib.Core.List.{List, [], _∷_}
 use mathlib.Core.Path.{_≡_, refl, sym, ap, _∙_}
 use native.Mathlib.Omega.{arith}
-use borrow.Author.Tests.{eq-eqb, ne-eqb, eqb-true, eqb-false, lt-ltb, ltb-true, le-leb, leb-true}
+use borrow.Author.Tests.{not-false, eq-eqb, ne-eqb, eqb-true, eqb-false, lt-ltb, ltb-true, le-leb, leb-true}
 use lib.Dec.{eqb, ltb, leb}
-use lib.ListN.{length, getD, set, length-set}
-use lib.Seq.{getD-set-same, getD-set-other}
+use lib.ListN.{length, getD, set, take, drop, length-set}
+use lib.Seq.{getD-set-same, getD-set-other, getD-take, getD-drop}
 use Rattle.words.specs.Layout.{maxCells, groupSize, groupOf}
 use Rattle.words.specs.Scan.{count}
-use Rattle.words.proofs.Scan.{by-bool, by-le, is-false, true≢, count-le, count-flip, count-ext, count-none}
+use Rattle.words.proofs.Scan.{by-bool, by-le, or-split, is-false, true≢, count-le, count-flip, count-ext, count-none}
 use Rattle.table.specs.Entry.{depthOf, cellOf}
 use Rattle.table.specs.Blocks.{number, putNumber, taken, blockOf, owns, maxGroups, groupsFor, directoryEnd, blockAt, placeOf, markOf, cellsIn, Kept, Outside, withBlock, Spare, Room, OneMark}
 use Rattle.table.specs.Marks.{withDepth, markAt, markCell}
@@ -397,3 +397,29 @@ pub room-spare : (s : List ℕ) (n m c : ℕ) → Kept s → Outside m s → tak
 room-spare s n m c ok out few l small room none =
     let less = taken-less s m (groupOf c) ok out (omega (arith, l, small)) none in
     omega (arith, few, room, less)
+
+-- ---- groups without a block
+
+-- x says whether one of the first j bytes is not 0
+pub bytes-more : (part : List ℕ) (j : ℕ) (x : Bool) → (x ≡ false → (k : ℕ) → k < j → getD part k 0 ≡ 0)
+    → (x || not (eqb (getD part j 0) 0)) ≡ false → (k : ℕ) → k < j + 1 → getD part k 0 ≡ 0
+bytes-more part j x so-far h k l =
+    let both = or-split x (not (eqb (getD part j 0) 0)) h in
+    by-le j k
+    (λ far. let q : k ≡ j = omega (arith, far, l) in rw q (eqb-true _ 0 (not-false _ (both .1))))
+    (λ near. so-far (both .0) k near)
+
+-- eight numbers of the directory, sixteen bytes
+pub blank-more : (s : List ℕ) (at n g from : ℕ) → at ≡ 2 + 2 * g → 16 ≤ n → ((j : ℕ) → j < 16 → getD (take n (drop at s)) j 0 ≡ 0)
+    → ((k : ℕ) → from ≤ k → k < g → blockOf s k ≡ 0) → (k : ℕ) → from ≤ k → k < g + 8 → blockOf s k ≡ 0
+unfolding number
+blank-more s at n g from start long none so-far k low high =
+    by-le g k
+    (λ far.
+    let byte : (j : ℕ) → j < 16 → getD s (at + j) 0 ≡ 0 = λ j b. rw (getD-take n (drop at s) j 0 (omega (arith, b, long)), getD-drop) at (none j b) in
+    let a : at + (2 * k - 2 * g) ≡ 2 * (1 + k) = omega (arith, start, far) in
+    let b : at + (2 * k - 2 * g + 1) ≡ 2 * (1 + k) + 1 = omega (arith, start, far) in
+    let low-byte = ap (λ (x : ℕ). getD s x 0) (sym a) ∙ byte (2 * k - 2 * g) (omega (arith, far, high)) in
+    let high-byte = ap (λ (x : ℕ). getD s x 0) (sym b) ∙ byte (2 * k - 2 * g + 1) (omega (arith, far, high)) in
+    omega (arith, low-byte, high-byte))
+    (λ near. so-far k low near)

@@ -11,7 +11,7 @@ use words::least;
 ghost use mathlib.Core.Path.{_≡_};
 ghost use mathlib.Core.Bool.{true, false, not};
 ghost use Prim.Native.Nat.{ℕ, _+_, _*_, _/_, _<_, _≤_, min};
-ghost use lib.ListN.{length, set};
+ghost use lib.ListN.{length, getD, set};
 ghost use Rattle.words.specs.Layout.{maxCells, maxLive, groupOf};
 ghost use Rattle.table.specs.Entry.{depthOf, cellOf};
 ghost use Rattle.table.specs.Blocks.{number, putNumber, taken, blockOf, maxGroups, groupsFor, directoryEnd, placeOf, markOf, cellsIn, Kept, withBlock, Spare};
@@ -134,6 +134,38 @@ pub fn change_mark(seen: &mut [u8], cell: usize, mark: u8)
 {
     let at = place_of(seen, cell);
     seen[at] = mark;
+}
+
+// ---- groups
+
+// Is one of these bytes not 0? All of them are asked, so that the compiler can ask them at once.
+fn any_byte(part: &[u8]) -> bool
+    requires { ⌜ length (now part) ≡ 16 ⌝ }
+    ensures { λ r. ⌜ (r ≡ false → (j : ℕ) → j < 16 → getD (now (part .entry)) j 0 ≡ 0) ⌝ }
+{
+    let mut any = false;
+    let mut j: usize = 0;
+    while j < 16 {
+        any = any | (part[j] != 0);
+        j += 1;
+    }
+    any
+}
+
+// Passes over groups without a block from `from` on and before `end`, eight at a time: most of a large memory's have none.
+pub fn past_blank(seen: &[u8], from: usize, end: usize) -> usize
+    requires { ⌜ (from ≤ end) × (end ≤ maxGroups) × (directoryEnd ≤ length (now seen)) ⌝ }
+    ensures { λ r. ⌜ (from ≤ r) × (r ≤ end) × ((g : ℕ) → from ≤ g → g < r → blockOf (now (seen .entry)) g ≡ 0) ⌝ }
+{
+    let mut g = from;
+    while g + 8 <= end {
+        let at = 2 + 2 * g;
+        if any_byte(&seen[at..at + 16]) {
+            return g;
+        }
+        g += 8;
+    }
+    g
 }
 
 // ---- room for marks, none made yet. Each is made by a function of its own, so that the checker does not write the list out.

@@ -2,17 +2,23 @@
 //!
 //! It is here to be measured beside the library, so it makes no use of it. What it does:
 //!
-//! - The table is checked in one pass over the entries, with a byte of marks for each cell (a bit for each depth) and one for each
-//!   body; a second pass is taken only where an entry is via parent. The same pass counts entries and copies in use.
-//! - Room for marks is on the stack, and only as much of it is cleared as the buffers need: m + B bytes and not 68 KiB.
-//! - Add, advance and commit ask the marks and walk the entries once; advance sorts what it found by cell.
-//! - Restore and add via parent find each cell's holder by one search over depths and entries, by the same nested loops as the
-//!   library: that search is a form that the store's specification names.
+//! - The table is checked in one pass over the entries, which passes over runs of free ones eight at a time; a second pass is taken
+//!   only where an entry is via parent. The pass counts entries and copies in use and notes where the last entry in use stands: later
+//!   passes end there.
+//! - The pass marks which depths hold each cell. Marks stand in blocks of 64, and a directory has the block of each group of 64 cells.
+//!   A block is taken and cleared when the first of its cells is marked, and the next call clears what the directory says of it, so
+//!   that nothing is done for cells that no entry names, however large memory is.
+//! - For the calls that look for entries by cell (restore, advance and add via parent), the pass also notes the last entry of each cell,
+//!   and for each entry the one before it with the same cell. So a holder is found at once, wherever it stands.
+//! - Restore and advance take their cells in order by the directory. Look searches depths and entries by nested loops, which is a form
+//!   that the store's specification names.
+//! - Notes are kept in an area of the thread that all calls use again: it is all zeros at first and never cleared as a whole, nor does
+//!   a call touch more of it than it needs. On the stack, each call would touch every page of a large frame.
 //! - 64 bytes are copied at once where the budget suffices. Table words are stored one after another with volatile stores: their
 //!   order is what a cut relies on, and a compiler may reorder or drop plain ones.
 
-use core::mem::MaybeUninit;
-use core::ops::{Deref, DerefMut};
+use core::cell::RefCell;
+use core::ops::Range;
 use domain_model::{Add, Buffers, Call, Reply, STOPPED};
 
 /// The magic number of a made store.
@@ -23,6 +29,9 @@ const VIA_PARENT: u32 = 1 << 26;
 const MAX_CELLS: usize = 65_536;
 const MAX_PLACES: usize = 4_096;
 const CELL: usize = 64;
+/// Cells whose marks stand in one block.
+const GROUP: usize = 64;
+const MAX_GROUPS: usize = MAX_CELLS / GROUP;
 
 /// The lent buffers.
 struct Slices<'a> {
@@ -39,78 +48,186 @@ struct Shape {
     bodies: usize,
 }
 
-/// Room on the stack for so many values. It stands by itself, since the compiler clears all of it if it is a part of something that is
-/// cleared.
-const fn room<T: Copy, const N: usize>() -> [MaybeUninit<T>; N] {
-    [const { MaybeUninit::uninit() }; N]
-}
-
-/// The front part of a room. Only as much is written as a call uses: clearing all of it would cost a small store more than its table
-/// does.
-struct Front<'a, T> {
-    room: &'a mut [MaybeUninit<T>],
-    used: usize,
-}
-
-impl<'a, T: Copy> Front<'a, T> {
-    #[inline]
-    fn new(room: &'a mut [MaybeUninit<T>]) -> Self {
-        Front { room, used: 0 }
-    }
-
-    /// So many values, all the same.
-    #[inline]
-    fn fill(&mut self, used: usize, value: T) {
-        self.room[..used].fill(MaybeUninit::new(value));
-        self.used = used;
-    }
-}
-
-impl<T: Copy> Deref for Front<'_, T> {
-    type Target = [T];
-
-    #[inline]
-    fn deref(&self) -> &[T] {
-        // SAFETY: `fill` wrote so many.
-        unsafe { core::slice::from_raw_parts(self.room.as_ptr().cast(), self.used) }
-    }
-}
-
-impl<T: Copy> DerefMut for Front<'_, T> {
-    #[inline]
-    fn deref_mut(&mut self) -> &mut [T] {
-        // SAFETY: `fill` wrote so many.
-        unsafe { core::slice::from_raw_parts_mut(self.room.as_mut_ptr().cast(), self.used) }
-    }
-}
-
-/// Room for the marks of the largest store.
-type MarksRoom = [MaybeUninit<u8>; MAX_CELLS + MAX_PLACES];
-
-/// What the pass over the table found out, for the later questions.
-struct Marks<'a> {
-    /// For each cell, bit d - 1 tells that depth d holds it.
-    holders: Front<'a, u8>,
+/// What the pass over the table found out, for the later questions. What earlier calls left here is never believed: see at each array
+/// what makes a value of it count.
+struct Notes {
+    /// For each group of 64 cells the number of its block, or 0, which is a block that stays without marks.
+    directory: [u16; MAX_GROUPS],
+    /// A bit for each group that has a block, to meet these in order.
+    marked: [u64; MAX_GROUPS / 64],
+    /// Blocks of marks: for each cell, bit d - 1 tells that depth d holds it. Those up to `blocks` count.
+    marks: [[u8; GROUP]; 1 + MAX_GROUPS],
+    blocks: usize,
+    /// The group of each of these blocks.
+    groups: [u16; 1 + MAX_GROUPS],
+    /// For each mark that is not zero, the last entry of its cell; and for each entry that is not the first of its cell, the one before
+    /// it. Only where a call asked for them.
+    last: [[u16; GROUP]; 1 + MAX_GROUPS],
+    before: [u16; MAX_PLACES],
     /// For each body, 1 where it is in use. Bytes, since neighbours that share a word would wait for each other's stores.
-    used: Front<'a, u8>,
+    used: [u8; MAX_PLACES],
+    /// Where the last entry in use ends.
+    end: usize,
     entries: usize,
     copies: usize,
 }
 
-impl<'a> Marks<'a> {
-    fn new(room: &'a mut MarksRoom) -> Self {
-        let (cells, bodies) = room.split_at_mut(MAX_CELLS);
-        Marks {
-            holders: Front::new(cells),
-            used: Front::new(bodies),
+impl Notes {
+    const fn new() -> Self {
+        Notes {
+            directory: [0; MAX_GROUPS],
+            marked: [0; MAX_GROUPS / 64],
+            marks: [[0; GROUP]; 1 + MAX_GROUPS],
+            blocks: 0,
+            groups: [0; 1 + MAX_GROUPS],
+            last: [[0; GROUP]; 1 + MAX_GROUPS],
+            before: [0; MAX_PLACES],
+            used: [0; MAX_PLACES],
+            end: 0,
             entries: 0,
             copies: 0,
         }
     }
 
-    fn holds(&self, depth: usize, cell: usize) -> bool {
-        self.holders[cell] >> (depth - 1) & 1 == 1
+    /// No cell is marked and no body in use. The directory is cleared where the call before took blocks; whole, if these were many.
+    fn clear(&mut self, shape: Shape) {
+        if self.blocks <= 64 {
+            for &group in &self.groups[1..=self.blocks] {
+                self.directory[group as usize] = 0;
+            }
+        } else {
+            self.directory.fill(0);
+        }
+        self.marked.fill(0);
+        self.used[..shape.bodies].fill(0);
+        self.blocks = 0;
     }
+
+    /// A block for a group that has none.
+    #[inline]
+    fn take_block(&mut self, group: usize) -> usize {
+        self.blocks += 1;
+        self.directory[group] = self.blocks as u16;
+        self.groups[self.blocks] = group as u16;
+        self.marked[group / 64] |= 1 << (group % 64);
+        self.marks[self.blocks] = [0; GROUP];
+        self.blocks
+    }
+
+    /// Marks the cell of an entry, and notes the entry where that is asked for. False if this depth has the cell already.
+    #[inline]
+    fn mark<const FIND: bool>(&mut self, bit: u8, cell: usize, place: usize) -> bool {
+        let (group, at) = (cell / GROUP, cell % GROUP);
+        let mut block = self.directory[group] as usize;
+        if block == 0 {
+            block = self.take_block(group);
+        }
+        let marks = &mut self.marks[block][at];
+        let fresh = *marks & bit == 0;
+        *marks |= bit;
+        if FIND {
+            self.before[place] = self.last[block][at];
+            self.last[block][at] = place as u16;
+        }
+        fresh
+    }
+
+    /// The depths that hold each cell of a group.
+    #[inline]
+    fn group(&self, group: usize) -> &[u8; GROUP] {
+        &self.marks[self.directory[group] as usize]
+    }
+
+    #[inline]
+    fn holds(&self, depth: usize, cell: usize) -> bool {
+        self.group(cell / GROUP)[cell % GROUP] >> (depth - 1) & 1 == 1
+    }
+
+    /// The cells of a range that this depth does not hold, rising.
+    #[inline]
+    fn not_held(&self, depth: usize, range: Range<usize>) -> impl Iterator<Item = usize> {
+        (range.start / GROUP..range.end.div_ceil(GROUP)).flat_map(move |group| {
+            let first = group * GROUP;
+            let from = range.start.max(first);
+            let to = range.end.min(first + GROUP);
+            let marks = &self.group(group)[from - first..to - first];
+            (from..to)
+                .zip(marks)
+                .filter(move |(_, marks)| **marks >> (depth - 1) & 1 == 0)
+                .map(|(cell, _)| cell)
+        })
+    }
+
+    /// Hands each cell that has some of these marks to `visit`, rising, with those marks. Eight cells at a time, since most have none.
+    #[inline]
+    fn each_cell<E>(
+        &self,
+        wanted: u8,
+        mut visit: impl FnMut(usize, u8) -> Result<(), E>,
+    ) -> Result<(), E> {
+        for (at, &word) in self.marked.iter().enumerate() {
+            let mut groups = word;
+            while groups != 0 {
+                let group = 64 * at + groups.trailing_zeros() as usize;
+                groups &= groups - 1;
+                for (eight, &marks) in self.group(group).as_chunks().0.iter().enumerate() {
+                    let mut marks = u64::from_le_bytes(marks) & u64::from_le_bytes([wanted; 8]);
+                    while marks != 0 {
+                        let at = marks.trailing_zeros() / 8;
+                        let cell = GROUP * group + 8 * eight + at as usize;
+                        visit(cell, (marks >> (8 * at)) as u8)?;
+                        marks &= !(0xFF << (8 * at));
+                    }
+                }
+            }
+        }
+        Ok(())
+    }
+
+    /// The entry by which this depth holds the cell, as it does.
+    #[inline]
+    fn find(&self, table: &[u32], depth: usize, cell: usize) -> usize {
+        let block = self.directory[cell / GROUP] as usize;
+        let mut place = self.last[block][cell % GROUP] as usize;
+        while depth_of(entry(table, place).0) != depth {
+            place = self.before[place] as usize;
+        }
+        place
+    }
+
+    /// The body behind an entry: its own, or for via parent that of the next copy outwards.
+    #[inline]
+    fn body_behind(&self, table: &[u32], mut place: usize) -> usize {
+        loop {
+            let (first, second) = entry(table, place);
+            if first & VIA_PARENT == 0 {
+                return second as usize;
+            }
+            place = self.find(table, depth_of(first) - 1, cell_of(first));
+        }
+    }
+}
+
+/// The area that the calls of a thread use again and again, each part as its call says.
+struct Scratch {
+    notes: Notes,
+    /// Commit: for each block, the cells that raise a label.
+    raising: [u64; 1 + MAX_GROUPS],
+    /// Advance: the new body of each entry, or `u16::MAX`.
+    body_for: [u16; MAX_PLACES],
+    /// Open: the words that pending pairs may name.
+    meant: [u32; 16 + 2 * MAX_PLACES],
+}
+
+thread_local! {
+    static SCRATCH: RefCell<Scratch> = const {
+        RefCell::new(Scratch {
+            notes: Notes::new(),
+            raising: [0; 1 + MAX_GROUPS],
+            body_for: [0; MAX_PLACES],
+            meant: [0; 16 + 2 * MAX_PLACES],
+        })
+    };
 }
 
 #[inline]
@@ -126,6 +243,12 @@ fn cell_of(word: u32) -> usize {
 #[inline]
 fn entry(table: &[u32], place: usize) -> (u32, u32) {
     (table[16 + 2 * place], table[17 + 2 * place])
+}
+
+/// The first so many entries.
+#[inline]
+fn entries(table: &[u32], count: usize) -> &[[u32; 2]] {
+    table[16..16 + 2 * count].as_chunks().0
 }
 
 /// Question 1.
@@ -160,9 +283,8 @@ fn header(lent: &Slices) -> Result<Shape, u32> {
     if right { Ok(shape) } else { Err(2) }
 }
 
-/// Question 4 for a table without pending pairs: one pass over the entries sets the marks, and a second one, taken only when some
-/// entry is via parent, asks whether the next domain out holds its cell.
-fn check_words(table: &[u32], shape: Shape, marks: &mut Marks) -> bool {
+/// The words before the entries.
+fn check_head(table: &[u32]) -> bool {
     let live = table[4] as usize;
     let next = table[5];
     if live > 8 || next == 0 {
@@ -175,76 +297,92 @@ fn check_words(table: &[u32], shape: Shape, marks: &mut Marks) -> bool {
         }
         last = handle;
     }
-    if table[8 + live..16].iter().any(|&word| word != 0) {
+    table[8 + live..16].iter().all(|&word| word == 0)
+}
+
+/// How many entries from here on are free, most of them looked at eight at a time. A function of its own in the machine code too: it
+/// would take the registers of the loop that calls it.
+#[inline(never)]
+fn free_run(all: &[[u32; 2]]) -> usize {
+    let eights = all.as_chunks::<8>().0.iter();
+    let free =
+        |eight: &&[[u32; 2]; 8]| eight.as_flattened().iter().fold(0, |all, word| all | word) == 0;
+    let run = 8 * eights.take_while(free).count();
+    run + all[run..]
+        .iter()
+        .take_while(|pair| **pair == [0, 0])
+        .count()
+}
+
+/// Question 4 for a table without pending pairs: one pass over the entries sets the marks, and a second one, taken only when some
+/// entry is via parent, asks whether the next domain out holds its cell. `FIND`: entries are to be found by depth and cell.
+fn check_words<const FIND: bool>(table: &[u32], shape: Shape, notes: &mut Notes) -> bool {
+    if !check_head(table) {
         return false;
     }
-    marks.holders.fill(shape.cells, 0);
-    marks.used.fill(shape.bodies, 0);
-    let (holders, used) = (&mut *marks.holders, &mut *marks.used);
-    let (mut entries, mut any) = (0, 0);
-    for &[first, second] in table[16..16 + 2 * shape.entries].as_chunks().0 {
+    let live = table[4];
+    notes.clear(shape);
+    let all = entries(table, shape.entries);
+    let (mut free, mut parents, mut end, mut place) = (0, 0, all.len(), 0);
+    while let Some(&[first, second]) = all.get(place) {
         if first == 0 {
-            if second != 0 {
+            let run = free_run(&all[place..]);
+            if run == 0 {
                 return false;
             }
+            free += run;
+            if place + run == all.len() {
+                end = place;
+            }
+            place += run;
             continue;
         }
-        let depth = depth_of(first);
-        if depth == 0 || depth > live || first & 0x03FF_0000 != 0 {
+        let (outer, cell) = ((first >> 28).wrapping_sub(1), cell_of(first));
+        if outer >= live || first & 0x03FF_0000 != 0 || cell >= shape.cells {
             return false;
         }
-        let Some(holders) = holders.get_mut(cell_of(first)) else {
-            return false;
-        };
-        let bit = (1u32 << depth >> 1) as u8;
-        if *holders & bit != 0 {
+        if !notes.mark::<FIND>(1 << outer, cell, place) {
             return false;
         }
-        *holders |= bit;
-        entries += 1;
-        any |= first;
         if first & VIA_PARENT != 0 {
-            if depth < 2 || second != 0 {
+            if outer == 0 || second != 0 {
                 return false;
             }
+            parents += 1;
         } else {
-            let Some(used) = used.get_mut(second as usize) else {
+            if second as usize >= shape.bodies {
                 return false;
-            };
+            }
+            let used = &mut notes.used[second as usize];
             if *used != 0 {
                 return false;
             }
             *used = 1;
         }
+        place += 1;
     }
-    let mut parents = 0;
-    if any & VIA_PARENT != 0 {
-        for &[first, _] in table[16..16 + 2 * shape.entries].as_chunks().0 {
-            if first & VIA_PARENT != 0 {
-                if !marks.holds(depth_of(first) - 1, cell_of(first)) {
-                    return false;
-                }
-                parents += 1;
-            }
-        }
+    let out_holds = |&[first, _]: &[u32; 2]| {
+        first & VIA_PARENT == 0 || notes.holds(depth_of(first) - 1, cell_of(first))
+    };
+    if parents > 0 && !all[..end].iter().all(out_holds) {
+        return false;
     }
-    (marks.entries, marks.copies) = (entries, entries - parents);
+    let count = all.len() - free;
+    (notes.end, notes.entries, notes.copies) = (end, count, count - parents);
     true
 }
 
 /// Question 4 for open: the pairs are checked and laid over a copy of the words that they may name.
-fn check_pending(table: &[u32], shape: Shape, marks: &mut Marks) -> bool {
+fn check_pending(table: &[u32], shape: Shape, scratch: &mut Scratch) -> bool {
     let pending = table[6] as usize;
     if pending == 0 {
-        return check_words(table, shape, marks);
+        return check_words::<false>(table, shape, &mut scratch.notes);
     }
     if pending > 2 * shape.entries + 10 {
         return false;
     }
     let end = 16 + 2 * shape.entries;
-    let mut meant_room = room::<u32, { 16 + 2 * MAX_PLACES }>();
-    let mut meant = Front::new(&mut meant_room);
-    meant.fill(end, 0);
+    let meant = &mut scratch.meant[..end];
     meant.copy_from_slice(&table[..end]);
     let mut last = 0;
     for pair in table[end..end + 2 * pending].chunks_exact(2) {
@@ -255,18 +393,17 @@ fn check_pending(table: &[u32], shape: Shape, marks: &mut Marks) -> bool {
         meant[word] = pair[1];
         last = word;
     }
-    check_words(&meant, shape, marks)
+    check_words::<false>(meant, shape, &mut scratch.notes)
 }
 
 /// Questions 1 to 4, as every call but make and open is put them.
-fn check<'a>(lent: &Slices, room: &'a mut MarksRoom) -> Result<(Shape, Marks<'a>), u32> {
+fn check<const FIND: bool>(lent: &Slices, notes: &mut Notes) -> Result<Shape, u32> {
     let shape = header(lent)?;
     if lent.table[6] != 0 {
         return Err(3);
     }
-    let mut marks = Marks::new(room);
-    if check_words(lent.table, shape, &mut marks) {
-        Ok((shape, marks))
+    if check_words::<FIND>(lent.table, shape, notes) {
+        Ok(shape)
     } else {
         Err(4)
     }
@@ -296,7 +433,7 @@ fn innermost(table: &[u32], handle: u32) -> Result<usize, u32> {
 }
 
 /// Question 8.
-fn range(first: u32, count: u32, cells: usize) -> Result<core::ops::Range<usize>, u32> {
+fn range(first: u32, count: u32, cells: usize) -> Result<Range<usize>, u32> {
     let end = first as u64 + count as u64;
     if count >= 1 && end <= cells as u64 {
         Ok(first as usize..end as usize)
@@ -308,14 +445,7 @@ fn range(first: u32, count: u32, cells: usize) -> Result<core::ops::Range<usize>
 /// The entry by which the outermost of the depths `from..=to` that hold the cell holds it. A function of its own in the machine code
 /// too: inlined into a large one its loop has too few registers.
 #[inline(never)]
-fn first_holder(
-    table: &[u32],
-    entries: usize,
-    from: usize,
-    to: usize,
-    cell: usize,
-) -> Option<usize> {
-    let all = table[16..16 + 2 * entries].as_chunks::<2>().0;
+fn first_holder(all: &[[u32; 2]], from: usize, to: usize, cell: usize) -> Option<usize> {
     for depth in from..=to {
         let wanted = (depth as u32) << 28 | cell as u32;
         let is_it = |pair: &[u32; 2]| pair[0] & !(READ_WRITE | VIA_PARENT) == wanted;
@@ -331,19 +461,6 @@ fn first_holder(
         }
     }
     None
-}
-
-/// The body behind an entry: its own, or for via parent that of the next copy outwards.
-fn body_behind(table: &[u32], entries: usize, mut place: usize) -> usize {
-    loop {
-        let (first, second) = entry(table, place);
-        if first & VIA_PARENT == 0 {
-            return second as usize;
-        }
-        let out = depth_of(first) - 1;
-        place = first_holder(table, entries, out, out, cell_of(first))
-            .expect("a checked table has a holder further out");
-    }
 }
 
 /// Free bodies, lowest first.
@@ -487,8 +604,8 @@ fn put_in_place(
     stores.word(table, 6, 0)
 }
 
-/// The answer and the steps of a call that was not refused. The calls are functions of their own in the machine code too: in one frame all of
-/// their rooms would stand side by side, and a frame is touched page by page.
+/// The answer and the steps of a call that was not refused. The calls are functions of their own in the machine code too: in one
+/// function they would share its registers.
 type Answer = (u32, u64);
 
 #[inline(never)]
@@ -512,12 +629,10 @@ fn make(lent: Slices, budget: u64) -> Result<Answer, u32> {
 }
 
 #[inline(never)]
-fn open(lent: Slices, budget: u64) -> Result<Answer, u32> {
+fn open(lent: Slices, budget: u64, scratch: &mut Scratch) -> Result<Answer, u32> {
     let shape = header(&lent)?;
     let table = lent.table;
-    let mut marks_room = room();
-    let mut marks = Marks::new(&mut marks_room);
-    if !check_pending(table, shape, &mut marks) {
+    if !check_pending(table, shape, scratch) {
         return Err(4);
     }
     let pairs = table[6] as usize;
@@ -531,9 +646,8 @@ fn open(lent: Slices, budget: u64) -> Result<Answer, u32> {
 
 /// The answer, the steps and the new handle (0 unless done).
 #[inline(never)]
-fn create(lent: Slices, budget: u64) -> Result<(Answer, u32), u32> {
-    let mut marks_room = room();
-    let (shape, _) = check(&lent, &mut marks_room)?;
+fn create(lent: Slices, budget: u64, notes: &mut Notes) -> Result<(Answer, u32), u32> {
+    let shape = check::<false>(&lent, notes)?;
     let table = lent.table;
     let live = table[4] as usize;
     let handle = table[5];
@@ -556,62 +670,62 @@ fn create(lent: Slices, budget: u64) -> Result<(Answer, u32), u32> {
 }
 
 #[inline(never)]
-fn add(lent: Slices, add: Add, budget: u64) -> Result<Answer, u32> {
+fn add(lent: Slices, add: Add, budget: u64, notes: &mut Notes) -> Result<Answer, u32> {
     let (kind, label) = (add.kind, add.label);
-    let mut marks_room = room();
-    let (shape, marks) = check(&lent, &mut marks_room)?;
+    let shape = if kind == 1 {
+        check::<true>(&lent, notes)?
+    } else {
+        check::<false>(&lent, notes)?
+    };
+    let notes = &*notes;
     let (memory, bodies, table) = (lent.memory, lent.bodies, lent.table);
     let depth = innermost(table, add.handle)?;
     if kind > 1 || label > 1 {
         return Err(7);
     }
     let range = range(add.first, add.count, shape.cells)?;
-    let holders = &*marks.holders;
-    let fresh = || {
-        range
-            .clone()
-            .filter(move |&cell| holders[cell] >> (depth - 1) & 1 == 0)
-    };
+    let fresh = || notes.not_held(depth, range.clone());
     let new = fresh().count();
     if kind == 1 && new > 0 {
-        if depth == 1 || fresh().any(|cell| !marks.holds(depth - 1, cell)) {
+        if depth == 1 || fresh().any(|cell| !notes.holds(depth - 1, cell)) {
             return Err(11);
         }
         for cell in fresh() {
-            let place = first_holder(table, shape.entries, depth - 1, depth - 1, cell)
-                .expect("asked just before");
-            let body = body_behind(table, shape.entries, place);
+            let body = notes.body_behind(table, notes.find(table, depth - 1, cell));
             if memory[CELL * cell..][..CELL] != bodies[CELL * body..][..CELL] {
                 return Err(12);
             }
         }
     }
-    if marks.entries + new > shape.entries {
+    if notes.entries + new > shape.entries {
         return Err(16);
     }
-    if kind == 0 && marks.copies + new > shape.bodies {
+    if kind == 0 && notes.copies + new > shape.bodies {
         return Err(17);
     }
     let mut stores = Stores::new(budget);
     let end = (|| {
         if kind == 0 {
-            let mut free = FreeBodies::new(&marks.used);
+            let mut free = FreeBodies::new(&notes.used);
             for cell in fresh() {
                 let body = free.take();
                 stores.cell(&mut bodies[CELL * body..], &memory[CELL * cell..])?;
             }
         }
         // The lowest free entries in order of cell, and the lowest free bodies too: one walk over the entries meets both in order.
-        let mut free = FreeBodies::new(&marks.used);
+        let mut free = FreeBodies::new(&notes.used);
         let mut fresh = fresh();
         let mut journal = Journal::new(shape);
-        for place in 0..shape.entries {
+        let mut words = |cell: usize| {
+            let body = if kind == 0 { free.take() as u32 } else { 0 };
+            let word = (depth as u32) << 28 | label << 27 | kind << 26 | cell as u32;
+            (word, body)
+        };
+        for place in 0..notes.end {
             let (word, second) = entry(table, place);
             if word == 0 {
                 if let Some(cell) = fresh.next() {
-                    let word = (depth as u32) << 28 | label << 27 | kind << 26 | cell as u32;
-                    let body = if kind == 0 { free.take() as u32 } else { 0 };
-                    journal.entry(&mut stores, table, place, (word, body))?;
+                    journal.entry(&mut stores, table, place, words(cell))?;
                 }
             } else if label == 1
                 && depth_of(word) == depth
@@ -621,23 +735,31 @@ fn add(lent: Slices, add: Add, budget: u64) -> Result<Answer, u32> {
                 journal.entry(&mut stores, table, place, (word | READ_WRITE, second))?;
             }
         }
+        for (place, cell) in (notes.end..).zip(fresh) {
+            journal.entry(&mut stores, table, place, words(cell))?;
+        }
         journal.finish(&mut stores, table)
     })();
     Ok(stores.answer(end))
 }
 
 #[inline(never)]
-fn delete(lent: Slices, handle: u32, first: u32, count: u32, budget: u64) -> Result<Answer, u32> {
-    let mut marks_room = room();
-    let (shape, marks) = check(&lent, &mut marks_room)?;
+fn delete(
+    lent: Slices,
+    handle: u32,
+    first: u32,
+    count: u32,
+    budget: u64,
+    notes: &mut Notes,
+) -> Result<Answer, u32> {
+    let shape = check::<false>(&lent, notes)?;
     let table = lent.table;
     let depth = depth_of_handle(table, handle)?;
     let range = range(first, count, shape.cells)?;
-    if range.clone().any(|cell| !marks.holds(depth, cell)) {
+    if notes.not_held(depth, range.clone()).next().is_some() {
         return Err(13);
     }
-    for place in 0..shape.entries {
-        let (word, _) = entry(table, place);
+    for &[word, _] in entries(table, notes.end) {
         let child = depth_of(word) == depth + 1 && word & VIA_PARENT != 0;
         if child && range.contains(&cell_of(word)) {
             return Err(14);
@@ -646,7 +768,7 @@ fn delete(lent: Slices, handle: u32, first: u32, count: u32, budget: u64) -> Res
     let mut stores = Stores::new(budget);
     let mut journal = Journal::new(shape);
     let end = (|| {
-        for place in 0..shape.entries {
+        for place in 0..notes.end {
             let (word, _) = entry(table, place);
             if depth_of(word) == depth && range.contains(&cell_of(word)) {
                 journal.entry(&mut stores, table, place, (0, 0))?;
@@ -658,20 +780,18 @@ fn delete(lent: Slices, handle: u32, first: u32, count: u32, budget: u64) -> Res
 }
 
 #[inline(never)]
-fn commit(lent: Slices, handle: u32, budget: u64) -> Result<Answer, u32> {
-    let mut marks_room = room();
-    let (shape, marks) = check(&lent, &mut marks_room)?;
+fn commit(lent: Slices, handle: u32, budget: u64, scratch: &mut Scratch) -> Result<Answer, u32> {
+    let Scratch { notes, raising, .. } = scratch;
+    let shape = check::<false>(&lent, notes)?;
     let table = lent.table;
     let depth = innermost(table, handle)?;
     // The cells that the innermost domain holds read-write: they raise the label further out.
-    let mut raising_room = room::<u64, { MAX_CELLS / 64 }>();
-    let mut raising = Front::new(&mut raising_room);
+    let block = |cell: usize| notes.directory[cell / GROUP] as usize;
     if depth > 1 {
-        raising.fill(shape.cells.div_ceil(64), 0);
-        for place in 0..shape.entries {
-            let (word, _) = entry(table, place);
+        raising[..=notes.blocks].fill(0);
+        for &[word, _] in entries(table, notes.end) {
             if depth_of(word) == depth && word & READ_WRITE != 0 {
-                raising[cell_of(word) / 64] |= 1 << (cell_of(word) % 64);
+                raising[block(cell_of(word))] |= 1 << (cell_of(word) % GROUP);
             }
         }
     }
@@ -680,11 +800,11 @@ fn commit(lent: Slices, handle: u32, budget: u64) -> Result<Answer, u32> {
     let end = (|| {
         journal.pair(&mut stores, table, 4, depth as u32 - 1)?;
         journal.pair(&mut stores, table, 7 + depth, 0)?;
-        for place in 0..shape.entries {
+        for place in 0..notes.end {
             let (word, second) = entry(table, place);
             let cell = cell_of(word);
             if depth_of(word) == depth {
-                let words = if depth == 1 || marks.holds(depth - 1, cell) {
+                let words = if depth == 1 || notes.holds(depth - 1, cell) {
                     (0, 0)
                 } else {
                     (word - (1 << 28), second)
@@ -693,7 +813,7 @@ fn commit(lent: Slices, handle: u32, budget: u64) -> Result<Answer, u32> {
             } else if word != 0
                 && depth_of(word) + 1 == depth
                 && word & READ_WRITE == 0
-                && raising[cell / 64] >> (cell % 64) & 1 == 1
+                && raising[block(cell)] >> (cell % GROUP) & 1 == 1
             {
                 journal.entry(&mut stores, table, place, (word | READ_WRITE, second))?;
             }
@@ -703,44 +823,44 @@ fn commit(lent: Slices, handle: u32, budget: u64) -> Result<Answer, u32> {
     Ok(stores.answer(end))
 }
 
-#[inline(never)]
-fn advance(lent: Slices, handle: u32, budget: u64) -> Result<Answer, u32> {
-    let mut marks_room = room();
-    let (shape, marks) = check(&lent, &mut marks_room)?;
-    let (memory, bodies, table) = (lent.memory, lent.bodies, lent.table);
-    let depth = innermost(table, handle)?;
-    // Cell and place of each read-write entry of the innermost domain, to be taken in order of cell.
-    let mut found_room = room::<u32, MAX_PLACES>();
-    let mut found = Front::new(&mut found_room);
-    found.fill(marks.entries, 0);
+/// Questions 15 and 17: the read-write cells of the innermost domain are counted.
+fn advance_fits(table: &[u32], depth: usize, shape: Shape, notes: &Notes) -> Result<(), u32> {
     let mut count = 0;
-    for place in 0..shape.entries {
-        let (word, _) = entry(table, place);
+    for &[word, _] in entries(table, notes.end) {
         if depth_of(word) == depth && word & READ_WRITE != 0 {
-            if depth > 1 && !marks.holds(depth - 1, cell_of(word)) {
+            if depth > 1 && !notes.holds(depth - 1, cell_of(word)) {
                 return Err(15);
             }
-            found[count] = (cell_of(word) as u32) << 16 | place as u32;
             count += 1;
         }
     }
-    if marks.copies + count > shape.bodies {
+    if notes.copies + count > shape.bodies {
         return Err(17);
     }
-    let found = &mut found[..count];
-    found.sort_unstable();
-    let mut body_room = room::<u16, MAX_PLACES>();
-    let mut body_for = Front::new(&mut body_room);
-    body_for.fill(shape.entries, u16::MAX);
+    Ok(())
+}
+
+#[inline(never)]
+fn advance(lent: Slices, handle: u32, budget: u64, scratch: &mut Scratch) -> Result<Answer, u32> {
+    let shape = check::<true>(&lent, &mut scratch.notes)?;
+    let notes = &scratch.notes;
+    let (memory, bodies, table) = (lent.memory, lent.bodies, lent.table);
+    let depth = innermost(table, handle)?;
+    advance_fits(table, depth, shape, notes)?;
+    let body_for = &mut scratch.body_for[..notes.end];
+    body_for.fill(u16::MAX);
     let mut stores = Stores::new(budget);
     let end = (|| {
-        let mut free = FreeBodies::new(&marks.used);
-        for &key in found.iter() {
-            let (cell, place) = ((key >> 16) as usize, (key & 0xFFFF) as usize);
-            let body = free.take();
-            body_for[place] = body as u16;
-            stores.cell(&mut bodies[CELL * body..], &memory[CELL * cell..])?;
-        }
+        let mut free = FreeBodies::new(&notes.used);
+        notes.each_cell(1 << (depth - 1), |cell, _| {
+            let place = notes.find(table, depth, cell);
+            if entry(table, place).0 & READ_WRITE != 0 {
+                let body = free.take();
+                body_for[place] = body as u16;
+                stores.cell(&mut bodies[CELL * body..], &memory[CELL * cell..])?;
+            }
+            Ok(())
+        })?;
         let mut journal = Journal::new(shape);
         for (place, &body) in body_for.iter().enumerate() {
             if body != u16::MAX {
@@ -754,35 +874,20 @@ fn advance(lent: Slices, handle: u32, budget: u64) -> Result<Answer, u32> {
 }
 
 #[inline(never)]
-fn restore(lent: Slices, handle: u32, budget: u64) -> Result<Answer, u32> {
-    let mut marks_room = room();
-    let (shape, marks) = check(&lent, &mut marks_room)?;
+fn restore(lent: Slices, handle: u32, budget: u64, notes: &mut Notes) -> Result<Answer, u32> {
+    let shape = check::<true>(&lent, notes)?;
+    let notes = &*notes;
     let (memory, bodies, table) = (lent.memory, lent.bodies, lent.table);
     let depth = depth_of_handle(table, handle)?;
     let live = table[4] as usize;
     let mut stores = Stores::new(budget);
     let end = (|| {
-        let mut put_back = |first: usize, holders: &[u8]| {
-            for (offset, holders) in holders.iter().enumerate() {
-                if holders >> (depth - 1) == 0 {
-                    continue;
-                }
-                let cell = first + offset;
-                let place = first_holder(table, shape.entries, depth, live, cell)
-                    .expect("the marks name a holder");
-                let body = body_behind(table, shape.entries, place);
-                stores.cell(&mut memory[CELL * cell..], &bodies[CELL * body..])?;
-            }
-            Ok(())
-        };
-        // 64 marks at a time: most cells of a large memory are held by nobody.
-        let (groups, rest) = marks.holders.as_chunks::<64>();
-        for (group, holders) in groups.iter().enumerate() {
-            if holders.iter().fold(0, |all, one| all | one) >> (depth - 1) != 0 {
-                put_back(64 * group, holders)?;
-            }
-        }
-        put_back(64 * groups.len(), rest)?;
+        // The lowest mark from this depth inwards is the outermost holder.
+        notes.each_cell(u8::MAX << (depth - 1), |cell, inwards| {
+            let holder = 1 + inwards.trailing_zeros() as usize;
+            let body = notes.body_behind(table, notes.find(table, holder, cell));
+            stores.cell(&mut memory[CELL * cell..], &bodies[CELL * body..])
+        })?;
         if depth == live {
             return Ok(());
         }
@@ -791,7 +896,7 @@ fn restore(lent: Slices, handle: u32, budget: u64) -> Result<Answer, u32> {
         for word in 8 + depth..8 + live {
             journal.pair(&mut stores, table, word, 0)?;
         }
-        for place in 0..shape.entries {
+        for place in 0..notes.end {
             if depth_of(entry(table, place).0) > depth {
                 journal.entry(&mut stores, table, place, (0, 0))?;
             }
@@ -803,32 +908,39 @@ fn restore(lent: Slices, handle: u32, budget: u64) -> Result<Answer, u32> {
 
 /// The handles outermost first, and their number.
 #[inline(never)]
-fn list(lent: &Slices) -> Result<([u32; 8], u32), u32> {
-    let mut marks_room = room();
-    check(lent, &mut marks_room)?;
+fn list(lent: &Slices, notes: &mut Notes) -> Result<([u32; 8], u32), u32> {
+    check::<false>(lent, notes)?;
     let mut handles = [0; 8];
     handles.copy_from_slice(&lent.table[8..16]);
     Ok((handles, lent.table[4]))
 }
 
+/// The body behind an entry, by searches.
+fn searched_body(all: &[[u32; 2]], mut place: usize) -> usize {
+    loop {
+        let [first, second] = all[place];
+        if first & VIA_PARENT == 0 {
+            return second as usize;
+        }
+        let out = depth_of(first) - 1;
+        place = first_holder(all, out, out, cell_of(first))
+            .expect("a checked table has a holder further out");
+    }
+}
+
 /// Where a looked-for cell stands: the place (1 memory, 2 bodies) and the offset of its 64 bytes.
 #[inline(never)]
-fn look(lent: &Slices, handle: u32, cell: u32) -> Result<(u32, u64), u32> {
-    let mut marks_room = room();
-    let (shape, _) = check(lent, &mut marks_room)?;
+fn look(lent: &Slices, handle: u32, cell: u32, notes: &mut Notes) -> Result<(u32, u64), u32> {
+    let shape = check::<false>(lent, notes)?;
     let table = &*lent.table;
     let depth = depth_of_handle(table, handle)?;
     range(cell, 1, shape.cells)?;
     let live = table[4] as usize;
-    Ok(
-        match first_holder(table, shape.entries, depth, live, cell as usize) {
-            Some(place) => {
-                let body = body_behind(table, shape.entries, place);
-                (2, (CELL * body) as u64)
-            }
-            None => (1, (CELL * cell as usize) as u64),
-        },
-    )
+    let all = entries(table, notes.end);
+    Ok(match first_holder(all, depth, live, cell as usize) {
+        Some(place) => (2, (CELL * searched_body(all, place)) as u64),
+        None => (1, (CELL * cell as usize) as u64),
+    })
 }
 
 /// Makes the call.
@@ -838,28 +950,33 @@ pub fn call(buffers: &mut Buffers, call: &Call, budget: u64) -> Reply {
         bodies: &mut buffers.bodies,
         table: &mut buffers.table,
     };
+    SCRATCH.with_borrow_mut(|scratch| call_on(lent, call, budget, scratch))
+}
+
+fn call_on(lent: Slices, call: &Call, budget: u64, scratch: &mut Scratch) -> Reply {
     let mut reply = Reply::default();
+    let notes = &mut scratch.notes;
     let answer = match *call {
         Call::Make => make(lent, budget),
-        Call::Open => open(lent, budget),
-        Call::Create => create(lent, budget).map(|(answer, handle)| {
+        Call::Open => open(lent, budget, scratch),
+        Call::Create => create(lent, budget, notes).map(|(answer, handle)| {
             reply.handle = handle;
             answer
         }),
-        Call::Add(numbers) => add(lent, numbers, budget),
+        Call::Add(numbers) => add(lent, numbers, budget, notes),
         Call::Delete {
             handle,
             first,
             count,
-        } => delete(lent, handle, first, count, budget),
-        Call::Commit { handle } => commit(lent, handle, budget),
-        Call::Advance { handle } => advance(lent, handle, budget),
-        Call::Restore { handle } => restore(lent, handle, budget),
-        Call::List => list(&lent).map(|(handles, count)| {
+        } => delete(lent, handle, first, count, budget, notes),
+        Call::Commit { handle } => commit(lent, handle, budget, scratch),
+        Call::Advance { handle } => advance(lent, handle, budget, scratch),
+        Call::Restore { handle } => restore(lent, handle, budget, notes),
+        Call::List => list(&lent, notes).map(|(handles, count)| {
             (reply.handles, reply.count) = (handles, count);
             (0, 0)
         }),
-        Call::Look { handle, cell } => look(&lent, handle, cell).map(|(place, offset)| {
+        Call::Look { handle, cell } => look(&lent, handle, cell, notes).map(|(place, offset)| {
             (reply.place, reply.offset) = (place, offset);
             (0, 0)
         }),

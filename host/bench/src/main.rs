@@ -1,23 +1,49 @@
 //! Prints the library's times beside the same store without proofs, beside a plain scan of the table and beside plain copies, with the
 //! goals that they are held to.
 
-use domain_bench::measure::{FIGURES, Figure, Medians, Shape, measure};
+use domain_bench::measure::{FIGURES, Figure, Layout, Medians, NEAR, Shape, measure};
 use std::time::Duration;
 
 /// How long each shape is measured.
-const LIMIT: Duration = Duration::from_millis(150);
+const LIMIT: Duration = Duration::from_millis(250);
 /// The width of a column with two figures.
-const WIDE: usize = 12;
+const WIDE: usize = 11;
+/// The width of a column with one figure.
+const NARROW: usize = 10;
+/// How many of the figures that miss a goal are named.
+const NAMED: usize = 12;
 
 /// Each call beside the baseline.
 const GOAL: f64 = 1.5;
-/// The check of the table beside a plain scan.
-const GOAL_CHECK: f64 = 2.0;
+/// Each call at the larger memory beside the smaller one, for the same E, n and layout.
+const GOAL_MEMORY: f64 = 1.3;
+/// Restore beside the check of its table and a plain copy of its cells.
+const GOAL_RESTORE: f64 = 6.0;
+/// Restore by a disorderly table beside an orderly one.
+const GOAL_DISORDER: f64 = 2.0;
 /// Each call from E = 256 to E = 4,096, with n fixed.
 const GOAL_GROWTH: f64 = 20.0;
+/// The check of the table beside a plain scan.
+const GOAL_CHECK: f64 = 2.0;
 
-const MEMORIES: [usize; 2] = [65_536, 1_024];
-const PLACES: [usize; 3] = [64, 256, 4_096];
+const LARGE: usize = 65_536;
+const SMALL: usize = NEAR;
+const MEMORIES: [usize; 2] = [LARGE, SMALL];
+const PLACES: [usize; 4] = [64, 256, 1_024, 4_096];
+/// Where the two memories are held beside each other.
+const FEW_PLACES: [usize; 2] = [64, 256];
+const DOMAINS: [usize; 2] = [1, 3];
+/// Between which E growth is measured.
+const GROWTH: (usize, usize) = (256, 4_096);
+const LAYOUTS: [Layout; 7] = [
+    Layout::Contiguous,
+    Layout::Scattered,
+    Layout::Near,
+    Layout::Reversed,
+    Layout::Random,
+    Layout::Deleted,
+    Layout::Last,
+];
 const CELLS: [usize; 6] = [1, 9, 64, 512, 1_024, 4_096];
 
 /// A figure beside its goal, for the account at the end.
@@ -28,10 +54,20 @@ struct Held {
     met: bool,
 }
 
-fn goal(call: Figure) -> f64 {
-    match call {
-        Figure::Check => GOAL_CHECK,
-        _ => GOAL,
+impl Held {
+    fn new(call: Figure, shape: Shape, ratio: f64, goal: f64) -> Self {
+        let met = ratio <= goal;
+        Held {
+            call,
+            shape,
+            ratio,
+            met,
+        }
+    }
+
+    /// The ratio with its mark.
+    fn text(&self) -> String {
+        format!("{}{}", short(self.ratio), mark(self.met))
     }
 }
 
@@ -61,17 +97,9 @@ fn row_name(shape: &Shape) -> String {
     format!(
         "| {:>7} | {:<10} | {:>5} |",
         shape.domains,
-        layout(shape),
+        shape.layout.name(),
         number(shape.cells)
     )
-}
-
-fn layout(shape: &Shape) -> &'static str {
-    match (shape.last, shape.scattered) {
-        (true, _) => "last",
-        (false, true) => "scattered",
-        (false, false) => "contiguous",
-    }
 }
 
 fn place_name(shape: &Shape) -> String {
@@ -81,7 +109,7 @@ fn place_name(shape: &Shape) -> String {
         number(shape.places),
         shape.domains,
         if shape.domains == 1 { "" } else { "s" },
-        layout(shape),
+        shape.layout.name(),
         number(shape.cells)
     )
 }
@@ -99,13 +127,31 @@ fn print_head(width: usize, calls: &[Figure]) {
     println!("|--------:|------------|------:|{lines}");
 }
 
-/// The library's figures of one shape, each with the ratio that its goal is about.
+/// A row of ratios beside a goal: of the calls for which there is one.
+fn print_ratios(
+    shape: &Shape,
+    goal: f64,
+    ratio: impl Fn(Figure) -> Option<f64>,
+) -> impl Iterator<Item = Held> {
+    let mut line = row_name(shape);
+    let mut all = Vec::new();
+    for call in FIGURES {
+        let held = ratio(call).map(|ratio| Held::new(call, *shape, ratio, goal));
+        let text = held.as_ref().map_or("- ".into(), Held::text);
+        line += &format!(" {text:>NARROW$} |");
+        all.extend(held);
+    }
+    println!("{line}");
+    all.into_iter()
+}
+
+/// The library's figures of one shape, each with how many times the baseline that is.
 fn print_row(medians: &Medians) {
     let mut line = row_name(&medians.shape);
     for call in FIGURES {
         let text = match (medians.library[call as usize], medians.ratio(call)) {
             (Some(value), Some(ratio)) => {
-                let met = mark(ratio <= goal(call));
+                let met = mark(ratio <= GOAL);
                 format!("{} {}{met}", short(value), short(ratio))
             }
             _ => "- ".into(),
@@ -115,37 +161,81 @@ fn print_row(medians: &Medians) {
     println!("{line}");
 }
 
-/// Measures and prints all shapes of one m and one E.
-fn print_shapes(memory: usize, places: usize) -> Vec<Medians> {
+/// Whether a shape is measured: a single entry is in order always, and two layouts serve one goal each.
+fn asked(shape: &Shape) -> bool {
+    let asked = match shape.layout {
+        Layout::Near => shape.memory == LARGE && FEW_PLACES.contains(&shape.places),
+        Layout::Last => {
+            let growth = shape.places == GROWTH.0 || shape.places == GROWTH.1;
+            growth && shape.domains == 1 && shape.cells <= 64
+        }
+        layout => !layout.disorderly() || shape.cells > 1,
+    };
+    asked && shape.fits()
+}
+
+/// All shapes of so many domains and cells. These are what is compared with each other.
+fn shapes(domains: usize, cells: usize) -> Vec<Shape> {
+    let mut all = Vec::new();
+    for memory in MEMORIES {
+        for places in PLACES {
+            all.extend(LAYOUTS.map(|layout| Shape {
+                memory,
+                places,
+                domains,
+                layout,
+                cells,
+            }));
+        }
+    }
+    all.retain(asked);
+    all
+}
+
+/// Measures all shapes, and tells on the way how far it is.
+fn measure_all() -> Vec<Medians> {
+    let mut all = Vec::new();
+    for domains in DOMAINS {
+        for cells in CELLS {
+            let shapes = shapes(domains, cells);
+            if shapes.is_empty() {
+                continue;
+            }
+            eprintln!(
+                "measuring: domains {domains}, n = {}, shapes {}",
+                number(cells),
+                shapes.len()
+            );
+            all.extend(measure(&shapes, LIMIT));
+        }
+    }
+    all
+}
+
+/// The figures of one m and one E, by domains and layout.
+fn of_size(all: &[Medians], memory: usize, places: usize) -> Vec<&Medians> {
+    let of_size =
+        |medians: &&Medians| (medians.shape.memory, medians.shape.places) == (memory, places);
+    let mut these: Vec<&Medians> = all.iter().filter(of_size).collect();
+    these.sort_by_key(|medians| (medians.shape.domains, medians.shape.layout));
+    these
+}
+
+fn print_shapes(all: &[Medians], memory: usize, places: usize) {
     println!(
-        "m = {}, E = B = {}: library in µs, and how many times the baseline (goal {GOAL}); check: how many times a scan (goal {GOAL_CHECK:.0})",
+        "m = {}, E = B = {}: library in µs, and how many times the baseline (goal {GOAL})",
         number(memory),
         number(places)
     );
     println!();
     print_head(WIDE, &FIGURES);
-    let mut all = Vec::new();
-    for domains in [1, 3] {
-        for scattered in [false, true] {
-            for cells in CELLS {
-                let shape = Shape {
-                    memory,
-                    places,
-                    domains,
-                    scattered,
-                    cells,
-                    last: false,
-                };
-                if shape.fits() {
-                    let medians = measure(shape, LIMIT);
-                    print_row(&medians);
-                    all.push(medians);
-                }
-            }
-        }
-    }
+    of_size(all, memory, places).into_iter().for_each(print_row);
     println!();
-    all
+}
+
+/// The figures of a shape, if it was measured.
+fn of(all: &[Medians], shape: Shape) -> Option<&Medians> {
+    all.iter().find(|medians| medians.shape == shape)
 }
 
 /// The check of the table, from the figures that stand already: the emptiest and the fullest table of each size.
@@ -163,137 +253,178 @@ fn print_check(all: &[Medians]) {
     );
     for memory in MEMORIES {
         for places in PLACES {
-            for scattered in [false, true] {
-                let these = || {
-                    all.iter().filter(move |medians| {
-                        let shape = medians.shape;
-                        (shape.memory, shape.places) == (memory, places)
-                            && (shape.domains, shape.scattered) == (1, scattered)
-                    })
+            let these = of_size(all, memory, places);
+            for layout in [Layout::Contiguous, Layout::Scattered] {
+                let wanted = |medians: &&&Medians| {
+                    (medians.shape.domains, medians.shape.layout) == (1, layout)
                 };
-                for medians in these().next().into_iter().chain(these().next_back()) {
-                    let (Some(library), Some(baseline)) = (
-                        medians.library[Figure::Check as usize],
-                        medians.baseline[Figure::Check as usize],
-                    ) else {
-                        continue;
-                    };
-                    let beside = library / medians.scan;
-                    println!(
-                        "| {:>6} | {:>5} | {:<10} | {:>5} | {:>7} | {:>8} | {:>5} | {:>5} | {:>13}{} | {:>18} |",
-                        number(memory),
-                        number(places),
-                        if scattered { "scattered" } else { "contiguous" },
-                        number(medians.shape.cells),
-                        short(library),
-                        short(baseline),
-                        short(medians.scan),
-                        short(medians.sum),
-                        short(beside),
-                        mark(beside <= GOAL_CHECK),
-                        short(library / baseline)
-                    );
-                }
+                let ends = [these.iter().find(wanted), these.iter().rev().find(wanted)];
+                ends.into_iter()
+                    .flatten()
+                    .for_each(|medians| print_check_row(medians));
             }
         }
     }
     println!();
 }
 
-/// How many times as long a call takes at E = 4,096 as at E = 256, and whether that is allowed.
-fn growth(small: &Medians, large: &Medians, call: Figure) -> Option<(f64, bool)> {
-    let before = small.library[call as usize]?;
-    let after = large.library[call as usize]?;
-    let times = after / before;
-    let mut met = times <= GOAL_GROWTH;
-    if call == Figure::Restore && !met {
-        // One search at the larger size: a look that finds nobody, less the check, for each domain.
-        let check = large.library[Figure::Check as usize]?;
-        let search = (large.library[Figure::LookNobody as usize]? - check).max(0.0);
-        met = after - before <= check + small.shape.cells as f64 * search;
-    }
-    Some((times, met))
+fn print_check_row(medians: &Medians) {
+    let call = Figure::List as usize;
+    let (Some(library), Some(baseline)) = (medians.library[call], medians.baseline[call]) else {
+        return;
+    };
+    let shape = medians.shape;
+    let beside = library / medians.scan;
+    println!(
+        "| {:>6} | {:>5} | {:<10} | {:>5} | {:>7} | {:>8} | {:>5} | {:>5} | {:>13}{} | {:>18} |",
+        number(shape.memory),
+        number(shape.places),
+        shape.layout.name(),
+        number(shape.cells),
+        short(library),
+        short(baseline),
+        short(medians.scan),
+        short(medians.sum),
+        short(beside),
+        mark(beside <= GOAL_CHECK),
+        short(library / baseline)
+    );
 }
 
-/// Shapes whose entries stand in the last places.
-fn measure_last() -> Vec<Medians> {
-    let mut last = Vec::new();
-    for memory in MEMORIES {
-        for cells in [1, 9, 64] {
-            for places in [256, 4_096] {
-                let shape = Shape {
-                    memory,
-                    places,
-                    domains: 1,
-                    scattered: false,
-                    cells,
-                    last: true,
-                };
-                last.push(measure(shape, LIMIT));
-            }
-        }
-    }
-    last
+/// How many times as long a call takes by the first figures as by the others.
+fn times(more: &Medians, less: &Medians, call: Figure) -> Option<f64> {
+    Some(more.library[call as usize]? / less.library[call as usize]?)
 }
 
 fn print_growth(all: &[Medians]) -> Vec<Held> {
-    const WIDTH: usize = 10;
     println!(
-        "Growth from E = B = 256 to E = B = 4,096 with n fixed: how many times as long (goal {GOAL_GROWTH:.0}; restore: or longer by n searches)."
-    );
-    println!(
-        "Last: the entries stand at the end of the table, where a search passes all other places first."
+        "Growth from E = B = 256 to E = B = 4,096 with n fixed: how many times as long (goal {GOAL_GROWTH:.0})"
     );
     println!();
     let mut held = Vec::new();
     for memory in MEMORIES {
         println!("m = {}", number(memory));
         println!();
-        print_head(WIDTH, &FIGURES);
-        for small in all {
+        print_head(NARROW, &FIGURES);
+        for small in of_size(all, memory, GROWTH.0) {
+            let places = GROWTH.1;
             let shape = Shape {
-                places: 4_096,
+                places,
                 ..small.shape
             };
-            if (small.shape.memory, small.shape.places) != (memory, 256) {
-                continue;
+            if let Some(large) = of(all, shape) {
+                held.extend(print_ratios(&shape, GOAL_GROWTH, |call| {
+                    times(large, small, call)
+                }));
             }
-            let Some(large) = all.iter().find(|medians| medians.shape == shape) else {
-                continue;
-            };
-            let mut line = row_name(&shape);
-            for call in FIGURES {
-                let text = match growth(small, large, call) {
-                    Some((ratio, met)) => {
-                        held.push(Held {
-                            call,
-                            shape,
-                            ratio,
-                            met,
-                        });
-                        format!("{}{}", short(ratio), mark(met))
-                    }
-                    None => "- ".into(),
-                };
-                line += &format!(" {text:>WIDTH$} |");
-            }
-            println!("{line}");
         }
         println!();
     }
     held
 }
 
-fn print_last(last: &[Medians]) {
+/// The same shape in the smaller memory: the same cells, or cells that are scattered over all of it.
+fn in_small(shape: Shape) -> Shape {
+    let memory = SMALL;
+    let layout = match shape.layout {
+        Layout::Near => Layout::Scattered,
+        layout => layout,
+    };
+    Shape {
+        memory,
+        layout,
+        ..shape
+    }
+}
+
+/// The larger memory beside the smaller one. Cells that are scattered over all of a memory are another layout in each; they are shown
+/// and not held to the goal.
+fn print_memory(all: &[Medians]) -> Vec<Held> {
     println!(
-        "Entries in the last places, m = 65,536, E = B = 4,096 (not among the goals): library in µs, and how many times the baseline; check: a scan"
+        "Size of memory: how many times as long m = {} takes as m = {} for the same E, n and layout (goal {GOAL_MEMORY}). Near: cells that are scattered over {} cells",
+        number(LARGE),
+        number(SMALL),
+        number(SMALL)
+    );
+    println!(
+        "in both memories. Scattered: over all of each memory, so not the same layout (not among the goals)."
     );
     println!();
-    print_head(WIDE, &FIGURES);
-    last.iter()
-        .filter(|medians| (medians.shape.memory, medians.shape.places) == (65_536, 4_096))
-        .for_each(print_row);
+    let mut held = Vec::new();
+    for places in FEW_PLACES {
+        println!("E = B = {}", number(places));
+        println!();
+        print_head(NARROW, &FIGURES);
+        for large in of_size(all, LARGE, places) {
+            let shape = large.shape;
+            let Some(small) = of(all, in_small(shape)) else {
+                continue;
+            };
+            let these = print_ratios(&shape, GOAL_MEMORY, |call| times(large, small, call));
+            held.extend(these.filter(|_| shape.layout != Layout::Scattered));
+        }
+        println!();
+    }
+    held
+}
+
+/// Restore beside what it cannot do without, and by disorderly tables beside orderly ones: figures of the first goal and of the second.
+fn print_restore(all: &[Medians]) -> (Vec<Held>, Vec<Held>) {
+    println!(
+        "Restore, E = B = 4,096: library in µs beside the check of that table (list) and a plain copy of the cells (goal {GOAL_RESTORE:.0} times both together),"
+    );
+    println!(
+        "and disorderly tables (reversed, random, deletes) beside contiguous (goal {GOAL_DISORDER:.0} times)."
+    );
     println!();
+    println!(
+        "|      m | Domains | Cells      |     n | restore |   list |   copy | times both | times contiguous |"
+    );
+    println!(
+        "|-------:|--------:|------------|------:|--------:|-------:|-------:|-----------:|-----------------:|"
+    );
+    let (mut needs, mut orders) = (Vec::new(), Vec::new());
+    let sizes = MEMORIES.map(|memory| of_size(all, memory, 4_096));
+    for medians in sizes.into_iter().flatten() {
+        let (Some(restore), Some(list), Some(copy)) = (
+            medians.library[Figure::Restore as usize],
+            medians.library[Figure::List as usize],
+            medians.memcpy[Figure::Restore as usize],
+        ) else {
+            continue;
+        };
+        let shape = medians.shape;
+        let needed = Held::new(
+            Figure::Restore,
+            shape,
+            restore / (list + copy),
+            GOAL_RESTORE,
+        );
+        let order = beside_orderly(all, medians);
+        println!(
+            "| {:>6} {} {:>7} | {:>6} | {:>6} | {:>10} | {:>16} |",
+            number(shape.memory),
+            row_name(&shape),
+            short(restore),
+            short(list),
+            short(copy),
+            needed.text(),
+            order.as_ref().map_or("- ".into(), Held::text)
+        );
+        needs.push(needed);
+        orders.extend(order);
+    }
+    println!();
+    (needs, orders)
+}
+
+/// Restore by a disorderly table beside the same cells in order.
+fn beside_orderly(all: &[Medians], medians: &Medians) -> Option<Held> {
+    let shape = medians.shape;
+    let layout = Layout::Contiguous;
+    let orderly = of(all, Shape { layout, ..shape }).filter(|_| shape.layout.disorderly())?;
+    let ratio = times(medians, orderly, Figure::Restore)?;
+    Some(Held::new(Figure::Restore, shape, ratio, GOAL_DISORDER))
 }
 
 fn print_copies(all: &[Medians]) {
@@ -308,10 +439,9 @@ fn print_copies(all: &[Medians]) {
     );
     println!();
     print_head(14, &calls);
-    for medians in all {
+    for medians in of_size(all, LARGE, 4_096) {
         let shape = medians.shape;
-        if (shape.memory, shape.places, shape.domains, shape.scattered) != (65_536, 4_096, 1, false)
-        {
+        if (shape.domains, shape.layout) != (1, Layout::Contiguous) {
             continue;
         }
         let mut line = row_name(&shape);
@@ -340,71 +470,105 @@ fn account<'a>(title: &str, held: impl Iterator<Item = &'a Held>) {
     let worst = missed.max_by(|one, other| one.ratio.total_cmp(&other.ratio));
     let worst = worst.map_or("all met".into(), |held| {
         format!(
-            "worst {:>5}: {}{}",
+            "worst {:>5}: {}",
             short(held.ratio),
-            place_name(&held.shape),
-            if title.starts_with("growth") {
-                format!(", {}", held.call.name())
-            } else {
-                String::new()
-            }
+            place_name(&held.shape)
         )
     });
-    println!("  {title:<22} {met:>3} of {:>3} met; {worst}", held.len());
+    println!("  {title:<28} {met:>4} of {:>4} met; {worst}", held.len());
 }
 
-fn main() {
+/// The same for a goal of several calls, with the worst of those that miss it by name.
+fn account_named(title: &str, held: &[Held]) {
+    account(title, held.iter());
+    let mut missed: Vec<&Held> = held.iter().filter(|held| !held.met).collect();
+    missed.sort_by(|one, other| other.ratio.total_cmp(&one.ratio));
+    for held in missed.iter().take(NAMED) {
+        let (call, shape) = (held.call.name(), place_name(&held.shape));
+        println!("    {:>5}  {call:<10}  {shape}", short(held.ratio));
+    }
+    if missed.len() > NAMED {
+        println!("           and {} more", missed.len() - NAMED);
+    }
+}
+
+/// Every call of every shape beside the baseline.
+fn beside_baseline(all: &[Medians]) -> Vec<Held> {
+    let of_shape = |medians: &Medians| {
+        let of_call = |call| {
+            let ratio = medians.ratio(call)?;
+            Some(Held::new(call, medians.shape, ratio, GOAL))
+        };
+        FIGURES.into_iter().filter_map(of_call).collect::<Vec<_>>()
+    };
+    all.iter().flat_map(of_shape).collect()
+}
+
+/// The check of every table beside a scan of it.
+fn beside_scans(all: &[Medians]) -> Vec<Held> {
+    let held = |medians: &Medians| {
+        let scans = medians.scans()?;
+        Some(Held::new(Figure::List, medians.shape, scans, GOAL_CHECK))
+    };
+    all.iter().filter_map(held).collect()
+}
+
+fn print_introduction() {
     println!(
         "Each figure is a median of runs in which the library and the baseline take turns in one process; a `!` marks a goal that is missed."
     );
     println!(
-        "Preserve: create and add n cells by copy (contiguous: one add; scattered: n adds of one cell, in no order). Via parent: the same, via parent."
+        "Preserve: create and add n cells by copy (scattered: n adds of one cell, in no order; else one add). Via parent: the same, via parent. Delete: the"
     );
     println!(
-        "Cycle: create, add n, write n, advance, write n, restore, commit. Restore: the outermost domain, which ends those inside. Look: a held cell, and one"
+        "innermost domain's cells (scattered: one). Cycle: create, add n, write n, advance, write n, restore, commit. Restore: the outermost domain, which ends"
     );
     println!(
-        "that nobody holds. Three domains: two hold the same n cells already. A dash: it does not fit (an advance takes n bodies before it frees n)."
+        "those inside. Look: a held cell, and one that nobody holds. Three domains: two hold the same n cells already. A dash: it does not fit (an advance takes"
     );
+    println!("n bodies before it frees n), or it would be the same as contiguous.");
+    println!(
+        "Cells: contiguous, entries in order of cell; scattered over memory, in no order; and contiguous cells whose entries were laid down reversed, at random, or"
+    );
+    println!(
+        "through deletes (half of them deleted and added again into the holes, last first). Near: scattered over {} cells of a larger memory. Last: as contiguous,",
+        number(SMALL)
+    );
+    println!("but in the last places of the table (for the growth).");
     println!();
-    let mut all = Vec::new();
+}
+
+fn main() {
+    print_introduction();
+    let all = measure_all();
     for memory in MEMORIES {
         for places in PLACES {
-            all.extend(print_shapes(memory, places));
+            print_shapes(&all, memory, places);
         }
     }
     print_check(&all);
     print_copies(&all);
-    let beside: Vec<Held> = all
-        .iter()
-        .flat_map(|medians| {
-            FIGURES.into_iter().filter_map(|call| {
-                let ratio = medians.ratio(call)?;
-                Some(Held {
-                    call,
-                    shape: medians.shape,
-                    ratio,
-                    met: ratio <= goal(call),
-                })
-            })
-        })
-        .collect();
-    let last = measure_last();
-    print_last(&last);
-    all.extend(last);
+    let beside = beside_baseline(&all);
+    let scans = beside_scans(&all);
+    let memories = print_memory(&all);
+    let (restores, orders) = print_restore(&all);
     let growths = print_growth(&all);
 
     println!("Goals");
     println!();
     for call in FIGURES {
         account(
-            &format!("{} <= {}", call.name(), goal(call)),
+            &format!("{} <= {GOAL}", call.name()),
             beside.iter().filter(|held| held.call == call),
         );
     }
-    account(
-        &format!("all calls <= {GOAL}"),
-        beside.iter().filter(|held| held.call != Figure::Check),
+    account_named(&format!("all calls <= {GOAL}"), &beside);
+    account_named(&format!("size of memory <= {GOAL_MEMORY}"), &memories);
+    account_named(
+        &format!("restore <= {GOAL_RESTORE} checks + copies"),
+        &restores,
     );
-    account(&format!("growth <= {GOAL_GROWTH}"), growths.iter());
+    account_named(&format!("restore, disorderly <= {GOAL_DISORDER}"), &orders);
+    account_named(&format!("growth <= {GOAL_GROWTH}"), &growths);
+    account(&format!("check <= {GOAL_CHECK} scans"), scans.iter());
 }

@@ -1,12 +1,12 @@
-//! One shape of store, measured: every call by the library and by the baseline, by turns in one process, so that both meet the same
-//! machine. The figures are medians.
+//! Shapes of store, measured: every call by the library and by the baseline, by turns in one process, so that both meet the same
+//! machine; and shapes that are compared with each other by turns too. The figures are medians.
 //!
 //! Before each call the buffers are put into the state that the call is to meet, out of the measured time: "ground" is what stands
 //! before the measured domain is created, "held" is the same after it has taken its cells.
 
 use crate::stores::{Baseline, Library, Measured};
 use domain_model::calls::{COPY, READ_WRITE, VIA_PARENT};
-use domain_model::{Buffers, Call, Sizes};
+use domain_model::{Buffers, Call, Rng, Sizes};
 use std::hint::black_box;
 use std::time::{Duration, Instant};
 
@@ -18,6 +18,10 @@ pub enum Figure {
     Preserve,
     /// Create, and add n cells via parent.
     ViaParent,
+    /// Create alone, inside the others.
+    Create,
+    /// Delete of the innermost domain's cells: all of them where they are neighbours, else the one that was added last.
+    Delete,
     /// Advance of the innermost domain.
     Advance,
     /// Restore of the outermost domain, which ends those inside.
@@ -30,20 +34,22 @@ pub enum Figure {
     LookNobody,
     /// Create, add n, write n, advance, write n, restore, commit.
     Cycle,
-    /// List: hardly more than the questions that every call is put.
-    Check,
+    /// Hardly more than the questions that every call is put: the check of the table.
+    List,
 }
 
-pub const FIGURES: [Figure; 9] = [
+pub const FIGURES: [Figure; 11] = [
     Figure::Preserve,
     Figure::ViaParent,
+    Figure::Create,
+    Figure::Delete,
     Figure::Advance,
     Figure::Restore,
     Figure::Commit,
     Figure::Look,
     Figure::LookNobody,
     Figure::Cycle,
-    Figure::Check,
+    Figure::List,
 ];
 
 impl Figure {
@@ -51,19 +57,67 @@ impl Figure {
         match self {
             Figure::Preserve => "preserve",
             Figure::ViaParent => "via parent",
+            Figure::Create => "create",
+            Figure::Delete => "delete",
             Figure::Advance => "advance",
             Figure::Restore => "restore",
             Figure::Commit => "commit",
             Figure::Look => "look",
             Figure::LookNobody => "look, free",
             Figure::Cycle => "cycle",
-            Figure::Check => "check",
+            Figure::List => "list",
         }
     }
 }
 
 /// Microseconds of each call; none where it does not fit.
 pub type Times = [Option<f64>; FIGURES.len()];
+
+/// Which cells are held, and in which order their entries stand in the table.
+#[derive(Clone, Copy, PartialEq, Eq, PartialOrd, Ord, Debug)]
+pub enum Layout {
+    /// Neighbours, in one add: entries in order of cell.
+    Contiguous,
+    /// One cell at a time, far apart in all of memory and in no order.
+    Scattered,
+    /// The same within so many cells as the smaller memory has.
+    Near,
+    /// Neighbours, one at a time, the last cell first.
+    Reversed,
+    /// Neighbours, one at a time, in random order.
+    Random,
+    /// Neighbours, in one add; then half of them, taken at random, are deleted and added again, the last first, into the holes.
+    Deleted,
+    /// As contiguous, but in the last places of the table and not in the first, where searches find them at once.
+    Last,
+}
+
+/// How many cells `Near` keeps to.
+pub const NEAR: usize = 1_024;
+
+impl Layout {
+    pub fn name(self) -> &'static str {
+        match self {
+            Layout::Contiguous => "contiguous",
+            Layout::Scattered => "scattered",
+            Layout::Near => "near",
+            Layout::Reversed => "reversed",
+            Layout::Random => "random",
+            Layout::Deleted => "deletes",
+            Layout::Last => "last",
+        }
+    }
+
+    /// Neighbouring cells: one call takes or deletes them all.
+    fn neighbours(self) -> bool {
+        !matches!(self, Layout::Scattered | Layout::Near)
+    }
+
+    /// Neighbouring cells whose entries stand in another order than the cells.
+    pub fn disorderly(self) -> bool {
+        matches!(self, Layout::Reversed | Layout::Random | Layout::Deleted)
+    }
+}
 
 #[derive(Clone, Copy, PartialEq, Eq, Debug)]
 pub struct Shape {
@@ -73,12 +127,9 @@ pub struct Shape {
     pub places: usize,
     /// One, or three of which each holds the same cells by copies of its own.
     pub domains: usize,
-    /// One cell at a time, far apart and in no order; else contiguous cells in one add.
-    pub scattered: bool,
+    pub layout: Layout,
     /// n.
     pub cells: usize,
-    /// The entries stand in the last places of the table and not in the first, where searches find them at once.
-    pub last: bool,
 }
 
 impl Shape {
@@ -92,16 +143,26 @@ impl Shape {
         (self.domains + 1) * self.cells <= self.places
     }
 
-    fn first(&self) -> usize {
+    /// Whether it says anything new to take entries. They are taken from the first free place on: so not beside entries in the last
+    /// places, and a disorderly layout matters only where there are entries already.
+    fn takes_entries(&self) -> bool {
+        match self.layout {
+            Layout::Last => false,
+            layout => !layout.disorderly() || self.domains > 1,
+        }
+    }
+
+    pub fn first(&self) -> usize {
         (self.memory - self.cells) / 2
     }
 
-    fn cell(&self, index: usize) -> usize {
-        if self.scattered {
-            // An odd factor: no cell comes twice, since m is a power of two.
-            (index * 40_503 + 17) % self.memory
-        } else {
-            self.first() + index
+    pub fn cell(&self, index: usize) -> usize {
+        // An odd factor: no cell comes twice, since m is a power of two.
+        let scattered = index * 40_503 + 17;
+        match self.layout {
+            Layout::Scattered => scattered % self.memory,
+            Layout::Near => scattered % self.memory.min(NEAR),
+            _ => self.first() + index,
         }
     }
 
@@ -110,14 +171,24 @@ impl Shape {
         (self.cells < self.memory).then(|| self.cell(self.cells) % self.memory)
     }
 
+    /// The indices of all cells in random order.
+    fn shuffled(&self) -> Vec<usize> {
+        let mut random = Rng::new(self.cells as u64);
+        let mut all: Vec<usize> = (0..self.cells).collect();
+        for last in (1..all.len()).rev() {
+            all.swap(last, random.below(last as u64 + 1) as usize);
+        }
+        all
+    }
+
     /// The program's writes.
     fn write(&self, memory: &mut [u8], byte: u8) {
-        if self.scattered {
+        if self.layout.neighbours() {
+            memory[64 * self.first()..][..64 * self.cells].fill(byte);
+        } else {
             for index in 0..self.cells {
                 memory[64 * self.cell(index)..][..64].fill(byte);
             }
-        } else {
-            memory[64 * self.first()..][..64 * self.cells].fill(byte);
         }
     }
 }
@@ -159,17 +230,57 @@ impl<S: Measured> Runner<S> {
         self.call(Call::add(first as u32, count as u32, kind, READ_WRITE))
     }
 
+    /// Adds the cells of these indices one at a time.
+    fn add_each(&mut self, indices: impl Iterator<Item = usize>, kind: u32) -> u32 {
+        let shape = self.shape;
+        indices.fold(0, |refused, index| {
+            refused | self.add(shape.cell(index), 1, kind)
+        })
+    }
+
+    fn delete(&mut self, first: usize, count: usize) -> u32 {
+        self.call(Call::delete(0, first as u32, count as u32))
+    }
+
     /// A new domain that holds all cells, read-write.
     fn preserve(&mut self, kind: u32) -> u32 {
         let shape = self.shape;
         let created = self.call(Call::Create);
-        if shape.scattered {
-            (0..shape.cells).fold(created, |refused, index| {
-                refused | self.add(shape.cell(index), 1, kind)
-            })
-        } else {
+        if shape.layout.neighbours() {
             created | self.add(shape.first(), shape.cells, kind)
+        } else {
+            created | self.add_each(0..shape.cells, kind)
         }
+    }
+
+    /// The same, with its entries where the layout has them.
+    fn lay_down(&mut self) -> u32 {
+        let shape = self.shape;
+        match shape.layout {
+            Layout::Reversed => {
+                self.call(Call::Create) | self.add_each((0..shape.cells).rev(), COPY)
+            }
+            Layout::Random => {
+                self.call(Call::Create) | self.add_each(shape.shuffled().into_iter(), COPY)
+            }
+            Layout::Deleted => {
+                let mut refused = self.preserve(COPY);
+                let mut half = shape.shuffled();
+                half.truncate(shape.cells.div_ceil(2));
+                half.sort_unstable();
+                for &index in &half {
+                    refused |= self.delete(shape.cell(index), 1);
+                }
+                refused | self.add_each(half.into_iter().rev(), COPY)
+            }
+            _ => self.preserve(COPY),
+        }
+    }
+
+    /// A made store in which so many domains are laid down.
+    fn begin(&mut self, domains: usize) -> u32 {
+        let made = self.call(Call::Make);
+        (0..domains).fold(made, |refused, _| refused | self.lay_down())
     }
 
     fn look(&mut self, cell: usize) -> u32 {
@@ -198,6 +309,7 @@ impl<S: Measured> Runner<S> {
             clock,
             ground,
             held,
+            ..
         } = setting;
         let mut times: Times = [None; FIGURES.len()];
         let mut measured = |figure: Figure, time, buffers: &Buffers| {
@@ -205,8 +317,7 @@ impl<S: Measured> Runner<S> {
             after(figure, buffers);
         };
 
-        // Entries are taken from the first free place on, so what takes new ones says nothing about last places.
-        if !shape.last {
+        if shape.takes_entries() {
             ground.put(&mut self.buffers);
             self.write(1);
             let time = clock.done(|| self.preserve(COPY));
@@ -216,22 +327,32 @@ impl<S: Measured> Runner<S> {
         held.put(&mut self.buffers);
         self.write(1);
         let time = clock.repeated(|| self.call(Call::List));
-        measured(Figure::Check, time, &self.buffers);
+        measured(Figure::List, time, &self.buffers);
         let time = clock.repeated(|| self.look(shape.cell(shape.cells - 1)));
         measured(Figure::Look, time, &self.buffers);
         if let Some(cell) = shape.nobody() {
             let time = clock.repeated(|| self.look(cell));
             measured(Figure::LookNobody, time, &self.buffers);
         }
+        let time = clock.done(|| self.call(Call::Create));
+        measured(Figure::Create, time, &self.buffers);
+
+        held.put(&mut self.buffers);
+        let time = clock.done(|| {
+            if shape.layout.neighbours() {
+                self.delete(shape.first(), shape.cells)
+            } else {
+                self.delete(shape.cell(shape.cells - 1), 1)
+            }
+        });
+        measured(Figure::Delete, time, &self.buffers);
 
         if shape.domains > 1 || shape.one_more_fits() {
             // One domain: a second inside it. Three: the third.
             let before = if shape.domains > 1 { ground } else { held };
             before.put(&mut self.buffers);
             let time = clock.done(|| self.preserve(VIA_PARENT));
-            if shape.domains == 1 || !shape.last {
-                measured(Figure::ViaParent, time, &self.buffers);
-            }
+            measured(Figure::ViaParent, time, &self.buffers);
         }
 
         if shape.one_more_fits() {
@@ -250,7 +371,7 @@ impl<S: Measured> Runner<S> {
         let time = clock.done(|| self.restore(1));
         measured(Figure::Restore, time, &self.buffers);
 
-        if shape.one_more_fits() && !shape.last {
+        if shape.one_more_fits() && shape.takes_entries() {
             ground.put(&mut self.buffers);
             self.write(1);
             let time = clock.done(|| {
@@ -359,20 +480,35 @@ pub struct Medians {
 }
 
 impl Medians {
-    /// How many times the baseline, or for the check how many times the scan.
+    /// How many times the baseline.
     pub fn ratio(&self, call: Figure) -> Option<f64> {
-        let other = match call {
-            Figure::Check => self.scan,
-            _ => self.baseline[call as usize]?,
-        };
-        Some(self.library[call as usize]? / other)
+        Some(self.library[call as usize]? / self.baseline[call as usize]?)
     }
+
+    /// The check of the table: how many times the scan.
+    pub fn scans(&self) -> Option<f64> {
+        Some(self.library[Figure::List as usize]? / self.scan)
+    }
+}
+
+/// Buffers in which the domains of a shape are laid down.
+pub fn laid_down(shape: Shape) -> Buffers {
+    let mut library = Runner::new(shape, Library::default());
+    let refused = library.begin(shape.domains);
+    assert_eq!(refused, 0, "the cells do not fit");
+    if shape.layout == Layout::Last {
+        let mut state = State::of(&library.buffers);
+        state.turn_round(shape.places);
+        state.put(&mut library.buffers);
+    }
+    library.buffers
 }
 
 /// What both stores are measured in.
 struct Setting {
     shape: Shape,
     clock: Clock,
+    cells: Vec<usize>,
     ground: State,
     held: State,
 }
@@ -386,21 +522,15 @@ struct Bench {
 impl Bench {
     fn new(shape: Shape) -> Self {
         let mut library = Runner::new(shape, Library::default());
-        let mut refused = library.call(Call::Make);
-        for _ in 1..shape.domains {
-            refused |= library.preserve(COPY);
-        }
-        let ground = State::of(&library.buffers);
-        refused |= library.preserve(COPY);
-        let mut held = State::of(&library.buffers);
-        if shape.last {
-            held.turn_round(shape.places);
-        }
+        let refused = library.begin(shape.domains - 1);
         assert_eq!(refused, 0, "the cells do not fit");
+        let ground = State::of(&library.buffers);
+        let held = State::of(&laid_down(shape));
         Bench {
             setting: Setting {
                 shape,
                 clock: Clock::new(),
+                cells: (0..shape.cells).map(|index| shape.cell(index)).collect(),
                 ground,
                 held,
             },
@@ -427,6 +557,9 @@ impl Bench {
     /// The same bytes copied plainly, and for the cycle the program's writes too.
     fn run_memcpy(&mut self) -> Times {
         let Setting { shape, clock, .. } = &self.setting;
+        if !shape.layout.neighbours() {
+            return self.run_copies();
+        }
         let baseline = &mut self.baseline.buffers;
         let mut times: Times = [None; FIGURES.len()];
         let (start, length) = (64 * shape.first(), 64 * shape.cells);
@@ -462,6 +595,21 @@ impl Bench {
         }
         times
     }
+
+    /// Cells that are no neighbours: each copied back by itself.
+    fn run_copies(&mut self) -> Times {
+        let Setting { clock, cells, .. } = &self.setting;
+        let Buffers { memory, bodies, .. } = &mut self.baseline.buffers;
+        let mut times: Times = [None; FIGURES.len()];
+        times[Figure::Restore as usize] = clock.repeated(|| {
+            for (body, &cell) in bodies.chunks_exact(64).zip(black_box(cells)) {
+                memory[64 * cell..][..64].copy_from_slice(body);
+            }
+            black_box(&mut *memory);
+            0
+        });
+        times
+    }
 }
 
 fn median(mut values: Vec<f64>) -> Option<f64> {
@@ -476,43 +624,96 @@ fn medians(runs: &[Times]) -> Times {
     std::array::from_fn(|call| median(runs.iter().filter_map(|times| times[call]).collect()))
 }
 
-/// Measures until `limit` has passed, at least seven times.
-pub fn measure(shape: Shape, limit: Duration) -> Medians {
-    let mut bench = Bench::new(shape);
-    bench.compare();
-    let (mut library, mut baseline, mut memcpy) = (Vec::new(), Vec::new(), Vec::new());
-    let (mut scans, mut sums) = (Vec::new(), Vec::new());
-    let start = Instant::now();
-    let mut round = 0;
-    while round < 7 || (start.elapsed() < limit && round < 501) {
-        // Each goes first every other time.
+/// How long a shape is measured before it is another's turn, unless one round takes longer.
+const TURN: Duration = Duration::from_millis(10);
+/// How many rounds there are at least and at most.
+const ROUNDS: (usize, usize) = (7, 1_001);
+
+/// A shape with what was measured of it so far.
+struct Rounds {
+    bench: Bench,
+    library: Vec<Times>,
+    baseline: Vec<Times>,
+    memcpy: Vec<Times>,
+    scans: Vec<f64>,
+    sums: Vec<f64>,
+    spent: Duration,
+}
+
+impl Rounds {
+    fn new(shape: Shape) -> Self {
+        let mut bench = Bench::new(shape);
+        bench.compare();
+        Rounds {
+            bench,
+            library: Vec::new(),
+            baseline: Vec::new(),
+            memcpy: Vec::new(),
+            scans: Vec::new(),
+            sums: Vec::new(),
+            spent: Duration::ZERO,
+        }
+    }
+
+    /// Whether there is more to measure within this limit.
+    fn goes_on(&self, limit: Duration) -> bool {
+        let rounds = self.library.len();
+        rounds < ROUNDS.0 || (self.spent < limit && rounds < ROUNDS.1)
+    }
+
+    /// Library and baseline once each; each goes first every other time.
+    fn round(&mut self) {
+        let bench = &mut self.bench;
         let setting = &bench.setting;
-        if round % 2 == 0 {
-            library.push(bench.library.run(setting, |_, _| ()));
+        let library_first = self.library.len().is_multiple_of(2);
+        if library_first {
+            self.library.push(bench.library.run(setting, |_, _| ()));
         }
-        baseline.push(bench.baseline.run(setting, |_, _| ()));
-        if round % 2 == 1 {
-            library.push(bench.library.run(setting, |_, _| ()));
+        self.baseline.push(bench.baseline.run(setting, |_, _| ()));
+        if !library_first {
+            self.library.push(bench.library.run(setting, |_, _| ()));
         }
-        if !shape.scattered {
-            memcpy.push(bench.run_memcpy());
-        }
-        let Setting { clock, held, .. } = &bench.setting;
+        self.memcpy.push(bench.run_memcpy());
+        let Setting {
+            shape, clock, held, ..
+        } = &bench.setting;
         held.put(&mut bench.library.buffers);
         let entries = &bench.library.buffers.table[16..16 + 2 * shape.places];
-        scans.extend(clock.repeated(|| scan(black_box(entries))));
-        sums.extend(clock.repeated(|| {
+        let scan = clock.repeated(|| scan(black_box(entries)));
+        let sum = clock.repeated(|| {
             black_box(sum(black_box(entries)));
             0
-        }));
-        round += 1;
+        });
+        self.scans.extend(scan);
+        self.sums.extend(sum);
     }
-    Medians {
-        shape,
-        library: medians(&library),
-        baseline: medians(&baseline),
-        memcpy: medians(&memcpy),
-        scan: median(scans).expect("measured"),
-        sum: median(sums).expect("measured"),
+
+    fn turn(&mut self, limit: Duration) {
+        let start = Instant::now();
+        while self.goes_on(limit) && start.elapsed() < TURN {
+            self.round();
+        }
+        self.spent += start.elapsed();
     }
+
+    fn medians(self) -> Medians {
+        Medians {
+            shape: self.bench.setting.shape,
+            library: medians(&self.library),
+            baseline: medians(&self.baseline),
+            memcpy: medians(&self.memcpy),
+            scan: median(self.scans).expect("measured"),
+            sum: median(self.sums).expect("measured"),
+        }
+    }
+}
+
+/// Measures these shapes by turns, each until `limit` has passed, so that figures of different shapes may be compared too: a machine
+/// with other work is slower at one time than at another.
+pub fn measure(shapes: &[Shape], limit: Duration) -> Vec<Medians> {
+    let mut all: Vec<Rounds> = shapes.iter().map(|&shape| Rounds::new(shape)).collect();
+    while all.iter().any(|rounds| rounds.goes_on(limit)) {
+        all.iter_mut().for_each(|rounds| rounds.turn(limit));
+    }
+    all.into_iter().map(Rounds::medians).collect()
 }

@@ -1,6 +1,8 @@
-//! The baseline is the same store as the library: on random sessions of small sizes both give the same answers and leave the same
-//! buffers, word for word and byte for byte. Only so does it make sense to compare their times.
+//! The baseline is the same store as the library: on random sessions of small sizes, and on larger tables in every layout that is
+//! measured, both give the same answers and leave the same buffers, word for word and byte for byte. Only so does it make sense to
+//! compare their times.
 
+use domain_bench::measure::{Layout, Shape, laid_down};
 use domain_bench::stores::Baseline;
 use domain_lend::Linked;
 use domain_model::calls::REFUSALS;
@@ -11,7 +13,8 @@ fn one_in(random: &mut Rng, bound: u64) -> bool {
     random.below(bound) == 0
 }
 
-fn choose(random: &mut Rng, buffers: &Buffers, cells: u32) -> Call {
+/// A call about so many cells from `from` on.
+fn choose(random: &mut Rng, buffers: &Buffers, from: u32, cells: u32) -> Call {
     let word = |at: usize| buffers.table.get(at).copied();
     let live = word(4).unwrap_or(0).min(8);
     let any = match random.below(6) {
@@ -30,6 +33,7 @@ fn choose(random: &mut Rng, buffers: &Buffers, cells: u32) -> Call {
         1 => random.below(u64::from(cells) + 1) as u32,
         _ => random.between(1, cells.saturating_sub(first).max(1).into()) as u32,
     };
+    let first = from + first;
     let label = random.below(2) as u32;
     match random.below(100) {
         0..=1 => Call::Make,
@@ -44,7 +48,7 @@ fn choose(random: &mut Rng, buffers: &Buffers, cells: u32) -> Call {
         92..=94 => Call::List,
         _ => Call::Look {
             handle: any,
-            cell: random.below(u64::from(cells) + 1) as u32,
+            cell: from + random.below(u64::from(cells) + 1) as u32,
         },
     }
 }
@@ -87,6 +91,31 @@ fn buffers(random: &mut Rng, sizes: Sizes) -> Buffers {
     Buffers::filled(lengths, 0, 0)
 }
 
+/// Mostly all that a call needs.
+fn budget(random: &mut Rng, most: u64) -> u64 {
+    match random.below(12) {
+        0 => random.below(most),
+        1 => random.below(30),
+        _ => FULL,
+    }
+}
+
+/// Makes the call on equal buffers, by the library and by the baseline. The answer's number, if all is the same.
+fn same(
+    ours: &mut Buffers,
+    theirs: &mut Buffers,
+    call: &Call,
+    budget: u64,
+    what: impl Fn() -> String,
+) -> u32 {
+    let reply = Linked.call(ours, call, budget);
+    let expected = Baseline.call(theirs, call, budget);
+    let what = || format!("{call} with budget {budget}, {}", what());
+    assert_eq!(reply, expected, "{}", what());
+    assert_eq!(ours.differs(theirs), None, "{}", what());
+    reply.code
+}
+
 #[test]
 fn same_answers_and_buffers() {
     let mut random = Rng::new(0x1234_5678_9ABC_DEF1);
@@ -105,7 +134,7 @@ fn same_answers_and_buffers() {
                 2 if random.below(8) > 0 => Call::Make,
                 3 | STOPPED if random.below(8) > 0 => Call::Open,
                 4 if one_in(&mut random, 4) => Call::Make,
-                _ => choose(&mut random, &ours, m),
+                _ => choose(&mut random, &ours, 0, m),
             };
             if one_in(&mut random, 6) {
                 let cell = random.below(ours.memory.len() as u64 / 64 + 1) as usize;
@@ -119,18 +148,11 @@ fn same_answers_and_buffers() {
                 damage(&mut random, &mut ours.table, sizes);
             }
             theirs.copy_from(&ours);
-            let budget = match random.below(12) {
-                0 => random.below(300),
-                1 => random.below(30),
-                _ => FULL,
-            };
-            let reply = Linked.call(&mut ours, &call, budget);
-            let expected = Baseline.call(&mut theirs, &call, budget);
-            let what = format!("session {session}: {call} with budget {budget}");
-            assert_eq!(reply, expected, "{what} on {undamaged:?}");
-            assert_eq!(ours.differs(&theirs), None, "{what}");
-            *numbers.entry(reply.code).or_insert(0u64) += 1;
-            last = reply.code;
+            let budget = budget(&mut random, 300);
+            last = same(&mut ours, &mut theirs, &call, budget, || {
+                format!("session {session} on {undamaged:?}")
+            });
+            *numbers.entry(last).or_insert(0u64) += 1;
             calls += 1;
             if damaged && ![0, STOPPED].contains(&last) && random.below(4) > 0 {
                 // Refused and so unchanged: back to the right table, to go on with a rich one.
@@ -140,6 +162,137 @@ fn same_answers_and_buffers() {
     }
     println!("{calls} calls; answers by number: {numbers:?}");
     for number in REFUSALS.chain([0, STOPPED]) {
+        assert!(
+            numbers.contains_key(&number),
+            "no call was answered by {number}"
+        );
+    }
+}
+
+/// The layouts whose cells are neighbours, and the others, which need a memory that is a power of two.
+const NEIGHBOURS: [Layout; 5] = [
+    Layout::Contiguous,
+    Layout::Reversed,
+    Layout::Random,
+    Layout::Deleted,
+    Layout::Last,
+];
+const APART: [Layout; 2] = [Layout::Scattered, Layout::Near];
+
+/// Shapes with cells in one group of 64 and in many, in a last group that is not whole, and in a memory whose groups are mostly empty.
+fn shapes() -> Vec<Shape> {
+    let mut all = Vec::new();
+    for (memory, places, cells) in [
+        (100usize, 128, 100),
+        (100, 512, 100),
+        (1_024, 64, 9),
+        (1_024, 1_024, 300),
+        (65_536, 256, 64),
+        (65_536, 4_096, 1_024),
+    ] {
+        let apart = APART.iter().filter(|_| memory.is_power_of_two());
+        for &layout in NEIGHBOURS.iter().chain(apart) {
+            all.extend([1, 3].map(|domains| Shape {
+                memory,
+                places,
+                domains,
+                layout,
+                cells,
+            }));
+        }
+    }
+    all.retain(Shape::fits);
+    all
+}
+
+/// A call about the cells of a shape: some neighbours of one of them, or all of them.
+fn choose_in(random: &mut Rng, buffers: &Buffers, shape: &Shape) -> Call {
+    let cell = shape.cell(random.below(shape.cells as u64) as usize);
+    let (from, cells) = match random.below(3) {
+        0 => (shape.first(), shape.cells),
+        _ => (cell.saturating_sub(2), 5),
+    };
+    choose(random, buffers, from as u32, cells as u32)
+}
+
+/// The same with a domain more, which holds some of the cells via parent, as far as there is room.
+fn with_inner(held: &Buffers, shape: &Shape) -> Buffers {
+    let mut inner = held.clone();
+    Linked.call(&mut inner, &Call::Create, FULL);
+    for index in 0..shape.cells.min(20) {
+        let call = Call::via_parent(shape.cell(index) as u32, 1, 1);
+        Linked.call(&mut inner, &call, FULL);
+    }
+    inner
+}
+
+/// Every call that meets a table of this shape, about its cells.
+fn calls(shape: &Shape) -> [Call; 10] {
+    let (first, cells) = (shape.first() as u32, shape.cells as u32);
+    let (one, outer) = (shape.cell(0) as u32, shape.domains as u32);
+    [
+        Call::List,
+        Call::Look {
+            handle: 1,
+            cell: one,
+        },
+        Call::Restore { handle: 1 },
+        Call::Restore { handle: 0 },
+        Call::Advance { handle: 0 },
+        Call::Commit { handle: 0 },
+        Call::delete(0, first, cells),
+        Call::delete(outer, one, 1),
+        Call::via_parent(first, cells, 1),
+        Call::add(first, cells, 0, 0),
+    ]
+}
+
+#[test]
+fn same_in_every_layout() {
+    let mut random = Rng::new(0x0FED_CBA9_8765_4321);
+    let mut numbers = BTreeMap::new();
+    for shape in shapes() {
+        let held = laid_down(shape);
+        let (mut ours, mut theirs) = (held.clone(), held.clone());
+        let mut check = |random: &mut Rng, ours: &mut Buffers, call: &Call| {
+            theirs.copy_from(ours);
+            let budget = budget(random, 70 * shape.cells as u64);
+            let number = same(ours, &mut theirs, call, budget, || format!("{shape:?}"));
+            *numbers.entry(number).or_insert(0u64) += 1;
+            number
+        };
+        // Each call by itself on the table as it was laid down, and then a session.
+        for table in [&held, &with_inner(&held, &shape)] {
+            for call in calls(&shape) {
+                ours.copy_from(table);
+                ours.memory[64 * shape.cell(0)..][..64].fill(7);
+                check(&mut random, &mut ours, &call);
+            }
+        }
+        ours.copy_from(&held);
+        for _ in 0..60 {
+            let call = choose_in(&mut random, &ours, &shape);
+            if one_in(&mut random, 6) {
+                let cell = shape.cell(random.below(shape.cells as u64) as usize);
+                ours.memory[64 * cell..][..64].fill(random.below(4) as u8);
+            }
+            let damaged = one_in(&mut random, 8);
+            if damaged {
+                let sizes = ours.sizes();
+                damage(&mut random, &mut ours.table, sizes);
+            }
+            let number = check(&mut random, &mut ours, &call);
+            if number == STOPPED {
+                check(&mut random, &mut ours, &Call::Open);
+            }
+            // Back to the rich table.
+            if damaged || call == Call::Make || [2, 3].contains(&number) {
+                ours.copy_from(&held);
+            }
+        }
+    }
+    println!("answers by number: {numbers:?}");
+    for number in [0, 4, 11, 12, 13, 14, 15, 16, 17, STOPPED] {
         assert!(
             numbers.contains_key(&number),
             "no call was answered by {number}"
