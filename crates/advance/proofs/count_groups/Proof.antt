@@ -3,7 +3,6 @@ use Prim.Native.Nat.{ℕ, _+_, _-_, _≤_, _<_, _^_}
 use mathlib.Core.Path.{_≡_, refl, sym, ap, subst, _∙_}
 use native.Mathlib.Omega.{arith}
 use borrow.Author.Needs.{needs}
-use lib.Count.{ones}
 use lib.ListN.{length, getD, length-set, set}
 use Rattle.words.specs.Layout.{groupAt}
 use Rattle.words.specs.Scan.{count}
@@ -107,9 +106,10 @@ returns c = let a = c .before .before .before .before .before .before .args in
     let s = c .before .loop in
     let x = byGroup (a .seen .now) (a .bits .now) in
     let inside = c .before .before .before .before .before .before .pre .1 .0 .1 in
-    let last : s .g ≡ a .groups = omega (arith, s .inv .0, c .loop-test .left) in
-    (s .inv .2 ∙ ap (λ (k : ℕ). count (groupAt k) (isSet x)) last ∙ count-inside x (a .groups) 65536 (omega (arith, c .before .before .before .before .before .before .pre .1 .0 .0)) inside,
-    ends-inside x (a .groups) maxGroups _ inside (subst (λ (k : ℕ). Ends x k (byGroup (a .seen .now) (s .ends))) last (s .inv .3)))
+    let last : s .g ≡ a .groups = omega (arith, s .inv .0, c .loop-test .left) in (
+      s .inv .2 ∙ ap (λ (k : ℕ). count (groupAt k) (isSet x)) last ∙ count-inside x (a .groups) 65536 (omega (arith, c .before .before .before .before .before .before .pre .1 .0 .0)) inside,
+      ends-inside x (a .groups) maxGroups _ inside (subst (λ (k : ℕ). Ends x k (byGroup (a .seen .now) (s .ends))) last (s .inv .3)),
+    )
 
 pub count-groups-spec : {M : Type 1} → statement M
 count-groups-spec =

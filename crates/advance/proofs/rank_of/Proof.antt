@@ -3,7 +3,7 @@ use Prim.Native.Nat.{_<_, _^_}
 use mathlib.Core.Path.{_≡_, ap, _∙_}
 use native.Mathlib.Omega.{arith}
 use borrow.Author.Needs.{needs}
-use lib.ListN.{length, getD}
+use lib.ListN.{getD}
 use Rattle.words.specs.Layout.{groupOf}
 use Rattle.table.specs.Blocks.{blockOf, maxGroups}
 use Rattle.advance.specs.Notes.{byGroup}
