@@ -1,6 +1,6 @@
 -- Cells as bits, 64 to a number: how many bits are set before that of a cell, what is noted of each group, and one bit more. Then the pass over
 -- the entries that sets the bits of the cells. Assumes nothing.
-use Prim.Native.Nat.{ℕ, zero, suc, _+_, _*_, _/_, _%_, _^_, _≤_, _<_}
+use Prim.Native.Nat.{ℕ, zero, suc, _+_, _/_, _%_, _^_, _≤_, _<_}
 use mathlib.Core.Bool.{Bool, true, false, _&&_, _||_}
 use mathlib.Core.List.{List}
 use mathlib.Core.Path.{_≡_, refl, sym, ap, subst, _∙_}
@@ -9,18 +9,18 @@ use native.Mathlib.Omega.{arith}
 use borrow.Author.Tests.{eq-eqb, eqb-true, eqb-false}
 use lib.Count.{ones, ones-step}
 use lib.Dec.{eqb}
-use lib.ListN.{length, getD, set, List·getD-eq-default}
+use lib.ListN.{length, getD, List·getD-eq-default}
 use lib.Pow.{shr-shr, shr-lt}
-use lib.Seq.{getD-set-same, getD-set-other, set-getD}
+use lib.Seq.{set-getD}
 use Rattle.words.specs.Layout.{groupAt, groupOf}
 use Rattle.words.specs.Scan.{count}
-use Rattle.words.proofs.Scan.{by-bool, by-le, and-split, and-join, true≢, count-ext}
+use Rattle.words.proofs.Scan.{by-bool, by-le, is-false, and-split, and-join, true≢, count-ext}
 use Rattle.words.proofs.Nth.{count-below}
 use Rattle.table.specs.Entry.{word1, cellOf}
 use Rattle.table.specs.Marks.{Blank}
 use Rattle.table.proofs.Marks.{split}
 use Rattle.search.proofs.From.{count-stop}
-use Rattle.changes.specs.Staged.{bitAt, isSet}
+use Rattle.changes.specs.Staged.{bitAt, isSet, Inside}
 use Rattle.changes.proofs.Bits.{bit-none, bit-kept, set-at, more-here, more-other}
 use Rattle.advance.specs.Advance.{turns}
 use Rattle.advance.specs.Notes.{NoBits, markTurning, TurnedBits, Ends}
@@ -85,20 +85,20 @@ module _ (groups : List ℕ) where
       omega (arith, here, count-next (groupOf c) small, ones-rest (getD groups (groupOf c) 0) (c % 64))
 
   -- a cell with a bit belongs to one of the groups, which has a bit
-  group-some : (c : ℕ) → isSet groups c ≡ true → getD groups (groupOf c) 0 ≡ 0 → ⊥
+  pub group-some : (c : ℕ) → isSet groups c ≡ true → getD groups (groupOf c) 0 ≡ 0 → ⊥
   group-some c h z = true≢ h (bit-none (getD groups (groupOf c) 0) (c % 64) z)
 
   pub group-known : (c : ℕ) → isSet groups c ≡ true → groupOf c < length groups
   group-known c h = by-le (length groups) (groupOf c) (λ l. absurd (group-some c h (List·getD-eq-default groups 0 l))) (λ l. l)
 
   -- its rank, by what is noted of its group
-  pub ends-rank : (ends : List ℕ) (c : ℕ) → getD groups (groupOf c) 0 < 2 ^ 64 → Ends groups (length groups) ends → isSet groups c ≡ true
+  pub ends-rank : (g : ℕ) (ends : List ℕ) (c : ℕ) → getD groups (groupOf c) 0 < 2 ^ 64 → Ends groups g ends → groupOf c < g → isSet groups c ≡ true
       → getD ends (groupOf c) 0 ≡ count c (isSet groups) + ones (getD groups (groupOf c) 0 / 2 ^ (c % 64))
-  ends-rank ends c small noted h = noted .noted (groupOf c) (group-known c h) (group-some c h) ∙ rank-rest c small
+  ends-rank g ends c small noted l h = noted .noted c l h ∙ rank-rest c small
 
   -- which is below the number of all bits
-  pub rank-fits : (c : ℕ) → isSet groups c ≡ true → count c (isSet groups) < count (64 * length groups) (isSet groups)
-  rank-fits c h = count-below (isSet groups) c (64 * length groups) (omega (arith, group-known c h)) h
+  pub rank-fits : (m c : ℕ) → c < m → isSet groups c ≡ true → count c (isSet groups) < count m (isSet groups)
+  rank-fits m c l h = count-below (isSet groups) c m l h
 
   -- groups without a bit are passed over
   pub count-empty : (g h : ℕ) → g ≤ h → NoBits groups g h → count (groupAt g) (isSet groups) ≡ count (groupAt h) (isSet groups)
@@ -106,20 +106,20 @@ module _ (groups : List ℕ) where
       sym (count-stop (groupAt h) (groupAt g) (isSet groups) (omega arith)
       (λ c l b. bit-none (getD groups (groupOf c) 0) (c % 64) (empty (groupOf c) (omega arith) (omega arith))))
 
-  pub ends-none : (ends : List ℕ) → Ends groups 0 ends
-  ends-none ends = record { noted = λ k l. absurd (not-suc-le-zero l) }
+  -- none has a bit behind the g-th
+  pub count-inside : (g m : ℕ) → groupAt g ≤ m → Inside (groupAt g) groups → count (groupAt g) (isSet groups) ≡ count m (isSet groups)
+  count-inside g m l inside =
+      sym (count-stop m (groupAt g) (isSet groups) l (λ c far b. is-false (isSet groups c) (λ z. let near = inside c z in omega arith)))
 
-  pub ends-more : (g v : ℕ) (ends : List ℕ) → g < length ends → v ≡ count (groupAt (g + 1)) (isSet groups) → Ends groups g ends → Ends groups (g + 1) (set ends g v)
-  ends-more g v ends fits q old = record {
-    noted = λ k l some.
-        split g k l
-        (λ p. ap (λ (x : ℕ). getD (set ends g v) x 0) p ∙ getD-set-same ends g v 0 fits ∙ q ∙ ap (λ (x : ℕ). count (groupAt (x + 1)) (isSet groups)) (sym p))
-        (λ p. getD-set-other ends g k v 0 (λ z. omega arith) ∙ old .noted k p some);
-  }
+  pub ends-none : (ends : List ℕ) → Ends groups 0 ends
+  ends-none ends = record { noted = λ c l. absurd (not-suc-le-zero l) }
 
   pub ends-empty : (g h : ℕ) (ends : List ℕ) → NoBits groups g h → Ends groups g ends → Ends groups h ends
   ends-empty g h ends empty old =
-      record { noted = λ k l some. by-le g k (λ far. absurd (some (empty k far l))) (λ near. old .noted k near some) }
+      record { noted = λ c l some. by-le g (groupOf c) (λ far. absurd (group-some c some (empty (groupOf c) far l))) (λ near. old .noted c near some) }
+
+  pub ends-inside : (g h : ℕ) (ends : List ℕ) → Inside (groupAt g) groups → Ends groups g ends → Ends groups h ends
+  ends-inside g h ends inside old = record { noted = λ c l some. let near = inside c some in old .noted c (omega arith) some }
 
 -- ---- the pass over the entries
 
@@ -127,7 +127,7 @@ module _ (n w : ℕ) (groups : List ℕ) (fits : groupOf (cellOf w) < length gro
   abbrev own : ℕ
   own = getD groups (groupOf (cellOf w)) 0
 
-  marks-after : (c : ℕ) → isSet (markTurning n w groups) c ≡ (isSet groups c || (turns n w && eqb c (cellOf w)))
+  marks-after : (c : ℕ) → isSet (markTurning n w (groupOf (cellOf w)) groups) c ≡ (isSet groups c || (turns n w && eqb c (cellOf w)))
   marks-after c =
       by-bool (turns n w)
       (λ y. rw y
@@ -160,7 +160,7 @@ module _ (e : ℕ) (t : List ℕ) (n : ℕ) where
         found = λ c h. absurd (group-some groups c h (blank (groupOf c)));
       }
 
-  pub turned-more : (k : ℕ) (groups : List ℕ) → groupOf (cellOf (word1 e t k)) < length groups → TurnedBits e t n k groups → TurnedBits e t n (k + 1) (markTurning n (word1 e t k) groups)
+  pub turned-more : (k : ℕ) (groups : List ℕ) → groupOf (cellOf (word1 e t k)) < length groups → TurnedBits e t n k groups → TurnedBits e t n (k + 1) (markTurning n (word1 e t k) (groupOf (cellOf (word1 e t k))) groups)
   turned-more k groups fits m =
       record {
         clear = λ c h j l u q.

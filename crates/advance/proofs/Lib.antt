@@ -2,6 +2,7 @@
 pub mod Turning
 pub mod Choosing
 pub mod Bits
+pub mod Blocks
 pub mod Listing
 pub mod Noting
 pub mod Performing

@@ -1,13 +1,13 @@
 -- Laws of the questions asked of the entries, and of the list by which the code settles which body each cell gets. Assumes nothing.
-use Prim.Native.Nat.{ℕ, zero, suc, _+_, _*_, _≤_, _<_}
+use Prim.Native.Nat.{ℕ, zero, suc, _+_, _≤_, _<_}
 use mathlib.Core.Bool.{Bool, true, false, cond, not, _&&_, _||_}
 use mathlib.Core.List.{List, []}
 use mathlib.Core.Path.{_≡_, refl, sym, ap, subst, _∙_}
 use native.Mathlib.Omega.{arith}
-use borrow.Author.Tests.{eq-eqb, eqb-true, eqb-false, leb-false, lt-ltb}
+use borrow.Author.Tests.{eq-eqb, leb-false, lt-ltb}
 use lib.Dec.{leb, ltb, eqb}
 use lib.ListN.{length, getD}
-use Rattle.words.specs.Layout.{slotsOf}
+use Rattle.words.specs.Layout.{maxCells, slotsOf}
 use Rattle.words.specs.Scan.{all, count, nth}
 use Rattle.words.specs.Stores.{gather}
 use Rattle.words.specs.Cells.{cellPlan}
@@ -15,19 +15,19 @@ use Rattle.words.proofs.Scan.{by-bool, by-le, is-false, is-true, true≢, and-s
 use Rattle.words.proofs.Gather.{gather-ext}
 use Rattle.words.proofs.Nth.{count-below, nth-holds, nth-rank, nth-ext}
 use Rattle.table.specs.Entry.{live, word1, word2, depthOf, writableOf, cellOf, parent, findIn, holdsIn, ownsBody}
-use Rattle.table.specs.Marks.{Marks, Marked, IsCopy, cellIn, has, markAt}
+use Rattle.table.specs.Marks.{Marks, Marked, FreeRun, IsCopy, cellIn, has, markAt}
 use Rattle.table.proofs.Entry.{find-hit, holds-found}
 use Rattle.table.proofs.Rule.{Rule}
 use Rattle.table.proofs.Single.{only-one}
 use Rattle.table.proofs.Marks.{marked-holds}
 use Rattle.search.specs.Free.{isCopy, bodyFree, copies, lowestFree, unmarked}
 use Rattle.search.proofs.From.{count-stop}
-use Rattle.search.proofs.Counts.{count-entries}
+use Rattle.search.proofs.Counts.{count-front, count-entries}
 use Rattle.search.proofs.Free.{unmarked-free}
-use Rattle.changes.specs.Staged.{isSet}
+use Rattle.changes.specs.Staged.{isSet, Inside}
 use Rattle.model.specs.Answer.{ask}
 use Rattle.advance.specs.Advance.{advances, bodyFor, turns, turnsAt, changeWith, advanceBytes}
-use Rattle.advance.specs.Notes.{FreeFrom, entriesCheck, TurnedBits, OwnBits, ListedSlots, rankOf, InOrder, changeTo}
+use Rattle.advance.specs.Notes.{entriesCheck, TurnedBits, OwnBits, ListedSlots, rankOf, InOrder, changeTo}
 use Rattle.advance.proofs.Turning.{advances-of, advances-cell}
 use Rattle.advance.proofs.Choosing.{enough}
 use Rattle.advance.proofs.Listing.{gather-listed}
@@ -47,19 +47,19 @@ all-stop (suc n) from f l h =
     all-left true y q = sym q
     all-left false y q = refl
 
-module _ (e : ℕ) (t : List ℕ) (top : ℕ) (within : top ≤ e) (free : FreeFrom e t top) where
+module _ (e : ℕ) (t : List ℕ) (top : ℕ) (within : top ≤ e) (free : FreeRun e t top e) where
   none-turns : (n : ℕ) → turns n 0 ≡ false
   none-turns n = is-false (turns n 0) (λ y. true≢ (and-split (eqb (depthOf 0) n) (eqb (writableOf 0) 1) y .1) refl)
 
   free-stays : (n k : ℕ) → top ≤ k → k < e → turns n (word1 e t k) ≡ false
-  free-stays n k l h = ap (turns n) (free k l h) ∙ none-turns n
+  free-stays n k l h = ap (turns n) (free k l h .0) ∙ none-turns n
 
   pub turning-front : (n : ℕ) → count top (λ i. turns n (word1 e t i)) ≡ count e (λ i. turns n (word1 e t i))
-  turning-front n = sym (count-stop e top (λ i. turns n (word1 e t i)) within (free-stays n))
+  turning-front n = count-front e t top within free (turns n) (none-turns n)
 
   pub copies-front : count top (isCopy e t) ≡ copies e t
   unfolding copies
-  copies-front = sym (count-stop e top (isCopy e t) within (λ k l h. ap ownsBody (free k l h)))
+  copies-front = count-front e t top within free ownsBody refl
 
   pub covered-front : (n : ℕ) (P : ℕ → Bool) → all top (λ i. not (turns n (word1 e t i)) || P (word1 e t i)) ≡ all e (λ i. not (turns n (word1 e t i)) || P (word1 e t i))
   covered-front n P =
@@ -98,13 +98,6 @@ covers e t seen n told =
     (λ i l. ap (λ (x : Bool). not (turns n (word1 e t i)) || x) (marked-holds e t seen told (parent n) (cellOf (word1 e t i)) (omega arith)))))
 
 module _ (m e b : ℕ) (t : List ℕ) (ok : Rule m e b t) where
-  -- every entry's cell has a mark, a free entry's too
-  pub cells-fit : (marks : ℕ) → 1 ≤ m → m ≤ marks → (i : ℕ) → i < e → cellOf (word1 e t i) < marks
-  cells-fit marks low high i l =
-      by-bool (eqb (word1 e t i) 0)
-      (λ z. omega (arith, eqb-true (word1 e t i) 0 z))
-      (λ z. omega (arith, ok .used i l (eqb-false (word1 e t i) 0 z) .cell))
-
   -- the entry of a cell that advances
   entry-of : (c : ℕ) → advances e t c ≡ true → (i : ℕ) × (i < e) × (turnsAt e t i ≡ true) × (cellOf (word1 e t i) ≡ c)
   entry-of c h =
@@ -168,10 +161,13 @@ module _ (m e b : ℕ) (t : List ℕ) (ok : Rule m e b t) where
 
   module _ (groups : List ℕ) (bits : (c : ℕ) → isSet groups c ≡ advances e t c) where
     -- no cell behind memory has a bit, so that there are as many bits as cells that advance
-    pub bits-count : m ≤ 64 * length groups → count (64 * length groups) (isSet groups) ≡ count m (advances e t)
-    bits-count long =
-        count-ext (64 * length groups) (isSet groups) (advances e t) (λ k l. bits k)
-        ∙ count-stop (64 * length groups) m (advances e t) long (λ c l h. is-false (advances e t c) (λ a. let inside = advances-cell m e b t ok c a in omega arith))
+    pub bits-count : m ≤ maxCells → count maxCells (isSet groups) ≡ count m (advances e t)
+    bits-count high =
+        count-ext maxCells (isSet groups) (advances e t) (λ k l. bits k)
+        ∙ count-stop maxCells m (advances e t) high (λ c l h. is-false (advances e t c) (λ a. let inside = advances-cell m e b t ok c a in omega arith))
+
+    pub bits-inside : Inside m groups
+    bits-inside c h = advances-cell m e b t ok c (sym (bits c) ∙ h)
 
     pub own-bits : 1 ≤ live t → OwnBits e t (live t) groups
     own-bits low = record {

@@ -4,7 +4,7 @@ use mathlib.Core.List.{List, [], _++_}
 use mathlib.Core.Path.{_≡_, ap, _∙_}
 use native.Mathlib.Omega.{arith}
 use lib.ListN.{length, take, getD}
-use Rattle.words.specs.Layout.{cellAt, cellsOf, bodiesOf, slotsOf, pairsAt}
+use Rattle.words.specs.Layout.{cellAt, cellsOf, bodiesOf, slotsOf, pairsAt, maxCells, groupAt}
 use Rattle.words.specs.Scan.{count, nth}
 use Rattle.words.specs.Stores.{Store, stores, gather}
 use Rattle.words.specs.Cells.{cellPlan}
@@ -14,16 +14,16 @@ use Rattle.table.specs.Marks.{cellIn}
 use Rattle.table.specs.Changes.{entryChanges}
 use Rattle.table.proofs.Rule.{Rule}
 use Rattle.search.specs.Free.{unmarked}
-use Rattle.changes.specs.Staged.{isSet, staged, Stages}
+use Rattle.changes.specs.Staged.{isSet, Inside, staged, Stages}
 use Rattle.changes.proofs.Staging.{stages-ext, stages-words}
 use Rattle.model.specs.Answer.{Report, ended}
 use Rattle.store.specs.Outcome.{buffers, outcome, leaves}
-use Rattle.store.proofs.Checks.{}
+use Rattle.store.proofs.Checks.{store-lengths}
 use Rattle.store.proofs.Raw.{raw-rule}
 use Rattle.advance.specs.Advance.{advances, advanceWords}
 use Rattle.advance.specs.Notes.{CellBits, Ready, performed, OwnBits, ListedSlots, InOrder, changeTo}
 use Rattle.advance.proofs.Listing.{plans-length}
-use Rattle.advance.proofs.Noting.{advances-few, bits-count, own-bits, in-order, listed-inside, room-unmarked, listed-bytes, change-all}
+use Rattle.advance.proofs.Noting.{advances-few, bits-count, bits-inside, own-bits, in-order, listed-inside, room-unmarked, listed-bytes, change-all}
 use Rattle.advance.proofs.Advanced.{advance-performed}
 
 module _ (memory bodies t used : List ℕ) (ready : Ready (length memory) (length bodies) t used) where
@@ -50,8 +50,12 @@ module _ (memory bodies t used : List ℕ) (ready : Ready (length memory) (lengt
     pub ready-own : OwnBits (slotsOf (length t)) t (live t) groups
     ready-own = own-bits m e b t ok groups (bits .each) (ready .lives)
 
-    pub ready-count : cellsOf (length memory) ≤ 64 * length groups → count (64 * length groups) (isSet groups) ≡ count (cellsOf (length memory)) (advances (slotsOf (length t)) t)
-    ready-count = bits-count m e b t ok groups (bits .each)
+    pub ready-count : count maxCells (isSet groups) ≡ count (cellsOf (length memory)) (advances (slotsOf (length t)) t)
+    ready-count = bits-count m e b t ok groups (bits .each) (store-lengths _ _ t (ready .stands) .cells-high)
+
+    -- no group behind memory's has a bit
+    pub ready-inside : (g : ℕ) → cellsOf (length memory) ≤ groupAt g → Inside (groupAt g) groups
+    ready-inside g l c h = let inside = bits-inside m e b t ok groups (bits .each) c h in omega arith
 
     pub ready-order : (n : ℕ) (places : List ℕ) → n ≡ count (cellsOf (length memory)) (advances (slotsOf (length t)) t)
         → ListedSlots (slotsOf (length t)) t (live t) (isSet groups) (slotsOf (length t)) places → InOrder (slotsOf (length t)) t n places

@@ -8,8 +8,10 @@ use lib.Dec.{leb, ltb}
 use lib.ListN.{length, getD, set}
 use Rattle.words.specs.Layout.{cellsOf, bodiesOf, slotsOf, pairsAt, groupAt, groupOf, inGroup}
 use Rattle.words.specs.Scan.{all, count}
+use Rattle.words.specs.Stores.{tab}
 use Rattle.table.specs.Entry.{live, word1, word2, cellOf, innermost, parent, isOutermost, holdsIn}
-use Rattle.table.specs.Marks.{Marks, IsCopy, cellIn}
+use Rattle.table.specs.Blocks.{blockOf, blockAt, maxGroups, Kept}
+use Rattle.table.specs.Marks.{Marks, IsCopy, EndsAt, cellIn}
 use Rattle.table.specs.Changes.{Change, keep}
 use Rattle.search.specs.Free.{copies, lowestFree, unmarked}
 use Rattle.changes.specs.Staged.{withBit, isSet}
@@ -17,10 +19,6 @@ use Rattle.model.specs.Answer.{ask}
 use Rattle.store.specs.Outcome.{Buffers, Call, perform, changePlan}
 use Rattle.store.specs.Checks.{storeCheck, lent}
 use Rattle.advance.specs.Advance.{advances, turns, changeWith, advanceBytes, advanceWords}
-
--- the entries from the n-th on are free
-abbrev pub FreeFrom : ℕ → List ℕ → ℕ → Type 0
-FreeFrom e t n = (i : ℕ) → n ≤ i → i < e → word1 e t i ≡ 0
 
 -- questions 15 and 17, asked of e entries, for b bodies
 abbrev pub entriesCheck : (e b : ℕ) → List ℕ → ℕ
@@ -34,9 +32,24 @@ entriesCheck e b t =
 abbrev pub NoBits : List ℕ → ℕ → ℕ → Type 0
 NoBits groups g h = (k : ℕ) → g ≤ k → k < h → getD groups k 0 ≡ 0
 
--- the groups after an entry with first word w, where n domains are live: one that advances sets its cell's bit
-abbrev pub markTurning : (n w : ℕ) → List ℕ → List ℕ
-markTurning n w groups = set groups (groupOf (cellOf w)) (withBit (turns n w) (inGroup (cellOf w)) (getD groups (groupOf (cellOf w)) 0))
+-- such numbers stand at the groups' blocks, as the marks' directory tells them: here they are in the order of the groups
+unfoldable pub byGroup : (seen numbers : List ℕ) → List ℕ
+byGroup seen numbers = tab maxGroups (λ g. getD numbers (blockOf seen g) 0)
+
+-- has cell c a bit?
+abbrev pub hasBit : (seen bits : List ℕ) → ℕ → Bool
+hasBit seen bits = isSet (byGroup seen bits)
+
+-- the directory is right, there is a number for each of its blocks, and block 0, which no group has, has no bit
+pub record BlockBits (seen bits : List ℕ) : Type 0 where
+  pub kept : Kept seen
+  pub room : length seen ≤ blockAt (length bits)
+  pub front : getD bits 0 0 ≡ 0
+
+-- the numbers after an entry with first word w, whose cell's group has its number at k, where n domains are live: one that advances sets its
+-- cell's bit
+abbrev pub markTurning : (n w k : ℕ) → List ℕ → List ℕ
+markTurning n w k bits = set bits k (withBit (turns n w) (inGroup (cellOf w)) (getD bits k 0))
 
 -- the bits set are those of the first k entries that advance, where n domains are live
 pub record TurnedBits (e : ℕ) (t : List ℕ) (n k : ℕ) (groups : List ℕ) : Type 0 where
@@ -56,6 +69,12 @@ pub record Ready (memory bodies : ℕ) (t used : List ℕ) : Type 0 where
   pub room : copies (slotsOf (length t)) t + count (cellsOf memory) (advances (slotsOf (length t)) t) ≤ bodiesOf bodies
   pub marks : Marks (IsCopy (slotsOf (length t)) t) (word2 (slotsOf (length t)) t) 1 (slotsOf (length t)) used
 
+-- the cells that advance have their bits, at the blocks of their groups, and no entry from `top` on is in use
+pub record Told (t : List ℕ) (top : ℕ) (seen bits : List ℕ) : Type 0 where
+  pub cells : CellBits t (byGroup seen bits)
+  pub blocks : BlockBits seen bits
+  pub ends : EndsAt (slotsOf (length t)) t top
+
 -- it is carried out
 abbrev pub performed : Buffers → Call
 performed b =
@@ -64,9 +83,9 @@ performed b =
 
 -- ---- the list of the entries that advance, in the order of their cells
 
--- each group with a bit, of the first g, has the number of bits up to its end noted
+-- each cell with a bit, in one of the first g groups, has noted at its group how many bits there are up to the group's end
 pub record Ends (groups : List ℕ) (g : ℕ) (ends : List ℕ) : Type 0 where
-  pub noted : (k : ℕ) → k < g → (getD groups k 0 ≡ 0 → ⊥) → getD ends k 0 ≡ count (groupAt (k + 1)) (isSet groups)
+  pub noted : (c : ℕ) → groupOf c < g → isSet groups c ≡ true → getD ends (groupOf c) 0 ≡ count (groupAt (groupOf c + 1)) (isSet groups)
 
 -- each entry that advances where n domains are live has a bit of its own
 pub record OwnBits (e : ℕ) (t : List ℕ) (n : ℕ) (groups : List ℕ) : Type 0 where

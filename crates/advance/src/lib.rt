@@ -1,8 +1,9 @@
 // Advance: every read-write cell of the innermost domain gets memory's bytes, as a copy in a body that was free.
 //
 // A body in use is never written, so that a cut leaves the old copies whole. The questions are asked of the entries and not of the cells: there
-// may be 65,536 cells, but no more than 4,096 entries. The entries that advance set their cells' bits, 64 cells to a number, and a walk over these
-// numbers notes how many bits there are up to the end of each. That tells the rank of each cell, and a pass over the entries lists the slots of
+// may be 65,536 cells, but no more than 4,096 entries. The entries that advance set their cells' bits, 64 cells to a number, and there is a number
+// for each block of the marks that question 4 made: so they cost what the table has and not what memory has. A walk over the groups that have a
+// block notes how many bits there are up to the end of each. That tells the rank of each cell, and a pass over the entries lists the slots of
 // those that advance in the order of their cells. Along the list each cell is copied into the lowest body that is free, and its entry is staged
 // with that body. Then the staged words are written by the journal.
 use changes::few_bits;
@@ -18,20 +19,27 @@ use store::Answer;
 use store::answer_of;
 use store::innermost_check;
 use store::store_check;
-use table::FEW_CELLS;
 use table::FEW_SLOTS;
+use table::cell_marks::FEW_BLOCKS;
+use table::cell_marks::SOME_BLOCKS;
+use table::cell_marks::block_of;
+use table::cell_marks::blocks_wanted;
+use table::cell_marks::few_marks;
+use table::cell_marks::group_of;
+use table::cell_marks::has_depth;
+use table::cell_marks::many_marks;
+use table::cell_marks::mark_of;
+use table::cell_marks::past_blank;
+use table::cell_marks::some_marks;
 use table::domains::parent_of;
-use table::few_marks;
 use table::fields::cell_of;
 use table::fields::depth_of;
 use table::fields::is_writable;
 use table::fields::owns_body;
 use table::fields::to_copy;
 use table::first_word;
-use table::has_depth;
-use table::many_marks;
-use table::mark_of;
 use table::no_bodies;
+use table::reach_of;
 use words::copy_cell;
 use words::layout::CELL_SIZE;
 use words::layout::GROUP_SIZE;
@@ -50,41 +58,15 @@ ghost use Rattle.words.specs.Scan.{all, count, nth};
 ghost use Rattle.words.specs.Stores.{stores, gather};
 ghost use Rattle.words.specs.Cells.{cellPlan};
 ghost use Rattle.table.specs.Entry.{live, word1, parent, cellOf, asCopy};
-ghost use Rattle.table.specs.Marks.{Blank, Marked, cellIn, has, markAt, zeros};
+ghost use Rattle.table.specs.Blocks.{blockOf, blockAt, maxGroups, directoryEnd, Kept, Enough};
+ghost use Rattle.table.specs.Marks.{Blank, Marked, EndsAt, Reached, RoomForMarks, cellIn, has, markAt, zeros};
 ghost use Rattle.table.specs.Changes.{keep, put};
 ghost use Rattle.search.specs.Free.{copies, unmarked};
-ghost use Rattle.changes.specs.Staged.{isSet, Restaged, Stages};
+ghost use Rattle.changes.specs.Staged.{Inside, Restaged, Stages};
 ghost use Rattle.store.specs.Outcome.{buffers, report, Makes};
 ghost use Rattle.store.specs.Means.{Shows};
 ghost use Rattle.advance.specs.Advance.{advances, advanceCheck, advanceCall, advanceMeans, turns};
-ghost use Rattle.advance.specs.Notes.{FreeFrom, entriesCheck, NoBits, markTurning, TurnedBits, CellBits, Ready, performed, Ends, OwnBits, listSlot, ListedSlots, InOrder, changeTo};
-
-// ---- the entries in use
-
-// Are the four entries from i on free?
-fn four_free(table: &[u32], slots: usize, i: usize) -> bool
-    requires { ⌜ (i + 4 ≤ slots) × (slots ≤ maxSlots) × (pairsAt slots ≤ length (now table)) ⌝ }
-    ensures { λ r. ⌜ (r ≡ true → (k : ℕ) → i ≤ k → k < i + 4 → word1 slots (now (table .entry)) k ≡ 0) ⌝ }
-{
-    ((first_word(table, slots, i) == 0) & (first_word(table, slots, i + 1) == 0))
-        & ((first_word(table, slots, i + 2) == 0) & (first_word(table, slots, i + 3) == 0))
-}
-
-// A number of entries behind which all are free. Entries are taken from the front and most tables have room to spare: the passes over the
-// entries end there. Four are asked at once, so that the number may be three too large.
-fn last_in_use(table: &[u32], slots: usize) -> usize
-    requires { ⌜ (slots ≤ maxSlots) × (pairsAt slots ≤ length (now table)) ⌝ }
-    ensures { λ r. ⌜ (r ≤ slots) × FreeFrom slots (now (table .entry)) r ⌝ }
-{
-    let mut n = slots;
-    while 4 <= n {
-        if !four_free(table, slots, n - 4) {
-            return n;
-        }
-        n -= 4;
-    }
-    n
-}
+ghost use Rattle.advance.specs.Notes.{entriesCheck, byGroup, hasBit, BlockBits, markTurning, TurnedBits, Ready, Told, performed, Ends, OwnBits, listSlot, ListedSlots, InOrder, changeTo};
 
 // ---- the questions: 0, or the number of the first no
 
@@ -96,9 +78,9 @@ fn turns_word(word: u32, live: u32) -> bool
 }
 
 // How many bodies there must be: one for each copy, and one more for each entry that advances. It takes no branch on what an entry holds and
-// counts in numbers as wide as a word, so that the compiler can count several entries at once.
+// counts in numbers as wide as a word, so that the compiler can count several entries at once. No entry from `top` on is in use.
 fn bodies_wanted(table: &[u32], slots: usize, top: usize, live: u32) -> usize
-    requires { ⌜ (slots ≤ maxSlots) × (pairsAt slots ≤ length (now table)) × (top ≤ slots) × FreeFrom slots (now table) top ⌝ }
+    requires { ⌜ (slots ≤ maxSlots) × (pairsAt slots ≤ length (now table)) × EndsAt slots (now table) top ⌝ }
     ensures { λ r. ⌜ r ≡ copies slots (now (table .entry)) + count slots (λ i. turns live (word1 slots (now (table .entry)) i)) ⌝ }
 {
     let mut copies: u32 = 0;
@@ -113,21 +95,15 @@ fn bodies_wanted(table: &[u32], slots: usize, top: usize, live: u32) -> usize
     wide(copies + turning)
 }
 
-// The group of cells to which a cell belongs.
-fn group_of(cell: usize) -> usize
-    ensures { λ r. ⌜ r ≡ groupOf cell ⌝ }
-{
-    cell / GROUP_SIZE
-}
-
-// Sets the bit of an entry's cell where the entry advances. Any other entry sets no bit.
-fn mark_turning(groups: &mut [u64], word: u32, live: u32)
-    requires { ⌜ groupOf (cellOf word) < length (now groups) ⌝ }
-    ensures { λ _. ⌜ now (groups .exit) ≡ markTurning live word (now (groups .entry)) ⌝ }
+// Sets the bit of an entry's cell where the entry advances, in the number of its group's block. Any other entry sets no bit: also a free one, whose
+// word names cell 0.
+fn mark_turning(bits: &mut [u64], seen: &[u8], word: u32, live: u32)
+    requires { ⌜ (directoryEnd ≤ length (now seen)) × (blockOf (now seen) (groupOf (cellOf word)) < length (now bits)) ⌝ }
+    ensures { λ _. ⌜ now (bits .exit) ≡ markTurning live word (blockOf (now (seen .entry)) (groupOf (cellOf word))) (now (bits .entry)) ⌝ }
 {
     let cell = cell_of(word);
-    let g = group_of(cell);
-    groups[g] = with_bit(groups[g], cell % GROUP_SIZE, turns_word(word, live));
+    let b = block_of(seen, group_of(cell));
+    bits[b] = with_bit(bits[b], cell % GROUP_SIZE, turns_word(word, live));
 }
 
 // Sets the bits of the cells of all entries that advance. Returns whether the parent holds all these cells, as the marks of the entries'
@@ -138,13 +114,13 @@ fn mark_groups(
     top: usize,
     live: u32,
     seen: &[u8],
-    groups: &mut [u64],
+    bits: &mut [u64],
 ) -> bool
-    requires { ⌜ (slots ≤ maxSlots) × (pairsAt slots ≤ length (now table)) × (1 ≤ live) × (live ≤ maxLive) × (top ≤ slots) × FreeFrom slots (now table) top ⌝ }
-    requires { ⌜ ((i : ℕ) → i < slots → cellIn slots (now table) i < length (now seen)) × (length (now seen) ≤ groupAt (length (now groups))) × Blank (now groups) ⌝ }
+    requires { ⌜ (slots ≤ maxSlots) × (pairsAt slots ≤ length (now table)) × (1 ≤ live) × (live ≤ maxLive) × EndsAt slots (now table) top ⌝ }
+    requires { ⌜ Marked slots (now table) slots (now seen) × Kept (now seen) × (length (now seen) ≤ blockAt (length (now bits))) × Blank (now bits) ⌝ }
     ensures covered { λ r. ⌜ r
         ≡ all slots (λ i. not (turns live (word1 slots (now (table .entry)) i)) || has (parent live) (markAt (now (seen .entry)) (word1 slots (now (table .entry)) i))) ⌝ }
-    ensures bits { λ _. ⌜ TurnedBits slots (now (table .entry)) live slots (now (groups .exit)) ⌝ }
+    ensures bits { λ _. ⌜ TurnedBits slots (now (table .entry)) live slots (byGroup (now (seen .entry)) (now (bits .exit))) × (getD (now (bits .exit)) 0 0 ≡ 0) ⌝ }
 {
     let mut good = true;
     let mut i: usize = 0;
@@ -152,7 +128,7 @@ fn mark_groups(
         let word = first_word(table, slots, i);
         let held = has_depth(mark_of(seen, cell_of(word)), parent_of(live));
         good = good & (!turns_word(word, live) | held);
-        mark_turning(groups, word, live);
+        mark_turning(bits, seen, word, live);
         i += 1;
     }
     good
@@ -160,15 +136,21 @@ fn mark_groups(
 
 // Questions 15 and 17, asked of the entries: a right table has as many innermost read-write entries as such cells. The bits of the cells of
 // these entries are set on the way.
-fn entries_check(table: &[u32], slots: usize, bodies: usize, seen: &[u8], groups: &mut [u64]) -> u32
-    requires { ⌜ (slots ≤ maxSlots) × (pairsAt slots ≤ length (now table)) × (1 ≤ live (now table)) × (live (now table) ≤ maxLive) × Marked slots (now table) slots (now seen) ⌝ }
-    requires { ⌜ ((i : ℕ) → i < slots → cellIn slots (now table) i < length (now seen)) × (length (now seen) ≤ groupAt (length (now groups))) × Blank (now groups) ⌝ }
+fn entries_check(
+    table: &[u32],
+    slots: usize,
+    top: usize,
+    bodies: usize,
+    seen: &[u8],
+    bits: &mut [u64],
+) -> u32
+    requires { ⌜ (slots ≤ maxSlots) × (pairsAt slots ≤ length (now table)) × (1 ≤ live (now table)) × (live (now table) ≤ maxLive) × EndsAt slots (now table) top ⌝ }
+    requires { ⌜ Marked slots (now table) slots (now seen) × Kept (now seen) × (length (now seen) ≤ blockAt (length (now bits))) × Blank (now bits) ⌝ }
     ensures no { λ r. ⌜ r ≡ entriesCheck slots bodies (now (table .entry)) ⌝ }
-    ensures bits { λ _. ⌜ TurnedBits slots (now (table .entry)) (live (now (table .entry))) slots (now (groups .exit)) ⌝ }
+    ensures bits { λ _. ⌜ TurnedBits slots (now (table .entry)) (live (now (table .entry))) slots (byGroup (now (seen .entry)) (now (bits .exit))) × (getD (now (bits .exit)) 0 0 ≡ 0) ⌝ }
 {
     let live = table[LIVE_AT];
-    let top = last_in_use(table, slots);
-    let covered = mark_groups(table, slots, top, live, seen, groups);
+    let covered = mark_groups(table, slots, top, live, seen, bits);
     if !((live <= 1) | covered) {
         return 15;
     }
@@ -178,23 +160,23 @@ fn entries_check(table: &[u32], slots: usize, bodies: usize, seen: &[u8], groups
     0
 }
 
-// The questions put to advance. Once no question refuses the call, the bodies in use are marked, and the groups have the bits of the cells that
-// advance.
+// The questions put to advance. Once no question refuses the call, the bodies in use are marked, and the cells that advance have their bits.
 fn advance_check(
     memory: usize,
     bodies: usize,
     table: &[u32],
+    top: usize,
     handle: u32,
     seen: &mut [u8],
     used: &mut [u8],
-    groups: &mut [u64],
+    bits: &mut [u64],
 ) -> u32
-    requires room { ⌜ (min (cellsOf memory) maxCells ≤ length (now seen)) × (length (now used) ≡ maxBodies) ⌝ }
-    requires blank { ⌜ Blank (now seen) × Blank (now used) × Blank (now groups) × (length (now seen) ≤ groupAt (length (now groups))) ⌝ }
+    requires room { ⌜ RoomForMarks (now table) (cellsOf memory) top (now seen) (now used) ⌝ }
+    requires blank { ⌜ (length (now seen) ≤ blockAt (length (now bits))) × Blank (now bits) ⌝ }
     ensures no { λ r. ⌜ r ≡ advanceCheck (lent memory bodies (now (table .entry))) handle ⌝ }
-    ensures ready { λ r. ⌜ (r ≡ 0 → Ready memory bodies (now (table .entry)) (now (used .exit)) × CellBits (now (table .entry)) (now (groups .exit))) ⌝ }
+    ensures ready { λ r. ⌜ (r ≡ 0 → Ready memory bodies (now (table .entry)) (now (used .exit)) × Told (now (table .entry)) top (now (seen .exit)) (now (bits .exit))) ⌝ }
 {
-    let no = store_check(memory, bodies, table, seen, used);
+    let no = store_check(memory, bodies, table, top, seen, used);
     if no != 0 {
         return no;
     }
@@ -202,60 +184,47 @@ fn advance_check(
     if outer != 0 {
         return outer;
     }
-    entries_check(table, slots_of(table.len()), cells_of(bodies), seen, groups)
+    entries_check(
+        table,
+        slots_of(table.len()),
+        top,
+        cells_of(bodies),
+        seen,
+        bits,
+    )
 }
 
 // ---- the entries that advance, in the order of their cells
 
-// Has no cell of the four groups from g on a bit?
-fn four_empty(groups: &[u64], g: usize) -> bool
-    requires { ⌜ g + 4 ≤ length (now groups) ⌝ }
-    ensures { λ r. ⌜ (r ≡ true → NoBits (now (groups .entry)) g (g + 4)) ⌝ }
-{
-    ((groups[g] == 0) & (groups[g + 1] == 0)) & ((groups[g + 2] == 0) & (groups[g + 3] == 0))
-}
-
-// Passes over groups without a bit from `from` on, four at a time: most of a large memory's have none.
-fn past_empty(groups: &[u64], from: usize) -> usize
-    requires { ⌜ from ≤ length (now groups) ⌝ }
-    ensures { λ r. ⌜ (from ≤ r) × (r ≤ length (now (groups .entry))) × NoBits (now (groups .entry)) from r ⌝ }
-{
-    let mut g = from;
-    while g + 4 <= groups.len() {
-        if !four_empty(groups, g) {
-            return g;
-        }
-        g += 4;
-    }
-    g
-}
-
-// Notes for each group with a bit how many bits there are up to its end. Returns how many there are.
-fn count_groups(groups: &[u64], ends: &mut [u16]) -> usize
-    requires room { ⌜ length (now ends) ≡ length (now groups) ⌝ }
-    requires few { ⌜ count (groupAt (length (now groups))) (isSet (now groups)) ≤ maxSlots ⌝ }
-    ensures counted { λ r. ⌜ r ≡ count (groupAt (length (now (groups .entry)))) (isSet (now (groups .entry))) ⌝ }
-    ensures noted { λ _. ⌜ Ends (now (groups .entry)) (length (now (groups .entry))) (now (ends .exit)) ⌝ }
+// Notes for each group with a bit how many bits there are up to its end, at its block. Returns how many there are. No group from `groups` on has
+// a bit. Groups without a block are passed over; one that is not has the number of block 0, which has no bit.
+fn count_groups(seen: &[u8], bits: &[u64], groups: usize, ends: &mut [u16]) -> usize
+    requires room { ⌜ BlockBits (now seen) (now bits) × (length (now ends) ≡ length (now bits)) ⌝ }
+    requires inside { ⌜ (groups ≤ maxGroups) × Inside (groupAt groups) (byGroup (now seen) (now bits)) ⌝ }
+    requires few { ⌜ count maxCells (hasBit (now seen) (now bits)) ≤ maxSlots ⌝ }
+    ensures counted { λ r. ⌜ r ≡ count maxCells (hasBit (now (seen .entry)) (now (bits .entry))) ⌝ }
+    ensures noted { λ _. ⌜ Ends (byGroup (now (seen .entry)) (now (bits .entry))) maxGroups (byGroup (now (seen .entry)) (now (ends .exit))) ⌝ }
 {
     let mut n: usize = 0;
-    let mut g = past_empty(groups, 0);
-    while g < groups.len() {
-        n += wide(u64::count_ones(groups[g]));
-        ends[g] = n as u16;
-        g = past_empty(groups, g + 1);
+    let mut g = past_blank(seen, 0, groups);
+    while g < groups {
+        let b = block_of(seen, g);
+        n += wide(u64::count_ones(bits[b]));
+        ends[b] = n as u16;
+        g = past_blank(seen, g + 1, groups);
     }
     n
 }
 
 // How many bits there are before that of a cell, which is set: those up to the end of its group less those from its own on.
-fn rank_of(groups: &[u64], ends: &[u16], cell: usize) -> usize
-    requires sized { ⌜ length (now ends) ≡ length (now groups) ⌝ }
-    requires noted { ⌜ Ends (now groups) (length (now groups)) (now ends) ⌝ }
-    requires here { ⌜ isSet (now groups) cell ≡ true ⌝ }
-    ensures { λ r. ⌜ (r ≡ count cell (isSet (now (groups .entry)))) × (r < count (groupAt (length (now (groups .entry)))) (isSet (now (groups .entry)))) ⌝ }
+fn rank_of(seen: &[u8], bits: &[u64], ends: &[u16], cell: usize) -> usize
+    requires sized { ⌜ BlockBits (now seen) (now bits) × (length (now ends) ≡ length (now bits)) ⌝ }
+    requires noted { ⌜ Ends (byGroup (now seen) (now bits)) maxGroups (byGroup (now seen) (now ends)) ⌝ }
+    requires here { ⌜ hasBit (now seen) (now bits) cell ≡ true ⌝ }
+    ensures { λ r. ⌜ (r ≡ count cell (hasBit (now (seen .entry)) (now (bits .entry)))) × (r < count maxCells (hasBit (now (seen .entry)) (now (bits .entry)))) ⌝ }
 {
-    let g = group_of(cell);
-    ends[g] as usize - wide(u64::count_ones(groups[g] >> (cell % GROUP_SIZE)))
+    let b = block_of(seen, group_of(cell));
+    ends[b] as usize - wide(u64::count_ones(bits[b] >> (cell % GROUP_SIZE)))
 }
 
 // Puts slot i into the list if its entry advances, at the rank of its cell.
@@ -264,43 +233,49 @@ fn list_slot(
     slots: usize,
     live: u32,
     i: usize,
-    groups: &[u64],
+    seen: &[u8],
+    bits: &[u64],
     ends: &[u16],
     places: &mut [u16],
 )
     requires small { ⌜ (i < slots) × (slots ≤ maxSlots) × (pairsAt slots ≤ length (now table)) ⌝ }
-    requires noted { ⌜ (length (now ends) ≡ length (now groups)) × Ends (now groups) (length (now groups)) (now ends) ⌝ }
-    requires room { ⌜ count (groupAt (length (now groups))) (isSet (now groups)) ≤ length (now places) ⌝ }
-    requires own { ⌜ OwnBits slots (now table) live (now groups) ⌝ }
-    ensures { λ _. ⌜ now (places .exit) ≡ listSlot live (isSet (now (groups .entry))) (word1 slots (now (table .entry)) i) i (now (places .entry)) ⌝ }
+    requires sized { ⌜ BlockBits (now seen) (now bits) × (length (now ends) ≡ length (now bits)) ⌝ }
+    requires noted { ⌜ Ends (byGroup (now seen) (now bits)) maxGroups (byGroup (now seen) (now ends)) ⌝ }
+    requires room { ⌜ count maxCells (hasBit (now seen) (now bits)) ≤ length (now places) ⌝ }
+    requires own { ⌜ OwnBits slots (now table) live (byGroup (now seen) (now bits)) ⌝ }
+    ensures { λ _. ⌜ now (places .exit) ≡ listSlot live (hasBit (now (seen .entry)) (now (bits .entry))) (word1 slots (now (table .entry)) i) i (now (places .entry)) ⌝ }
 {
     let word = first_word(table, slots, i);
     if !turns_word(word, live) {
         return;
     }
-    places[rank_of(groups, ends, cell_of(word))] = i as u16;
+    places[rank_of(seen, bits, ends, cell_of(word))] = i as u16;
 }
 
 // Lists the slots of all entries that advance, in the order of their cells. Returns how many there are.
 fn list_slots(
     table: &[u32],
     slots: usize,
-    groups: &[u64],
+    top: usize,
+    groups: usize,
+    seen: &[u8],
+    bits: &[u64],
     ends: &mut [u16],
     places: &mut [u16],
 ) -> usize
-    requires small { ⌜ (slots ≤ maxSlots) × (pairsAt slots ≤ length (now table)) ⌝ }
-    requires room { ⌜ (length (now ends) ≡ length (now groups)) × (count (groupAt (length (now groups))) (isSet (now groups)) ≤ min maxSlots (length (now places))) ⌝ }
-    requires own { ⌜ OwnBits slots (now table) (live (now table)) (now groups) ⌝ }
-    ensures counted { λ r. ⌜ r ≡ count (groupAt (length (now (groups .entry)))) (isSet (now (groups .entry))) ⌝ }
-    ensures listed { λ _. ⌜ ListedSlots slots (now (table .entry)) (live (now (table .entry))) (isSet (now (groups .entry))) slots (now (places .exit)) ⌝ }
+    requires small { ⌜ (slots ≤ maxSlots) × (pairsAt slots ≤ length (now table)) × EndsAt slots (now table) top ⌝ }
+    requires sized { ⌜ BlockBits (now seen) (now bits) × (length (now ends) ≡ length (now bits)) ⌝ }
+    requires inside { ⌜ (groups ≤ maxGroups) × Inside (groupAt groups) (byGroup (now seen) (now bits)) ⌝ }
+    requires room { ⌜ count maxCells (hasBit (now seen) (now bits)) ≤ min maxSlots (length (now places)) ⌝ }
+    requires own { ⌜ OwnBits slots (now table) (live (now table)) (byGroup (now seen) (now bits)) ⌝ }
+    ensures counted { λ r. ⌜ r ≡ count maxCells (hasBit (now (seen .entry)) (now (bits .entry))) ⌝ }
+    ensures listed { λ _. ⌜ ListedSlots slots (now (table .entry)) (live (now (table .entry))) (hasBit (now (seen .entry)) (now (bits .entry))) slots (now (places .exit)) ⌝ }
 {
     let live = table[LIVE_AT];
-    let top = last_in_use(table, slots);
-    let n = count_groups(groups, ends);
+    let n = count_groups(seen, bits, groups, ends);
     let mut i: usize = 0;
     while i < top {
-        list_slot(table, slots, live, i, groups, ends, places);
+        list_slot(table, slots, live, i, seen, bits, ends, places);
         i += 1;
     }
     n
@@ -412,13 +387,15 @@ fn store_listed(
 // ---- the call
 
 // Advance once no question refuses it, with what it is lent: the marks of the bodies in use and the bits of the cells that advance, and room for
-// the numbers of the groups, for the list and for the staged words.
+// the numbers of the blocks, for the list and for the staged words.
 fn advance_marked(
     memory: &[u8],
     bodies: &mut [u8],
     table: &mut [u32],
+    top: usize,
+    seen: &[u8],
     used: &[u8],
-    groups: &[u64],
+    bits: &[u64],
     ends: &mut [u16],
     places: &mut [u16],
     words: &mut [u32],
@@ -426,14 +403,16 @@ fn advance_marked(
     budget: usize,
 ) -> Answer
     requires ready { ⌜ Ready (length (now memory)) (length (now bodies)) (now table) (now used) × (length (now used) ≡ maxBodies) ⌝ }
-    requires bits { ⌜ CellBits (now table) (now groups) × (cellsOf (length (now memory)) ≤ groupAt (length (now groups))) ⌝ }
-    requires list { ⌜ (length (now ends) ≡ length (now groups)) × (slotsOf (length (now table)) ≤ length (now places)) ⌝ }
+    requires told { ⌜ Told (now table) top (now seen) (now bits) ⌝ }
+    requires list { ⌜ (length (now ends) ≡ length (now bits)) × (slotsOf (length (now table)) ≤ length (now places)) ⌝ }
     requires room { ⌜ (2 * slotsOf (length (now table)) ≤ length (now words)) × (slotsOf (length (now table)) ≤ groupAt (length (now changed))) ⌝ }
     requires blank { ⌜ Stages 0 (λ _. keep) (now words) (now changed) ⌝ }
     ensures { λ r. ⌜ Makes performed budget (buffers (now (memory .entry)) (now (bodies .entry)) (now (table .entry)))
         (report r) (buffers (now (memory .entry)) (now (bodies .exit)) (now (table .exit))) ⌝ }
 {
-    let n = list_slots(table, slots_of(table.len()), groups, ends, places);
+    let groups = group_of(cells_of(memory.len()) + GROUP_SIZE - 1);
+    let slots = slots_of(table.len());
+    let n = list_slots(table, slots, top, groups, seen, bits, ends, places);
     store_listed(
         memory,
         bodies,
@@ -447,30 +426,40 @@ fn advance_marked(
     )
 }
 
-// No bit is set, no number noted and nothing listed, for a small memory and for any. Functions of their own, so that the checker does not write
-// the lists out.
-fn few_groups() -> [u64; 16]
-    ensures { λ r. ⌜ r ≡ zeros 16 ⌝ }
+// No bit is set, no number noted and nothing listed: a number for each block that the marks have room for, and block 0. Functions of their own, so
+// that the checker does not write the lists out.
+fn few_block_bits() -> [u64; 65]
+    ensures { λ r. ⌜ r ≡ zeros 65 ⌝ }
 {
-    [0u64; 16]
+    [0u64; 65]
 }
 
-fn few_ends() -> [u16; 16] {
-    [0u16; 16]
+fn few_ends() -> [u16; 65] {
+    [0u16; 65]
+}
+
+fn some_block_bits() -> [u64; 257]
+    ensures { λ r. ⌜ r ≡ zeros 257 ⌝ }
+{
+    [0u64; 257]
+}
+
+fn some_ends() -> [u16; 257] {
+    [0u16; 257]
+}
+
+fn many_block_bits() -> [u64; 1025]
+    ensures { λ r. ⌜ r ≡ zeros 1025 ⌝ }
+{
+    [0u64; 1025]
+}
+
+fn many_ends() -> [u16; 1025] {
+    [0u16; 1025]
 }
 
 fn few_places() -> [u16; 256] {
     [0u16; 256]
-}
-
-fn many_groups() -> [u64; 1024]
-    ensures { λ r. ⌜ r ≡ zeros 1024 ⌝ }
-{
-    [0u64; 1024]
-}
-
-fn many_ends() -> [u16; 1024] {
-    [0u16; 1024]
 }
 
 fn many_places() -> [u16; 4096] {
@@ -483,14 +472,16 @@ fn store_few(
     memory: &[u8],
     bodies: &mut [u8],
     table: &mut [u32],
+    top: usize,
+    seen: &[u8],
     used: &[u8],
-    groups: &[u64],
+    bits: &[u64],
     ends: &mut [u16],
     budget: usize,
 ) -> Answer
     requires ready { ⌜ Ready (length (now memory)) (length (now bodies)) (now table) (now used) × (length (now used) ≡ maxBodies) ⌝ }
-    requires bits { ⌜ CellBits (now table) (now groups) × (cellsOf (length (now memory)) ≤ groupAt (length (now groups))) ⌝ }
-    requires sized { ⌜ (length (now ends) ≡ length (now groups)) × (slotsOf (length (now table)) ≤ 256) ⌝ }
+    requires told { ⌜ Told (now table) top (now seen) (now bits) ⌝ }
+    requires sized { ⌜ (length (now ends) ≡ length (now bits)) × (slotsOf (length (now table)) ≤ 256) ⌝ }
     ensures { λ r. ⌜ Makes performed budget (buffers (now (memory .entry)) (now (bodies .entry)) (now (table .entry)))
         (report r) (buffers (now (memory .entry)) (now (bodies .exit)) (now (table .exit))) ⌝ }
 {
@@ -501,8 +492,10 @@ fn store_few(
         memory,
         bodies,
         table,
+        top,
+        seen,
         used,
-        groups,
+        bits,
         ends,
         &mut places,
         &mut words,
@@ -516,14 +509,16 @@ fn store_many(
     memory: &[u8],
     bodies: &mut [u8],
     table: &mut [u32],
+    top: usize,
+    seen: &[u8],
     used: &[u8],
-    groups: &[u64],
+    bits: &[u64],
     ends: &mut [u16],
     budget: usize,
 ) -> Answer
     requires ready { ⌜ Ready (length (now memory)) (length (now bodies)) (now table) (now used) × (length (now used) ≡ maxBodies) ⌝ }
-    requires bits { ⌜ CellBits (now table) (now groups) × (cellsOf (length (now memory)) ≤ groupAt (length (now groups))) ⌝ }
-    requires sized { ⌜ length (now ends) ≡ length (now groups) ⌝ }
+    requires told { ⌜ Told (now table) top (now seen) (now bits) ⌝ }
+    requires sized { ⌜ length (now ends) ≡ length (now bits) ⌝ }
     ensures { λ r. ⌜ Makes performed budget (buffers (now (memory .entry)) (now (bodies .entry)) (now (table .entry)))
         (report r) (buffers (now (memory .entry)) (now (bodies .exit)) (now (table .exit))) ⌝ }
 {
@@ -534,8 +529,10 @@ fn store_many(
         memory,
         bodies,
         table,
+        top,
+        seen,
         used,
-        groups,
+        bits,
         ends,
         &mut places,
         &mut words,
@@ -544,87 +541,156 @@ fn store_many(
     )
 }
 
-// Advance once no question refuses it, with room for the numbers of the groups.
+// Advance once no question refuses it, with room for the numbers of the blocks.
 fn advance_stored(
     memory: &[u8],
     bodies: &mut [u8],
     table: &mut [u32],
+    top: usize,
+    seen: &[u8],
     used: &[u8],
-    groups: &[u64],
+    bits: &[u64],
     ends: &mut [u16],
     budget: usize,
 ) -> Answer
     requires ready { ⌜ Ready (length (now memory)) (length (now bodies)) (now table) (now used) × (length (now used) ≡ maxBodies) ⌝ }
-    requires bits { ⌜ CellBits (now table) (now groups) × (cellsOf (length (now memory)) ≤ groupAt (length (now groups))) ⌝ }
-    requires sized { ⌜ length (now ends) ≡ length (now groups) ⌝ }
+    requires told { ⌜ Told (now table) top (now seen) (now bits) ⌝ }
+    requires sized { ⌜ length (now ends) ≡ length (now bits) ⌝ }
     ensures { λ r. ⌜ Makes performed budget (buffers (now (memory .entry)) (now (bodies .entry)) (now (table .entry)))
         (report r) (buffers (now (memory .entry)) (now (bodies .exit)) (now (table .exit))) ⌝ }
 {
     if slots_of(table.len()) <= FEW_SLOTS {
-        return store_few(memory, bodies, table, used, groups, ends, budget);
+        return store_few(memory, bodies, table, top, seen, used, bits, ends, budget);
     }
-    store_many(memory, bodies, table, used, groups, ends, budget)
+    store_many(memory, bodies, table, top, seen, used, bits, ends, budget)
 }
 
-// Advance in a small memory, where clearing marks for the largest would take longer than all else.
+// Advance with what it is lent: room for marks, and for two numbers of each of their blocks.
+fn advance_asked(
+    memory: &[u8],
+    bodies: &mut [u8],
+    table: &mut [u32],
+    top: usize,
+    handle: u32,
+    seen: &mut [u8],
+    used: &mut [u8],
+    bits: &mut [u64],
+    ends: &mut [u16],
+    budget: usize,
+) -> Answer
+    requires room { ⌜ RoomForMarks (now table) (cellsOf (length (now memory))) top (now seen) (now used) ⌝ }
+    requires blank { ⌜ (length (now seen) ≤ blockAt (length (now bits))) × Blank (now bits) ⌝ }
+    requires sized { ⌜ length (now ends) ≡ length (now bits) ⌝ }
+    ensures { λ r. ⌜ Makes (advanceCall handle) budget (buffers (now (memory .entry)) (now (bodies .entry)) (now (table .entry)))
+        (report r) (buffers (now (memory .entry)) (now (bodies .exit)) (now (table .exit))) ⌝ }
+{
+    let no = advance_check(
+        memory.len(),
+        bodies.len(),
+        table,
+        top,
+        handle,
+        seen,
+        used,
+        bits,
+    );
+    if no != 0 {
+        return Answer::Refused(no);
+    }
+    advance_stored(memory, bodies, table, top, seen, used, bits, ends, budget)
+}
+
+// Advance with marks for few blocks, where clearing those for the most would take longer than all else.
 fn advance_few(
     memory: &[u8],
     bodies: &mut [u8],
     table: &mut [u32],
+    top: usize,
     handle: u32,
     budget: usize,
 ) -> Answer
-    requires { ⌜ cellsOf (length (now memory)) ≤ 1024 ⌝ }
+    requires { ⌜ Enough 64 top (cellsOf (length (now memory))) × Reached (now table) top ⌝ }
     ensures { λ r. ⌜ Makes (advanceCall handle) budget (buffers (now (memory .entry)) (now (bodies .entry)) (now (table .entry)))
         (report r) (buffers (now (memory .entry)) (now (bodies .exit)) (now (table .exit))) ⌝ }
 {
     let mut seen = few_marks();
     let mut used = no_bodies();
-    let mut groups = few_groups();
-    let no = advance_check(
-        memory.len(),
-        bodies.len(),
+    let mut bits = few_block_bits();
+    let mut ends = few_ends();
+    advance_asked(
+        memory,
+        bodies,
         table,
+        top,
         handle,
         &mut seen,
         &mut used,
-        &mut groups,
-    );
-    if no != 0 {
-        return Answer::Refused(no);
-    }
-    let mut ends = few_ends();
-    advance_stored(memory, bodies, table, &used, &groups, &mut ends, budget)
+        &mut bits,
+        &mut ends,
+        budget,
+    )
 }
 
-// And in any memory.
+// With marks for some more.
+fn advance_some(
+    memory: &[u8],
+    bodies: &mut [u8],
+    table: &mut [u32],
+    top: usize,
+    handle: u32,
+    budget: usize,
+) -> Answer
+    requires { ⌜ Enough 256 top (cellsOf (length (now memory))) × Reached (now table) top ⌝ }
+    ensures { λ r. ⌜ Makes (advanceCall handle) budget (buffers (now (memory .entry)) (now (bodies .entry)) (now (table .entry)))
+        (report r) (buffers (now (memory .entry)) (now (bodies .exit)) (now (table .exit))) ⌝ }
+{
+    let mut seen = some_marks();
+    let mut used = no_bodies();
+    let mut bits = some_block_bits();
+    let mut ends = some_ends();
+    advance_asked(
+        memory,
+        bodies,
+        table,
+        top,
+        handle,
+        &mut seen,
+        &mut used,
+        &mut bits,
+        &mut ends,
+        budget,
+    )
+}
+
+// And for any memory.
 fn advance_many(
     memory: &[u8],
     bodies: &mut [u8],
     table: &mut [u32],
+    top: usize,
     handle: u32,
     budget: usize,
 ) -> Answer
+    requires { ⌜ Reached (now table) top ⌝ }
     ensures { λ r. ⌜ Makes (advanceCall handle) budget (buffers (now (memory .entry)) (now (bodies .entry)) (now (table .entry)))
         (report r) (buffers (now (memory .entry)) (now (bodies .exit)) (now (table .exit))) ⌝ }
 {
     let mut seen = many_marks();
     let mut used = no_bodies();
-    let mut groups = many_groups();
-    let no = advance_check(
-        memory.len(),
-        bodies.len(),
+    let mut bits = many_block_bits();
+    let mut ends = many_ends();
+    advance_asked(
+        memory,
+        bodies,
         table,
+        top,
         handle,
         &mut seen,
         &mut used,
-        &mut groups,
-    );
-    if no != 0 {
-        return Answer::Refused(no);
-    }
-    let mut ends = many_ends();
-    advance_stored(memory, bodies, table, &used, &groups, &mut ends, budget)
+        &mut bits,
+        &mut ends,
+        budget,
+    )
 }
 
 // Gives every read-write cell of the innermost domain memory's bytes, as a copy. Read-only cells keep theirs.
@@ -640,8 +706,13 @@ pub fn advance(
     ensures means { λ r. ⌜ Shows (advanceMeans handle) budget (buffers (now (memory .entry)) (now (bodies .entry)) (now (table .entry)))
         (report r) (buffers (now (memory .entry)) (now (bodies .exit)) (now (table .exit))) ⌝ }
 {
-    if cells_of(memory.len()) <= FEW_CELLS {
-        return advance_few(memory, bodies, table, handle, budget);
+    let top = reach_of(table);
+    let blocks = blocks_wanted(top, cells_of(memory.len()));
+    if blocks <= FEW_BLOCKS {
+        return advance_few(memory, bodies, table, top, handle, budget);
     }
-    advance_many(memory, bodies, table, handle, budget)
+    if blocks <= SOME_BLOCKS {
+        return advance_some(memory, bodies, table, top, handle, budget);
+    }
+    advance_many(memory, bodies, table, top, handle, budget)
 }

@@ -8,13 +8,13 @@ use Rattle.store.proofs.Checks.{orElse-go, orElse-stop, store-lengths}
 use Rattle.store.proofs.Named.{innermost-no, innermost-then, innermost-named}
 use Rattle.store.proofs.Raw.{check-rule}
 use Rattle.advance.specs.Notes.{entriesCheck}
-use Rattle.advance.proofs.Noting.{entries-cells, cells-fit, turned-advances}
+use Rattle.advance.proofs.Noting.{entries-cells, turned-advances}
 use Rattle.advance.proofs.Advanced.{check-is, advance-room}
 use Rattle.advance.proofs.advance_check.Statement.{statement}
 use Rattle.advance.proofs.advance_check.Tie as tie
 
 store-check-requires : tie.Need-store-check-requires
-store-check-requires c κs = (c .before .before .before .before .before .before .pre .0, (c .before .before .before .before .before .before .pre .1 .0, c .before .before .before .before .before .before .pre .1 .1))
+store-check-requires c κs = c .before .before .before .before .before .before .pre .0
 
 same-length : tie.Need-same-length
 same-length c = search needs
@@ -26,8 +26,7 @@ returns : tie.Need-returns
 returns c = (c .before .before .before .before .before .store-check .ensures .0 ∙ sym (check-is _ _ _ _ ∙ orElse-stop _ _ (λ e. c .if1 .taken (c .before .before .before .before .before .store-check .ensures .0 ∙ e))), λ z. absurd (c .if1 .taken z))
 
 innermost-check-requires : tie.Need-innermost-check-requires
-innermost-check-requires c κs =
-    let a = c .before .before .before .before .before .before .before .before .before .before .before .before .args in
+innermost-check-requires c κs = let a = c .before .before .before .before .before .before .before .before .before .before .before .before .args in
     let pass = sym (c .before .before .before .before .before .store-check .ensures .0) ∙ c .if1 .left in
     let f = store-lengths _ _ _ pass in
     (omega arith, check-rule (a .memory) (a .bodies) (a .table .now) pass .live)
@@ -39,8 +38,7 @@ same-length-4 : tie.Need-same-length-4
 same-length-4 c = search needs
 
 returns-2 : tie.Need-returns-2
-returns-2 c =
-    let pass = sym (c .before .before .before .before .before .before .before .store-check .ensures .0) ∙ c .before .before .if1 .left in
+returns-2 c = let pass = sym (c .before .before .before .before .before .before .before .store-check .ensures .0) ∙ c .before .before .if1 .left in
     (innermost-no _ _ _ _ (c .before .innermost-check .ensures) (c .if2 .taken) ∙ sym (check-is _ _ _ _ ∙ orElse-go _ _ pass), λ z. absurd (c .if2 .taken z))
 
 slots-of-requires : tie.Need-slots-of-requires
@@ -50,17 +48,16 @@ cells-of-requires : tie.Need-cells-of-requires
 cells-of-requires c κs = search needs
 
 entries-check-requires : tie.Need-entries-check-requires
-entries-check-requires c κs =
-    let a = c .before .before .before .before .before .before .before .before .before .before .before .before .before .before .before .before .before .before .args in
+entries-check-requires c κs = let a = c .before .before .before .before .before .before .before .before .before .before .before .before .before .before .before .before .before .before .args in
     let pass = sym (c .before .before .before .before .before .before .before .before .before .before .before .store-check .ensures .0) ∙ c .before .before .before .before .before .before .if1 .left in
     let f = store-lengths (a .memory) (a .bodies) (a .table .now) pass in
     let ok = check-rule (a .memory) (a .bodies) (a .table .now) pass in
     let low = innermost-named (a .table .now) (a .handle) _ (c .before .before .before .before .before .innermost-check .ensures) (c .before .before .before .before .if2 .left) .1 in
     let q = c .before .before .before .slots-of .ensures in
-    let s = c .before .before .before .before .before .before .before .before .before .before .before .store-check .kept .1 .1 .1 .0 in
-    let fit = cells-fit (cellsOf (a .memory)) (slotsOf (length (a .table .now))) (bodiesOf (a .bodies)) (a .table .now) ok (length (a .seen .now)) (f .cells-low) (omega (arith, f .cells-high, c .before .before .before .before .before .before .before .before .before .before .before .before .before .before .before .before .before .before .pre .0 .0)) in (
-      (omega (arith, q), omega (arith, q), low, ok .live, rw q (c .before .before .before .before .before .before .before .before .before .before .before .store-check .ensures .1 (c .before .before .before .before .before .before .if1 .left) .cells)),
-      ((λ i l. rw s (fit i (omega (arith, q, l)))), omega (arith, s, c .before .before .before .before .before .before .before .before .before .before .before .before .before .before .before .before .before .before .pre .1), c .before .before .before .before .before .before .before .before .before .before .before .before .before .before .before .before .before .before .pre .1 .2),
+    let marks = c .before .before .before .before .before .before .before .before .before .before .before .store-check .ensures .1 (c .before .before .before .before .before .before .if1 .left) in
+    let ends = c .before .before .before .before .before .before .before .before .before .before .before .before .before .before .before .before .before .before .pre .0 .reached (f .slots-low) (f .slots-high) .0 in (
+      (omega (arith, q, f .slots-high), omega (arith, q, f .table-exact), low, ok .live, rw q ends),
+      (rw q (marks .cells), marks .kept, omega (arith, c .before .before .before .before .before .before .before .before .before .before .before .store-check .kept .1 .1 .1 .1 .0, c .before .before .before .before .before .before .before .before .before .before .before .before .before .before .before .before .before .before .pre .1 .0), c .before .before .before .before .before .before .before .before .before .before .before .before .before .before .before .before .before .before .pre .1 .1),
     )
 
 same-length-5 : tie.Need-same-length-5
@@ -73,11 +70,12 @@ same-length-7 : tie.Need-same-length-7
 same-length-7 c = search needs
 
 returns-3 : tie.Need-returns-3
-returns-3 c =
-    let a = c .before .before .before .before .before .before .before .before .before .before .before .before .before .before .before .before .before .before .before .before .before .args in
+returns-3 c = let a = c .before .before .before .before .before .before .before .before .before .before .before .before .before .before .before .before .before .before .before .before .before .args in
     let low = innermost-named (a .table .now) (a .handle) _ (c .before .before .before .before .before .before .before .before .innermost-check .ensures) (c .before .before .before .before .before .before .before .if2 .left) .1 in
     let pass = sym (c .before .before .before .before .before .before .before .before .before .before .before .before .before .before .store-check .ensures .0) ∙ c .before .before .before .before .before .before .before .before .before .if1 .left in
+    let f = store-lengths (a .memory) (a .bodies) (a .table .now) pass in
     let ok = check-rule (a .memory) (a .bodies) (a .table .now) pass in
+    let marks = c .before .before .before .before .before .before .before .before .before .before .before .before .before .before .store-check .ensures .1 (c .before .before .before .before .before .before .before .before .before .if1 .left) in
     let no = c .before .before .entries-check .ensures .0 ∙ (λ i. entriesCheck (c .before .before .before .before .before .before .slots-of .ensures i) (c .before .before .before .before .before .cells-of .ensures i) (a .table .now))
     ∙ entries-cells (cellsOf (a .memory)) (slotsOf (length (a .table .now))) (bodiesOf (a .bodies)) (a .table .now) ok low
     ∙ innermost-then (a .table .now) (a .handle) _ _ (c .before .before .before .before .before .before .before .before .innermost-check .ensures) (c .before .before .before .before .before .before .before .if2 .left)
@@ -88,9 +86,17 @@ returns-3 c =
           stands = pass;
           lives = low;
           room = advance-room (a .memory) (a .bodies) (a .table .now) (a .handle) (sym no ∙ z);
-          marks = c .before .before .before .before .before .before .before .before .before .before .before .before .before .before .store-check .ensures .1 (c .before .before .before .before .before .before .before .before .before .if1 .left) .copies;
+          marks = marks .copies;
         },
-        record { each = turned-advances (cellsOf (a .memory)) (slotsOf (length (a .table .now))) (bodiesOf (a .bodies)) (a .table .now) ok _ (rw (c .before .before .before .before .before .before .slots-of .ensures) at (c .before .before .entries-check .ensures .1)) },
+        record {
+          cells = record { each = turned-advances (cellsOf (a .memory)) (slotsOf (length (a .table .now))) (bodiesOf (a .bodies)) (a .table .now) ok _ (rw (c .before .before .before .before .before .before .slots-of .ensures) at (c .before .before .entries-check .ensures .1 .0)) };
+          blocks = record {
+            kept = marks .kept;
+            room = omega (arith, c .before .before .before .before .before .before .before .before .before .before .before .before .before .before .store-check .kept .1 .1 .1 .1 .0, c .before .before .entries-check .kept .1 .1 .1 .1 .1 .0, c .before .before .before .before .before .before .before .before .before .before .before .before .before .before .before .before .before .before .before .before .before .pre .1 .0);
+            front = c .before .before .entries-check .ensures .1 .1;
+          };
+          ends = c .before .before .before .before .before .before .before .before .before .before .before .before .before .before .before .before .before .before .before .before .before .pre .0 .reached (f .slots-low) (f .slots-high) .0;
+        },
       ),
     )
 

@@ -1,8 +1,6 @@
 -- `advance::advance_few` meets its contract. Assumes nothing.
-use mathlib.Core.Path.{sym, _∙_}
 use borrow.Author.Needs.{needs}
-use Rattle.table.proofs.Marks.{blank-zeros}
-use Rattle.advance.proofs.Advanced.{advance-refused, advance-goes}
+use Rattle.table.proofs.Marks.{room-few, blank-zeros}
 use Rattle.advance.proofs.advance_few.Statement.{statement}
 use Rattle.advance.proofs.advance_few.Tie as tie
 
@@ -12,56 +10,35 @@ few-marks-requires c κs = search needs
 no-bodies-requires : tie.Need-no-bodies-requires
 no-bodies-requires c κs = search needs
 
-few-groups-requires : tie.Need-few-groups-requires
-few-groups-requires c κs = search needs
-
-slice-aggregate-advance-check : tie.Need-slice-aggregate-advance-check
-slice-aggregate-advance-check c = search needs
-
-slice-aggregate-advance-check-2 : tie.Need-slice-aggregate-advance-check-2
-slice-aggregate-advance-check-2 c = search needs
-
-slice-aggregate-advance-check-3 : tie.Need-slice-aggregate-advance-check-3
-slice-aggregate-advance-check-3 c = search needs
-
-advance-check-requires : tie.Need-advance-check-requires
-advance-check-requires c κs = ((search needs, search needs), (rw (c .before .before .before .before .before .before .few-marks .ensures) (blank-zeros 1024), rw (c .before .before .before .before .before .no-bodies .ensures) (blank-zeros 4096), rw (c .before .before .before .before .few-groups .ensures) (blank-zeros 16), search needs))
-
-same-length : tie.Need-same-length
-same-length c = search needs
-
-returns : tie.Need-returns
-returns c =
-    let a = c .before .before .before .before .before .before .before .before .before .before .before .before .before .before .before .args in
-    advance-refused (a .memory .now) (a .bodies .now) (a .table .now) (a .handle) (a .budget) _ (c .before .before .before .before .advance-check .ensures .0) (c .if1 .taken)
+few-block-bits-requires : tie.Need-few-block-bits-requires
+few-block-bits-requires c κs = search needs
 
 few-ends-requires : tie.Need-few-ends-requires
 few-ends-requires c κs = search needs
 
-slice-aggregate-advance-stored : tie.Need-slice-aggregate-advance-stored
-slice-aggregate-advance-stored c = search needs
+slice-aggregate-advance-asked : tie.Need-slice-aggregate-advance-asked
+slice-aggregate-advance-asked c = search needs
 
-slice-aggregate-advance-stored-2 : tie.Need-slice-aggregate-advance-stored-2
-slice-aggregate-advance-stored-2 c = search needs
+slice-aggregate-advance-asked-2 : tie.Need-slice-aggregate-advance-asked-2
+slice-aggregate-advance-asked-2 c = search needs
 
-slice-aggregate-advance-stored-3 : tie.Need-slice-aggregate-advance-stored-3
-slice-aggregate-advance-stored-3 c = search needs
+slice-aggregate-advance-asked-3 : tie.Need-slice-aggregate-advance-asked-3
+slice-aggregate-advance-asked-3 c = search needs
 
-advance-stored-requires : tie.Need-advance-stored-requires
-advance-stored-requires c κs =
-    let ready = c .before .before .before .before .before .before .before .before .before .before .advance-check .ensures .1 (c .before .before .before .before .before .before .if1 .left) in
-    ((ready .0, search needs), ((ready .1, search needs), search needs))
+slice-aggregate-advance-asked-4 : tie.Need-slice-aggregate-advance-asked-4
+slice-aggregate-advance-asked-4 c = search needs
+
+advance-asked-requires : tie.Need-advance-asked-requires
+advance-asked-requires c κs = (rw (c .before .before .before .before .before .before .before .before .before .few-marks .ensures, c .before .before .before .before .before .before .before .before .no-bodies .ensures) (room-few _ _ _ (c .before .before .before .before .before .before .before .before .before .before .before .before .before .pre .1) (c .before .before .before .before .before .before .before .before .before .before .before .before .before .pre .0)), ((search needs, rw (c .before .before .before .before .before .before .before .few-block-bits .ensures) (blank-zeros 65)), search needs))
+
+same-length : tie.Need-same-length
+same-length c = search needs
 
 same-length-2 : tie.Need-same-length-2
 same-length-2 c = search needs
 
-same-length-3 : tie.Need-same-length-3
-same-length-3 c = search needs
-
-returns-2 : tie.Need-returns-2
-returns-2 c =
-    let a = c .before .before .before .before .before .before .before .before .before .before .before .before .before .before .before .before .before .before .before .before .before .before .before .before .before .before .before .args in
-    c .before .before .before .before .before .advance-stored .ensures ∙ advance-goes (a .memory .now) (a .bodies .now) (a .table .now) (a .handle) (a .budget) (sym (c .before .before .before .before .before .before .before .before .before .before .before .before .before .before .before .before .advance-check .ensures .0) ∙ c .before .before .before .before .before .before .before .before .before .before .before .before .if1 .left)
+returns : tie.Need-returns
+returns c = search needs
 
 pub advance-few-spec : {M : Type 1} → statement M
 advance-few-spec =
@@ -69,18 +46,13 @@ advance-few-spec =
     (tie.spec
     few-marks-requires
     no-bodies-requires
-    few-groups-requires
-    slice-aggregate-advance-check
-    slice-aggregate-advance-check-2
-    slice-aggregate-advance-check-3
-    advance-check-requires
-    same-length
-    returns
+    few-block-bits-requires
     few-ends-requires
-    slice-aggregate-advance-stored
-    slice-aggregate-advance-stored-2
-    slice-aggregate-advance-stored-3
-    advance-stored-requires
+    slice-aggregate-advance-asked
+    slice-aggregate-advance-asked-2
+    slice-aggregate-advance-asked-3
+    slice-aggregate-advance-asked-4
+    advance-asked-requires
+    same-length
     same-length-2
-    same-length-3
-    returns-2)
+    returns)

@@ -1,36 +1,61 @@
 -- `advance::advance_marked` meets its contract. Assumes nothing.
+use Prim.Native.Nat.{_≤_}
 use mathlib.Core.Path.{_∙_}
 use native.Mathlib.Omega.{arith}
 use borrow.Author.Needs.{needs}
+use lib.ListN.{length}
+use Rattle.words.specs.Layout.{cellsOf, groupAt}
 use Rattle.store.proofs.Checks.{store-lengths}
-use Rattle.advance.proofs.Performing.{ready-few, ready-own, ready-count, ready-order}
+use Rattle.advance.specs.Notes.{byGroup}
+use Rattle.advance.proofs.Performing.{ready-few, ready-own, ready-count, ready-inside, ready-order}
 use Rattle.advance.proofs.advance_marked.Statement.{statement}
 use Rattle.advance.proofs.advance_marked.Tie as tie
+
+cells-of-requires : tie.Need-cells-of-requires
+cells-of-requires c κs = search needs
+
+add-group-of : tie.Need-add-group-of
+add-group-of c = search needs
+
+sub-group-of : tie.Need-sub-group-of
+sub-group-of c = search needs
+
+group-of-requires : tie.Need-group-of-requires
+group-of-requires c κs = search needs
 
 slots-of-requires : tie.Need-slots-of-requires
 slots-of-requires c κs = search needs
 
 list-slots-requires : tie.Need-list-slots-requires
-list-slots-requires c κs =
-    let a = c .before .before .before .before .before .before .before .before .before .before .before .before .before .args in
-    let ready = c .before .before .before .before .before .before .before .before .before .before .before .before .before .pre .0 .0 in
+list-slots-requires c κs = let a = c .before .before .before .before .before .before .before .before .before .before .before .before .before .before .before .before .args in
+    let ready = c .before .before .before .before .before .before .before .before .before .before .before .before .before .before .before .before .pre .0 .0 in
+    let told = c .before .before .before .before .before .before .before .before .before .before .before .before .before .before .before .before .pre .1 .0 in
+    let list = c .before .before .before .before .before .before .before .before .before .before .before .before .before .before .before .before .pre .1 .1 .0 in
     let f = store-lengths _ _ (a .table .now) (ready .stands) in
     let few = ready-few (a .memory .now) (a .bodies .now) (a .table .now) (a .used .now) ready in
-    let number = ready-count (a .memory .now) (a .bodies .now) (a .table .now) (a .used .now) ready (a .groups .now) (c .before .before .before .before .before .before .before .before .before .before .before .before .before .pre .1 .0 .0) (c .before .before .before .before .before .before .before .before .before .before .before .before .before .pre .1 .0 .1) in
-    rw (c .before .before .slots-of .ensures) (
-      (f .slots-high, omega (arith, f .table-exact)),
-      ((c .before .before .before .before .before .before .before .before .before .before .before .before .before .pre .1 .1 .0 .0, omega (arith, number, few, f .slots-high, c .before .before .before .before .before .before .before .before .before .before .before .before .before .pre .1 .1 .0 .1)), ready-own (a .memory .now) (a .bodies .now) (a .table .now) (a .used .now) ready (a .groups .now) (c .before .before .before .before .before .before .before .before .before .before .before .before .before .pre .1 .0 .0)),
+    let x = byGroup (a .seen .now) (a .bits .now) in
+    let number = ready-count (a .memory .now) (a .bodies .now) (a .table .now) (a .used .now) ready x (told .cells) in
+    let reach : cellsOf (length (a .memory .now)) ≤ groupAt (c .before .before .before .before .group-of .result) = omega (arith, c .before .before .before .before .group-of .ensures, c .before .before .before .before .before .cells-of .ensures) in
+    rw (c .before .before .before .slots-of .ensures) (
+      (f .slots-high, omega (arith, f .table-exact), told .ends),
+      (
+        (told .blocks, list .0),
+        (
+          (omega (arith, c .before .before .before .before .group-of .ensures, c .before .before .before .before .before .cells-of .ensures, f .cells-high), ready-inside (a .memory .now) (a .bodies .now) (a .table .now) (a .used .now) ready x (told .cells) (c .before .before .before .before .group-of .result) reach),
+          (omega (arith, number, few, f .slots-high, list .1), ready-own (a .memory .now) (a .bodies .now) (a .table .now) (a .used .now) ready x (told .cells)),
+        ),
+      ),
     )
 
 store-listed-requires : tie.Need-store-listed-requires
-store-listed-requires c κs =
-    let a = c .before .before .before .before .before .before .before .before .before .before .before .before .before .before .before .before .before .before .before .before .before .before .before .args in
-    let ready = c .before .before .before .before .before .before .before .before .before .before .before .before .before .before .before .before .before .before .before .before .before .before .before .pre .0 .0 in
-    let bits = c .before .before .before .before .before .before .before .before .before .before .before .before .before .before .before .before .before .before .before .before .before .before .before .pre .1 .0 .0 in
+store-listed-requires c κs = let a = c .before .before .before .before .before .before .before .before .before .before .before .before .before .before .before .before .before .before .before .before .before .before .before .before .before .before .args in
+    let ready = c .before .before .before .before .before .before .before .before .before .before .before .before .before .before .before .before .before .before .before .before .before .before .before .before .before .before .pre .0 .0 in
+    let told = c .before .before .before .before .before .before .before .before .before .before .before .before .before .before .before .before .before .before .before .before .before .before .before .before .before .before .pre .1 .0 in
+    let x = byGroup (a .seen .now) (a .bits .now) in
     let few = ready-few (a .memory .now) (a .bodies .now) (a .table .now) (a .used .now) ready in
-    let number = c .before .before .before .before .before .before .before .before .before .list-slots .ensures .0 ∙ ready-count (a .memory .now) (a .bodies .now) (a .table .now) (a .used .now) ready (a .groups .now) bits (c .before .before .before .before .before .before .before .before .before .before .before .before .before .before .before .before .before .before .before .before .before .before .before .pre .1 .0 .1) in
-    let list = ready-order (a .memory .now) (a .bodies .now) (a .table .now) (a .used .now) ready (a .groups .now) bits _ _ number (rw (c .before .before .before .before .before .before .before .before .before .before .before .before .slots-of .ensures) at (c .before .before .before .before .before .before .before .before .before .list-slots .ensures .1)) in
-    (c .before .before .before .before .before .before .before .before .before .before .before .before .before .before .before .before .before .before .before .before .before .before .before .pre .0, ((list, omega (arith, number, few, c .before .before .before .before .before .before .before .before .before .before .before .before .before .before .before .before .before .before .before .before .before .before .before .pre .1 .1 .0 .1, c .before .before .before .before .before .before .before .before .before .list-slots .kept .1 .1 .1 .1 .0)), (number, (c .before .before .before .before .before .before .before .before .before .before .before .before .before .before .before .before .before .before .before .before .before .before .before .pre .1 .1 .1 .0, c .before .before .before .before .before .before .before .before .before .before .before .before .before .before .before .before .before .before .before .before .before .before .before .pre .1 .1 .1 .1))))
+    let number = c .before .before .before .before .before .before .before .before .before .list-slots .ensures .0 ∙ ready-count (a .memory .now) (a .bodies .now) (a .table .now) (a .used .now) ready x (told .cells) in
+    let list = ready-order (a .memory .now) (a .bodies .now) (a .table .now) (a .used .now) ready x (told .cells) _ _ number (rw (c .before .before .before .before .before .before .before .before .before .before .before .before .before .slots-of .ensures) at (c .before .before .before .before .before .before .before .before .before .list-slots .ensures .1)) in
+    (c .before .before .before .before .before .before .before .before .before .before .before .before .before .before .before .before .before .before .before .before .before .before .before .before .before .before .pre .0, ((list, omega (arith, number, few, c .before .before .before .before .before .before .before .before .before .before .before .before .before .before .before .before .before .before .before .before .before .before .before .before .before .before .pre .1 .1 .0 .1, c .before .before .before .before .before .before .before .before .before .list-slots .kept .1 .1 .1 .1 .1 .1 .1 .0)), (number, (c .before .before .before .before .before .before .before .before .before .before .before .before .before .before .before .before .before .before .before .before .before .before .before .before .before .before .pre .1 .1 .1 .0, c .before .before .before .before .before .before .before .before .before .before .before .before .before .before .before .before .before .before .before .before .before .before .before .before .before .before .pre .1 .1 .1 .1))))
 
 same-length : tie.Need-same-length
 same-length c = search needs
@@ -57,6 +82,10 @@ pub advance-marked-spec : {M : Type 1} → statement M
 advance-marked-spec =
     tie.close
     (tie.spec
+    cells-of-requires
+    add-group-of
+    sub-group-of
+    group-of-requires
     slots-of-requires
     list-slots-requires
     store-listed-requires

@@ -8,7 +8,7 @@ slots-of-requires : tie.Need-slots-of-requires
 slots-of-requires c κs = search needs
 
 store-few-requires : tie.Need-store-few-requires
-store-few-requires c κs = (c .before .before .before .before .before .before .before .before .before .before .before .pre .0, (c .before .before .before .before .before .before .before .before .before .before .before .pre .1 .0, (c .before .before .before .before .before .before .before .before .before .before .before .pre .1 .1, omega (arith, c .before .before .before .if1 .taken, c .before .before .before .before .slots-of .ensures))))
+store-few-requires c κs = (c .before .before .before .before .before .before .before .before .before .before .before .before .pre .0, (c .before .before .before .before .before .before .before .before .before .before .before .before .pre .1 .0, (c .before .before .before .before .before .before .before .before .before .before .before .before .pre .1 .1, omega (arith, c .before .before .before .if1 .taken, c .before .before .before .before .slots-of .ensures))))
 
 same-length : tie.Need-same-length
 same-length c = search needs
@@ -23,7 +23,7 @@ returns : tie.Need-returns
 returns c = search needs
 
 store-many-requires : tie.Need-store-many-requires
-store-many-requires c κs = c .before .before .before .before .before .before .before .before .before .before .before .pre
+store-many-requires c κs = c .before .before .before .before .before .before .before .before .before .before .before .before .pre
 
 same-length-4 : tie.Need-same-length-4
 same-length-4 c = search needs

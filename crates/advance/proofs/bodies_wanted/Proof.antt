@@ -71,8 +71,8 @@ returns c =
     let a = c .before .before .before .before .args in
     let last : c .before .before .loop .i ≡ a .top = omega arith in
     c .wide .ensures
-    ∙ (λ j. (c .before .before .loop .inv .1 ∙ ap (λ (n : ℕ). count n (isCopy (a .slots) (a .table .now))) last ∙ copies-front (a .slots) (a .table .now) (a .top) (c .before .before .before .before .pre .2) (c .before .before .before .before .pre .3)) j
-    + (c .before .before .loop .inv .2 ∙ ap (λ (n : ℕ). count n (λ k. turns (a .live) (word1 (a .slots) (a .table .now) k))) last ∙ turning-front (a .slots) (a .table .now) (a .top) (c .before .before .before .before .pre .2) (c .before .before .before .before .pre .3) (a .live)) j)
+    ∙ (λ j. (c .before .before .loop .inv .1 ∙ ap (λ (n : ℕ). count n (isCopy (a .slots) (a .table .now))) last ∙ copies-front (a .slots) (a .table .now) (a .top) (c .before .before .before .before .pre .2 .0) (c .before .before .before .before .pre .2 .1)) j
+    + (c .before .before .loop .inv .2 ∙ ap (λ (n : ℕ). count n (λ k. turns (a .live) (word1 (a .slots) (a .table .now) k))) last ∙ turning-front (a .slots) (a .table .now) (a .top) (c .before .before .before .before .pre .2 .0) (c .before .before .before .before .pre .2 .1) (a .live)) j)
 
 pub bodies-wanted-spec : {M : Type 1} → statement M
 bodies-wanted-spec =

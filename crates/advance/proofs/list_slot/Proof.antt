@@ -15,8 +15,7 @@ turns-word-requires c κs = search needs
 
 returns : tie.Need-returns
 unfolding listSlot
-returns c =
-    let a = c .before .before .before .before .before .before .before .args in
+returns c = let a = c .before .before .before .before .before .before .before .before .args in
     let stays = ap (turns (a .live)) (sym (c .before .before .first-word .ensures)) ∙ sym (c .before .turns-word .ensures) ∙ not-true _ (c .if1 .taken) in
     rw stays
 
@@ -27,10 +26,9 @@ cell-of-requires : tie.Need-cell-of-requires
 cell-of-requires c κs = search needs
 
 rank-of-requires : tie.Need-rank-of-requires
-rank-of-requires c κs =
-    let a = c .before .before .before .before .before .before .before .before .args in
+rank-of-requires c κs = let a = c .before .before .before .before .before .before .before .before .before .args in
     let goes = ap (turns (a .live)) (sym (c .before .before .before .first-word .ensures)) ∙ sym (c .before .before .turns-word .ensures) ∙ not-false _ (c .before .if1 .left) in
-    (c .before .before .before .before .before .before .before .before .pre .1 .0 .0, (c .before .before .before .before .before .before .before .before .pre .1 .0 .1, rw (c .cell-of .ensures, c .before .before .before .first-word .ensures) (c .before .before .before .before .before .before .before .before .pre .1 .1 .1 .here (a .i) (c .before .before .before .before .before .before .before .before .pre .0 .0) goes)))
+    (c .before .before .before .before .before .before .before .before .before .pre .1 .0, (c .before .before .before .before .before .before .before .before .before .pre .1 .1 .0, rw (c .cell-of .ensures, c .before .before .before .first-word .ensures) (c .before .before .before .before .before .before .before .before .before .pre .1 .1 .1 .1 .here (a .i) (c .before .before .before .before .before .before .before .before .before .pre .0 .0) goes)))
 
 mul-places : tie.Need-mul-places
 mul-places c = search needs
@@ -43,8 +41,7 @@ same-length c = search needs
 
 returns-2 : tie.Need-returns-2
 unfolding listSlot
-returns-2 c =
-    let a = c .before .before .before .before .before .before .before .before .before .args in
+returns-2 c = let a = c .before .before .before .before .before .before .before .before .before .before .args in
     let goes = ap (turns (a .live)) (sym (c .before .before .before .before .first-word .ensures)) ∙ sym (c .before .before .before .turns-word .ensures) ∙ not-false _ (c .before .before .if1 .left) in
     rw (goes, c .rank-of .ensures .0, c .before .cell-of .ensures, c .before .before .before .before .first-word .ensures)
 

@@ -5,36 +5,35 @@ use native.Mathlib.Omega.{arith}
 use borrow.Author.Needs.{needs}
 use lib.ListN.{length}
 use Rattle.table.specs.Entry.{live}
-use Rattle.changes.specs.Staged.{isSet}
-use Rattle.advance.specs.Notes.{ListedSlots}
+use Rattle.advance.specs.Notes.{byGroup, hasBit, ListedSlots}
 use Rattle.advance.proofs.Bits.{rank-fits}
+use Rattle.advance.proofs.Blocks.{bit-cell}
 use Rattle.advance.proofs.Listing.{listed-none, listed-more}
 use Rattle.advance.proofs.Noting.{listed-front}
 use Rattle.advance.proofs.list_slots.Statement.{statement}
 use Rattle.advance.proofs.list_slots.Tie as tie
 
 abbrev Inv-loop : tie.InvT-loop
-Inv-loop table slots groups ends places₀ live top n i₀ places i = (i ≤ top) × (length places ≡ length places₀) × ListedSlots slots table live (isSet groups) i places
+Inv-loop table slots top groups seen bits ends places₀ live n i₀ places i = (i ≤ top) × (length places ≡ length places₀) × ListedSlots slots table live (hasBit seen bits) i places
 
 abbrev μ-loop : tie.MeasureT-loop
-μ-loop table slots groups ends places₀ live top n i₀ places i = top - i
+μ-loop table slots top groups seen bits ends places₀ live n i₀ places i = top - i
 
 shared-slice-read-live : tie.Need-shared-slice-read-live Inv-loop μ-loop
 shared-slice-read-live c = search needs
 
-last-in-use-requires : tie.Need-last-in-use-requires Inv-loop μ-loop
-last-in-use-requires c κs = search needs
-
 count-groups-requires : tie.Need-count-groups-requires Inv-loop μ-loop
-count-groups-requires c κs = (c .before .before .before .before .before .before .before .pre .1 .0 .0, omega (arith, c .before .before .before .before .before .before .before .pre .1 .0 .1))
+count-groups-requires c κs = (c .before .before .before .before .before .before .before .pre .1 .0, (c .before .before .before .before .before .before .before .pre .1 .1 .0, omega (arith, c .before .before .before .before .before .before .before .pre .1 .1 .1 .0)))
 
 loop-holds : tie.Need-loop-holds Inv-loop μ-loop
 loop-holds c = (search needs, refl, listed-none _ _ _ _ _)
 
 list-slot-requires : tie.Need-list-slot-requires Inv-loop μ-loop
-list-slot-requires c κs =
-    let long = c .before .before .before .before .before .before .count-groups .kept .1 .0 in
-    ((search needs, search needs, search needs), ((long ∙ c .before .before .before .before .before .before .before .before .before .before .before .before .before .before .pre .1 .0 .0, c .before .before .before .before .before .before .count-groups .ensures .1), (omega (arith, c .before .before .before .loop .inv .1, c .before .before .before .before .before .before .before .before .before .before .before .before .before .before .pre .1 .0 .1), c .before .before .before .before .before .before .before .before .before .before .before .before .before .before .pre .1 .1)))
+list-slot-requires c κs = let a = c .before .before .before .before .before .before .before .before .before .before .before .before .before .before .args in
+    let s = c .before .before .before .loop in
+    let long = c .before .before .before .before .before .before .count-groups .kept .1 .1 .1 .0 in
+    let inside : s .i < a .slots = omega (arith, c .before .before .before .before .before .before .before .before .before .before .before .before .before .before .pre .0 .2 .0, c .before .before .loop-test .taken) in
+    ((inside, c .before .before .before .before .before .before .before .before .before .before .before .before .before .before .pre .0 .0, c .before .before .before .before .before .before .before .before .before .before .before .before .before .before .pre .0 .1), ((c .before .before .before .before .before .before .before .before .before .before .before .before .before .before .pre .1 .0 .0, long ∙ c .before .before .before .before .before .before .before .before .before .before .before .before .before .before .pre .1 .0 .1), (c .before .before .before .before .before .before .count-groups .ensures .1, (omega (arith, s .inv .1, c .before .before .before .before .before .before .before .before .before .before .before .before .before .before .pre .1 .1 .1 .0), c .before .before .before .before .before .before .before .before .before .before .before .before .before .before .pre .1 .1 .1 .1))))
 
 add-i : tie.Need-add-i Inv-loop μ-loop
 add-i c = search needs
@@ -43,32 +42,33 @@ loop-less : tie.Need-loop-less Inv-loop μ-loop
 loop-less c = search needs
 
 loop-again : tie.Need-loop-again Inv-loop μ-loop
-loop-again c =
-    let a = c .before .before .before .before .before .before .before .before .before .before .before .before .before .before .before .before .before .args in
+loop-again c = let a = c .before .before .before .before .before .before .before .before .before .before .before .before .before .before .before .before .before .args in
     let s = c .before .before .before .before .before .before .loop in
-    let inside : s .i < a .slots = omega (arith, c .before .before .before .before .before .before .before .before .before .before .before .last-in-use .ensures .0, c .before .before .before .before .before .loop-test .taken) in (
+    let own = c .before .before .before .before .before .before .before .before .before .before .before .before .before .before .before .before .before .pre .1 .1 .1 .1 in
+    let inside : s .i < a .slots = omega (arith, c .before .before .before .before .before .before .before .before .before .before .before .before .before .before .before .before .before .pre .0 .2 .0, c .before .before .before .before .before .loop-test .taken) in (
       search needs,
-      c .before .before .list-slot .kept .1 .1 .1 .1 .1 .1 .0 ∙ s .inv .1,
+      c .before .before .list-slot .kept .1 .1 .1 .1 .1 .1 .1 .0 ∙ s .inv .1,
       rw (c .before .before .list-slot .ensures)
-          (listed-more (a .slots) (a .table .now) (live (a .table .now)) (a .groups .now) (s .places) (s .i) (c .before .before .before .before .before .before .before .before .before .before .before .before .before .before .before .before .before .pre .1 .1) inside
-          (λ z. omega (arith, rank-fits (a .groups .now) _ (c .before .before .before .before .before .before .before .before .before .before .before .before .before .before .before .before .before .pre .1 .1 .here (s .i) inside z), c .before .before .before .before .before .before .before .before .before .before .before .before .before .before .before .before .before .pre .1 .0 .1, s .inv .1)) (s .inv .2)),
+          (listed-more (a .slots) (a .table .now) (live (a .table .now)) (byGroup (a .seen .now) (a .bits .now)) (s .places) (s .i) own inside
+          (λ z.
+          let here = own .here (s .i) inside z in
+          omega (arith, rank-fits (byGroup (a .seen .now) (a .bits .now)) 65536 _ (bit-cell (a .seen .now) (a .bits .now) _ here) here, c .before .before .before .before .before .before .before .before .before .before .before .before .before .before .before .before .before .pre .1 .1 .1 .0, s .inv .1)) (s .inv .2)),
     )
 
 same-length : tie.Need-same-length Inv-loop μ-loop
-same-length c = c .before .before .before .before .count-groups .kept .1 .0
+same-length c = c .before .before .before .before .count-groups .kept .1 .1 .1 .0
 
 same-length-2 : tie.Need-same-length-2 Inv-loop μ-loop
 same-length-2 c = c .before .loop .inv .1
 
 returns : tie.Need-returns Inv-loop μ-loop
-returns c =
-    let a = c .before .before .before .before .before .before .before .before .before .before .before .before .args in
+returns c = let a = c .before .before .before .before .before .before .before .before .before .before .before .before .args in
     let s = c .before .loop in
     let n = live (a .table .now) in
-    let last : s .i ≡ c .before .before .before .before .before .before .last-in-use .result = omega (arith, s .inv .0, c .loop-test .left) in (
+    let last : s .i ≡ a .top = omega (arith, s .inv .0, c .loop-test .left) in (
       c .before .before .before .before .count-groups .ensures .0,
-      listed-front (a .slots) (a .table .now) _ (c .before .before .before .before .before .before .last-in-use .ensures .0) (c .before .before .before .before .before .before .last-in-use .ensures .1) n (isSet (a .groups .now)) _
-          (subst (λ (k : ℕ). ListedSlots (a .slots) (a .table .now) n (isSet (a .groups .now)) k (s .places)) last (s .inv .2)),
+      listed-front (a .slots) (a .table .now) (a .top) (c .before .before .before .before .before .before .before .before .before .before .before .before .pre .0 .2 .0) (c .before .before .before .before .before .before .before .before .before .before .before .before .pre .0 .2 .1) n (hasBit (a .seen .now) (a .bits .now)) _
+          (subst (λ (k : ℕ). ListedSlots (a .slots) (a .table .now) n (hasBit (a .seen .now) (a .bits .now)) k (s .places)) last (s .inv .2)),
     )
 
 pub list-slots-spec : {M : Type 1} → statement M
@@ -78,7 +78,6 @@ list-slots-spec =
     Inv-loop
     μ-loop
     shared-slice-read-live
-    last-in-use-requires
     count-groups-requires
     loop-holds
     list-slot-requires
