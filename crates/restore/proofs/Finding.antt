@@ -1,5 +1,5 @@
 -- Cells put back, one after another: from the bytes of the body that the search answers to the bytes of restore. Assumes nothing.
-use Prim.Native.Nat.{ℕ, _+_, _-_, _≤_, _<_}
+use Prim.Native.Nat.{ℕ, _+_, _-_, _*_, _≤_, _<_, min}
 use mathlib.Core.Bool.{true, false}
 use mathlib.Core.List.{List}
 use mathlib.Core.Path.{_≡_, refl, sym, ap, subst, _∙_}
@@ -12,15 +12,20 @@ use Rattle.words.specs.Stores.{Store, _≔_, stores, gather}
 use Rattle.words.specs.Cells.{copyPlan, cellPlan}
 use Rattle.words.proofs.Plans.{stores-none, length-cellPlan, tab-below}
 use Rattle.words.proofs.Cells.{copy-part}
+use Rattle.words.proofs.Gather.{gather-skip}
 use Rattle.table.specs.Entry.{live}
+use Rattle.table.specs.Marks.{CellsOnce}
 use Rattle.table.specs.Rule.{ruleOk}
+use Rattle.table.proofs.Parts.{rule-once}
 use Rattle.table.proofs.Rule.{Rule, ok-facts}
 use Rattle.search.specs.Search.{heldFrom, bodyFrom, HasSource, valueFrom}
 use Rattle.search.specs.declared.Held.{Held}
 use Rattle.search.specs.declared.Held.the-variants.{InBody}
 use Rattle.search.proofs.Behind.{ValueFacts, value-facts, from-slot, from-fits}
 use Rattle.restore.specs.Restore.{restoreBytes}
+use Rattle.restore.specs.Marks.{Holders, FirstDepth, Tells, Unheld}
 use Rattle.restore.specs.Parts.{backPlan}
+use Rattle.restore.proofs.Marking.{holders-none, value-first}
 
 -- ---- one cell
 
@@ -57,6 +62,17 @@ module _ (m e : ℕ) (t : List ℕ) (d c : ℕ) (bodies : List ℕ) (ok : ruleOk
   pub put-live : live t ≤ maxLive
   put-live = rule .live
 
+  pub put-once : CellsOnce e t e
+  put-once = rule-once m e (bodiesOf (length bodies)) t rule
+
+  -- by the domains that hold the cell
+  module _ (held : ℕ) (tell : Holders e t d c held) where
+    pub put-unheld : held ≡ 0 → heldFrom e t d c ≡ false
+    put-unheld = holders-none e t d c held tell low put-live
+
+    pub put-first : (r : ℕ) → FirstDepth held r → valueFrom e t r c ≡ valueFrom e t d c
+    put-first r f = value-first m e (bodiesOf (length bodies)) t rule d c held low tell r f
+
   -- by the body that the search answered
   module _ (v : Held) (x k : ℕ) (q : v ≡ valueFrom e t d c) (n : v ≡ InBody x k) where
     facts : ValueFacts e t d c x k
@@ -80,6 +96,14 @@ module _ (m e : ℕ) (t : List ℕ) (d c : ℕ) (bodies : List ℕ) (ok : ruleOk
         )
 
 -- ---- all cells
+
+-- the groups passed over have no bytes
+pub put-passed : (m e : ℕ) (t : List ℕ) (d : ℕ) (bodies : List ℕ) → ruleOk m e (bodiesOf (length bodies)) t ≡ true → 1 ≤ d
+    → (mask : ℕ) (seen : List ℕ) → Tells e t d mask seen → (cells from n r : ℕ) → Unheld mask seen from n r
+    → gather (min cells (64 * from)) (backPlan e t d bodies) ≡ gather (min cells (64 * r)) (backPlan e t d bodies)
+put-passed m e t d bodies ok low mask seen tell cells from n r u =
+    sym (gather-skip (backPlan e t d bodies) (min cells (64 * from)) (min cells (64 * r)) (omega (arith, u .low))
+    (λ c a b. rw (put-unheld m e t d c bodies ok low _ (tell c) (u .none c (omega (arith, a, b)) (omega (arith, a, b))))))
 
 pub bytes-are : (m d e : ℕ) (bodies t : List ℕ) → e ≡ slotsOf (length t) → gather m (backPlan e t d bodies) ≡ restoreBytes m d bodies t
 unfolding restoreBytes

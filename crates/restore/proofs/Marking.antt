@@ -1,45 +1,34 @@
--- The marks of all entries and the mask of the domains from a depth inwards: in a table that is right, a cell's mark has one of these domains
--- exactly if somebody from the depth inwards holds it. Assumes nothing.
+-- The marks of all entries and the mask of the domains from a depth inwards: what a cell's mark has of the mask are the domains from that depth
+-- inwards that hold the cell, and the first of them is the holder whose value is put back. Assumes nothing.
 use Prim.Native.Nat.{ℕ, zero, suc, _+_, _-_, _*_, _≤_, _<_, _/_, _%_, _^_, min}
-use mathlib.Core.Bool.{Bool, true, false, cond, not, _||_}
+use mathlib.Core.Bool.{Bool, true, false, cond, not, _&&_}
 use mathlib.Core.List.{List}
-use mathlib.Core.Path.{_≡_, refl, sym, ap, _∙_}
+use mathlib.Core.Path.{_≡_, refl, sym, ap, ap₂, _∙_}
+use native.Mathlib.Numerals.{add-one}
 use native.Mathlib.Omega.{arith}
-use borrow.Author.Count.{below-more}
-use borrow.Author.Tests.{eq-eqb, ne-eqb, eqb-true, eqb-false, lt-ltb, le-leb, lt-leb, not-true}
+use borrow.Author.Tests.{eq-eqb, ne-eqb, eqb-true, eqb-false, lt-ltb, le-leb, lt-leb, leb-true, not-true}
 use lib.Bits.{bitAnd, and-shr, and-step}
+use lib.Count.{trailingZeros}
 use lib.Dec.{leb, eqb}
-use lib.ListN.{length, getD, take, drop}
-use lib.Seq.{getD-take, getD-drop}
-use lib.Pow.{shr-le}
+use lib.Pow.{pow-mono, shr-lt}
 use Rattle.words.specs.Layout.{maxLive}
 use Rattle.words.specs.Scan.{first, all}
-use Rattle.words.proofs.Scan.{by-bool, by-le, true≢, is-false, first-miss, all-at, or-split}
-use Rattle.table.specs.Entry.{live, word1, holdsIn}
-use Rattle.table.specs.Marks.{has, zeros, Blank, Marked}
-use Rattle.table.proofs.Digits.{halved}
-use Rattle.table.proofs.Marks.{zeros-length, blank-zeros, marked-holds}
+use Rattle.words.proofs.Scan.{by-bool, by-le, true≢, is-false, first-at, all-at, and-split, and-join}
+use Rattle.table.specs.Entry.{live, word2, findIn, holdsIn}
+use Rattle.table.specs.Blocks.{blockOf, markOf, Kept}
+use Rattle.table.specs.Marks.{has, Marked}
+use Rattle.table.proofs.Blocks.{none-held}
+use Rattle.table.proofs.Digits.{halved, has-none}
+use Rattle.table.proofs.Entry.{find-hit, holds-found}
+use Rattle.table.proofs.Marks.{marked-holds}
 use Rattle.table.proofs.Rule.{Rule}
-use Rattle.search.specs.Search.{stepsIn, heldFrom}
-use Rattle.search.proofs.Behind.{steps-within, steps-hold}
-use Rattle.restore.specs.Marks.{inwards, heldBy, Unheld, Tells}
-
--- ---- marks that are lent with none made yet
-
-pub lent : (n : ℕ) (s : List ℕ) → s ≡ zeros n → (length s ≡ n) × Blank s
-lent n s q = rw q (zeros-length n, blank-zeros n)
+use Rattle.search.specs.Search.{stepsIn, heldFrom, sourceIn, valueFrom}
+use Rattle.search.specs.declared.Held.the-variants.{InBody}
+use Rattle.search.proofs.Behind.{steps-within, steps-hold, value-some}
+use Rattle.changes.proofs.Bits.{lowest-found}
+use Rattle.restore.specs.Marks.{inwards, Holders, FirstDepth, Tells, Unheld}
 
 -- ---- the digits of a mark
-
-some-digit : (n m : ℕ) → 1 ≤ m → m ≤ n → (k : ℕ) × (m / 2 ^ k % 2 ≡ 1)
-some-digit zero m low few = absurd (omega arith)
-some-digit (suc n) m low few =
-    by-bool (eqb (m % 2) 1)
-    (λ q. (0, omega (arith, eqb-true (m % 2) 1 q)))
-    (λ q.
-    let even = eqb-false (m % 2) 1 q in
-    let r = some-digit n (m / 2) (omega (arith, even)) (omega arith) in
-    (suc (r .0), rw (halved m (r .0)) (r .1)))
 
 -- depth j + 1 is digit j
 has-digit : (j m : ℕ) → has (suc j) m ≡ eqb (m / 2 ^ j % 2) 1
@@ -51,26 +40,27 @@ has-digit j m =
 common-digit : (a b j : ℕ) → bitAnd a b / 2 ^ j % 2 ≡ min (a / 2 ^ j % 2) (b / 2 ^ j % 2)
 common-digit a b j = ap (λ (x : ℕ). x % 2) (and-shr a b j ∙ and-step (a / 2 ^ j) (b / 2 ^ j)) ∙ omega arith
 
--- ---- a mark and a mask
+both-one : (x y : ℕ) → x < 2 → y < 2 → eqb (min x y) 1 ≡ (eqb x 1 && eqb y 1)
+both-one x y a b =
+    by-bool (eqb x 1)
+    (λ p.
+    by-bool (eqb y 1)
+    (λ q. rw (p, q) (eq-eqb (min x y) 1 (omega (arith, eqb-true x 1 p, eqb-true y 1 q))))
+    (λ q. rw (p, q) (ne-eqb (min x y) 1 (λ z. eqb-false y 1 q (omega (arith, z, a, b))))))
+    (λ p. rw p (ne-eqb (min x y) 1 (λ z. eqb-false x 1 p (omega (arith, z, a, b)))))
 
--- a domain that both have
-both-have : (mask mark k : ℕ) → 1 ≤ k → has k mask ≡ true → has k mark ≡ true → heldBy mask mark ≡ true
-unfolding heldBy
-both-have mask mark zero low p q = absurd (omega arith)
-both-have mask mark (suc j) low p q =
-    let a = eqb-true (mask / 2 ^ j % 2) 1 (sym (has-digit j mask) ∙ p) in
-    let b = eqb-true (mark / 2 ^ j % 2) 1 (sym (has-digit j mark) ∙ q) in
-    rw (ne-eqb (bitAnd mark mask) 0 (λ z. omega (arith, z, shr-le (bitAnd mark mask) j, common-digit mark mask j)))
+-- the depths that two marks have in common
+common-has : (a b k : ℕ) → 1 ≤ k → has k (bitAnd a b) ≡ (has k a && has k b)
+common-has a b zero low = absurd (omega arith)
+common-has a b (suc j) low =
+    has-digit j (bitAnd a b)
+    ∙ ap (λ (x : ℕ). eqb x 1) (common-digit a b j)
+    ∙ both-one (a / 2 ^ j % 2) (b / 2 ^ j % 2) (omega arith) (omega arith)
+    ∙ sym (ap₂ (λ (x y : Bool). x && y) (has-digit j a) (has-digit j b))
 
-some-held : (mask mark : ℕ) → heldBy mask mark ≡ true → (k : ℕ) × (1 ≤ k) × (has k mask ≡ true) × (has k mark ≡ true)
-unfolding heldBy
-some-held mask mark h =
-    let there = eqb-false (bitAnd mark mask) 0 (not-true (eqb (bitAnd mark mask) 0) h) in
-    let r = some-digit (bitAnd mark mask) (bitAnd mark mask) (omega (arith, there)) (omega arith) in
-    let both = common-digit mark mask (r .0) in
-    (suc (r .0), omega arith, has-digit (r .0) mask ∙ eq-eqb (mask / 2 ^ (r .0) % 2) 1 (omega (arith, both, r .1)), has-digit (r .0) mark ∙ eq-eqb (mark / 2 ^ (r .0) % 2) 1 (omega (arith, both, r .1)))
+-- ---- the mask
 
--- which of the eight depths the mask has, asked of all of them
+-- which of the eight depths it has, asked of all of them
 asked : all 8 (λ i. all 8 (λ j. cond (leb i j) (has (suc j) (inwards (suc i))) (not (has (suc j) (inwards (suc i)))))) ≡ true
 unfolding all
 asked = refl
@@ -80,83 +70,116 @@ asked-at i j l k =
     all-at 8 (λ j. cond (leb i j) (has (suc j) (inwards (suc i))) (not (has (suc j) (inwards (suc i)))))
     (all-at 8 (λ i. all 8 (λ j. cond (leb i j) (has (suc j) (inwards (suc i))) (not (has (suc j) (inwards (suc i)))))) asked i l) j k
 
-inwards-has : (d k : ℕ) → 1 ≤ d → d ≤ k → k ≤ maxLive → has k (inwards d) ≡ true
-inwards-has zero k low l few = absurd (omega arith)
-inwards-has (suc i) zero low l few = absurd (omega arith)
-inwards-has (suc i) (suc j) low l few = rw (le-leb i j (omega arith)) at (asked-at i j (omega arith) (omega arith))
-
-inwards-only : (d k : ℕ) → 1 ≤ d → d ≤ maxLive → 1 ≤ k → k ≤ maxLive → has k (inwards d) ≡ true → d ≤ k
-inwards-only zero k low high l few h = absurd (omega arith)
-inwards-only (suc i) zero low high l few h = absurd (omega arith)
-inwards-only (suc i) (suc j) low high l few h =
-    by-le (suc i) (suc j) (λ z. z)
-    (λ z.
-    let no = rw (lt-leb i j (omega arith)) at (asked-at i j (omega arith) (omega arith)) in
-    absurd (true≢ h (not-true (has (suc j) (inwards (suc i))) no)))
-
--- ---- many marks, asked one after another
-
--- x says whether one of the first j is held by a domain of the mask
-pub held-more : (marks : List ℕ) (mask j : ℕ) (x y : Bool) → (x ≡ false → (k : ℕ) → k < j → heldBy mask (getD marks k 0) ≡ false)
-    → y ≡ heldBy mask (getD marks j 0) → (x || y) ≡ false → (k : ℕ) → k < j + 1 → heldBy mask (getD marks k 0) ≡ false
-held-more marks mask j x y so-far q h k l =
-    let both = or-split x y h in
-    below-more (λ i. heldBy mask (getD marks i 0) ≡ false) j (so-far (both .0)) (sym q ∙ both .1) k l
-
--- a mark of the part of 64 from `from` on is one of all
-pub part-held : (seen : List ℕ) (mask from j : ℕ) → j < 64 → heldBy mask (getD (take (from + 64 - from) (drop from seen)) j 0) ≡ false
-    → heldBy mask (getD seen (from + j) 0) ≡ false
-part-held seen mask from j l h = rw (getD-take (from + 64 - from) (drop from seen) j 0 (omega arith), getD-drop) at h
-
--- one group more is passed over
-pub unheld-more : (mask : ℕ) (seen : List ℕ) (from n at : ℕ) → Unheld mask seen from n at → at + 64 ≤ n
-    → ((j : ℕ) → j < 64 → heldBy mask (getD (take (at + 64 - at) (drop at seen)) j 0) ≡ false) → Unheld mask seen from n (at + 64)
-unheld-more mask seen from n at u fits none =
-    record {
-      low = omega (arith, u .low);
-      high = fits;
-      none = λ c a b.
-          by-le at c
-          (λ far.
-          let here : at + (c - at) ≡ c = omega arith in
-          rw here at (part-held seen mask at (c - at) (omega arith) (none (c - at) (omega arith))))
-          (λ near. u .none c a near);
-    }
-
--- ---- a mark, and somebody who holds the cell
-
--- a scan finds something below its bound where there is something
-first-below : (n : ℕ) (f : ℕ → Bool) (k : ℕ) → k < n → f k ≡ true → first n f < n
-first-below n f k l h = by-le n (first n f) (λ a. absurd (true≢ h (first-miss n f k (omega arith)))) (λ a. a)
-
-module _ (m e b : ℕ) (t : List ℕ) (ok : Rule m e b t) (d c : ℕ) (low : 1 ≤ d) (seen : List ℕ) (marked : Marked e t e seen) where
-  -- who holds the cell has a mark of his depth there
-  held-marked : heldFrom e t d c ≡ true → heldBy (inwards d) (getD seen c 0) ≡ true
-  held-marked h =
-      let x : ℕ = d + stepsIn e t d c in
-      let few : x ≤ maxLive = omega (arith, steps-within e t d c h, ok .live) in
-      both-have (inwards d) (getD seen c 0) x (omega arith) (inwards-has d x low (omega arith) few)
-      (marked-holds e t seen marked x c (omega arith) ∙ steps-hold e t d c h)
-
-  -- and an entry that made such a mark is of a live domain
-  marked-held : d ≤ maxLive → heldBy (inwards d) (getD seen c 0) ≡ true → heldFrom e t d c ≡ true
-  unfolding stepsIn
-  marked-held high l =
-      let holds : ℕ → Bool = λ k. holdsIn e t (d + k) c in
-      let n : ℕ = suc (live t) - d in
-      let h = some-held (inwards d) (getD seen c 0) l in
-      let x : ℕ = h .0 in
-      let f = marked .found x c (h .3) in
-      let u = ok .used (f .0) (f .1) (λ (z : word1 e t (f .0) ≡ 0). omega (arith, z, f .2, h .1)) in
-      let in-reach : x ≤ live t = omega (arith, u .high, f .2) in
-      let deep : d ≤ x = inwards-only d x low high (h .1) (omega (arith, ok .live)) (h .2) in
-      let back : d + (x - d) ≡ x = omega arith in
-      let there : holdsIn e t x c ≡ true = sym (marked-holds e t seen marked x c (h .1)) ∙ h .3 in
-      lt-ltb (first n holds) n (first-below n holds (x - d) (omega arith) (rw back there))
+-- those from d on
+mask-has : (d k : ℕ) → 1 ≤ d → d ≤ maxLive → 1 ≤ k → k ≤ maxLive → has k (inwards d) ≡ leb d k
+mask-has zero k low high l few = absurd (omega arith)
+mask-has (suc i) zero low high l few = absurd (omega arith)
+mask-has (suc i) (suc j) low high l few =
+    let one = asked-at i j (omega arith) (omega arith) in
+    by-le (suc i) (suc j)
+    (λ z. rw (le-leb i j (omega arith)) at one ∙ sym (le-leb (suc i) (suc j) z))
+    (λ z. not-true (has (suc j) (inwards (suc i))) (rw (lt-leb i j (omega arith)) at one) ∙ sym (lt-leb (suc i) (suc j) z))
 
 -- what the code asks of the marks
-pub marks-tell : (m e b : ℕ) (t : List ℕ) → Rule m e b t → (d : ℕ) → 1 ≤ d → d ≤ maxLive → (seen : List ℕ) → Marked e t e seen → Tells e t d (inwards d) seen
-marks-tell m e b t ok d low high seen marked c =
-    by-bool (heldFrom e t d c)
-    (λ h. rw h (held-marked m e b t ok d c low seen marked h))
-    (λ h. rw h (is-false (heldBy (inwards d) (getD seen c 0)) (λ p. true≢ (marked-held m e b t ok d c low seen marked high p) h)))
+pub marks-tell : (e : ℕ) (t : List ℕ) (d : ℕ) → 1 ≤ d → d ≤ maxLive → (seen : List ℕ) → Marked e t e seen → Tells e t d (inwards d) seen
+marks-tell e t d low high seen marked c k l few =
+    common-has (markOf seen c) (inwards d) k l ∙ ap₂ (λ (x y : Bool). x && y) (marked-holds e t seen marked k c l) (mask-has d k low high l few)
+
+-- ---- groups that are passed over
+
+-- up to r no group has a block
+pub unheld-blank : (mask : ℕ) (seen : List ℕ) (from n r : ℕ) → Kept seen → from ≤ r → r ≤ n → ((g : ℕ) → from ≤ g → g < r → blockOf seen g ≡ 0)
+    → Unheld mask seen from n r
+unheld-blank mask seen from n r ok low high blank = record { low = low; high = high; none = λ c a b. none-held seen ok mask c (blank (c / 64) a b) }
+
+-- one group more, and then those without a block
+pub unheld-more : (mask : ℕ) (seen : List ℕ) (from n g r : ℕ) → Unheld mask seen from n g → ((c : ℕ) → c / 64 ≡ g → bitAnd (markOf seen c) mask ≡ 0)
+    → Unheld mask seen (g + 1) n r → Unheld mask seen from n r
+unheld-more mask seen from n g r u here rest =
+    record {
+      low = omega (arith, u .low, rest .low);
+      high = rest .high;
+      none = λ c a b.
+          by-le (g + 1) (c / 64)
+          (λ far. rest .none c far b)
+          (λ near. by-bool (eqb (c / 64) g) (λ z. here c (eqb-true (c / 64) g z)) (λ z. u .none c a (omega (arith, near, eqb-false (c / 64) g z))));
+    }
+
+-- ---- the first depth of those that hold a cell
+
+digit-before : (held n : ℕ) → ((i : ℕ) → i < n → eqb (held / 2 ^ i % 2) 1 ≡ false) → (k : ℕ) → 1 ≤ k → k < n + 1 → has k held ≡ false
+digit-before held n h zero l b = absurd (omega arith)
+digit-before held n h (suc i) l b = has-digit i held ∙ h i (omega (arith, b))
+
+-- a byte has no digit past its eighth
+digit-small : (held j : ℕ) → held < 256 → eqb (held / 2 ^ j % 2) 1 ≡ true → j < 8
+digit-small held j small h =
+    by-le 8 j
+    (λ far.
+    let wide : 2 ^ 8 ≤ 2 ^ (0 + j) = pow-mono {i = 8} {j = 0 + j} (omega (arith, far)) in
+    let none : held / 2 ^ j < 1 = shr-lt 0 j (omega (arith, small, wide)) in
+    absurd (omega (arith, none, eqb-true (held / 2 ^ j % 2) 1 h)))
+    (λ near. near)
+
+pub first-found : (held : ℕ) → held < 256 → (held ≡ 0 → ⊥) → FirstDepth held (trailingZeros 64 held + 1)
+first-found held small some =
+    let l = lowest-found held (omega (arith, small)) some in
+    record {
+      low = omega arith;
+      high = omega (arith, digit-small held (trailingZeros 64 held) small (l .here));
+      here = ap (λ (k : ℕ). has k held) (add-one (trailingZeros 64 held)) ∙ has-digit (trailingZeros 64 held) held ∙ l .here;
+      before = digit-before held (trailingZeros 64 held) (l .before);
+    }
+
+-- ---- who holds the cell
+
+module _ (e : ℕ) (t : List ℕ) (d c held : ℕ) (tell : Holders e t d c held) where
+  told : (k : ℕ) → 1 ≤ k → k ≤ maxLive → has k held ≡ true → (holdsIn e t k c ≡ true) × (d ≤ k)
+  told k l few h =
+      let both = and-split (holdsIn e t k c) (leb d k) (sym (tell k l few) ∙ h) in
+      (both .0, leb-true d k (both .1))
+
+  untold : (k : ℕ) → 1 ≤ d → d ≤ k → k ≤ maxLive → has k held ≡ false → holdsIn e t k c ≡ false
+  untold k low l few h =
+      is-false (holdsIn e t k c) (λ p. true≢ (tell k (omega arith) few ∙ and-join (holdsIn e t k c) (leb d k) p (le-leb d k l)) h)
+
+  -- nobody, where no domain is told
+  pub holders-none : 1 ≤ d → live t ≤ maxLive → held ≡ 0 → heldFrom e t d c ≡ false
+  holders-none low few z =
+      is-false (heldFrom e t d c)
+      (λ h.
+      true≢ (steps-hold e t d c h)
+      (untold (d + stepsIn e t d c) low (omega arith) (omega (arith, steps-within e t d c h, few)) (ap (λ (m : ℕ). has (d + stepsIn e t d c) m) z ∙ has-none (d + stepsIn e t d c))))
+
+-- a search that no domain before r ends ends there
+steps-first : (e : ℕ) (t : List ℕ) (d c r : ℕ) → d ≤ r → r ≤ live t → ((k : ℕ) → d ≤ k → k < r → holdsIn e t k c ≡ false) → holdsIn e t r c ≡ true
+    → d + stepsIn e t d c ≡ r
+unfolding stepsIn
+steps-first e t d c r l within none here =
+    let back : d + (r - d) ≡ r = omega arith in
+    let s : first (suc (live t) - d) (λ k. holdsIn e t (d + k) c) ≡ r - d =
+    first-at (suc (live t) - d) (λ k. holdsIn e t (d + k) c) (r - d) (omega arith) (λ j b. none (d + j) (omega arith) (omega (arith, b))) (λ _. rw back here) in
+    rw s back
+
+value-at : (e : ℕ) (t : List ℕ) (d c r : ℕ) → r ≤ live t → d + stepsIn e t d c ≡ r → valueFrom e t d c ≡ InBody r (word2 e t (sourceIn e t r c))
+value-at e t d c r within q =
+    value-some e t d c (lt-ltb (stepsIn e t d c) (suc (live t) - d) (omega (arith, q))) ∙ (λ j. InBody (q j) (word2 e t (sourceIn e t (q j) c)))
+
+-- the search may begin at the first holder
+module _ (m e b : ℕ) (t : List ℕ) (ok : Rule m e b t) (d c held : ℕ) (low : 1 ≤ d) (tell : Holders e t d c held) (r : ℕ) (f : FirstDepth held r) where
+  holder : (holdsIn e t r c ≡ true) × (d ≤ r)
+  holder = told e t d c held tell r (f .low) (f .high) (f .here)
+
+  -- who is live
+  within : r ≤ live t
+  within =
+      let l = holds-found e t r c (holder .0) in
+      let q = find-hit e t r c l in
+      let u = ok .used (findIn e t r c) l (λ z. omega (arith, z, q .0, f .low)) in
+      omega (arith, u .high, q .0)
+
+  pub value-first : valueFrom e t r c ≡ valueFrom e t d c
+  value-first =
+      value-at e t r c r within (steps-first e t r c r (omega arith) within (λ k a b. absurd (omega (arith, a, b))) (holder .0))
+      ∙ sym (value-at e t d c r within
+      (steps-first e t d c r (holder .1) within (λ k a b. untold e t d c held tell k low a (omega (arith, b, f .high)) (f .before k (omega (arith, a, low)) b)) (holder .0)))

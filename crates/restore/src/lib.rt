@@ -1,9 +1,10 @@
 // Restore: it puts back each cell held by the named domain or one inside it, with the value of the outermost of these holders, and then ends
 // the domains inside.
 //
-// The questions leave a mark for each cell, with the domains that hold it. Then the cells are walked in their order, past the groups of 64 in
-// which no mark has a domain from the named one inwards, with one search for the value of each cell that is put back. Memory is whole before
-// any word of the table changes. Where domains end, their entries and the head's words are staged, and one writer stores them.
+// The questions leave marks of the cells, with the domains that hold them. Then the groups of 64 cells are walked in their order, past those in
+// which no mark has a domain from the named one inwards, with one search for the value of each cell that is put back. The mark tells the holder
+// whose value that is, and notes tell where its entry stands. Memory is whole before any word of the table changes. Where domains end, their
+// entries and the head's words are staged, and one writer stores them.
 use changes::Head;
 use changes::few_bits;
 use changes::few_words;
@@ -17,18 +18,28 @@ use changes::write_staged;
 use search::Held;
 use search::find_domain;
 use search::find_value;
+use search::notes::few_notes;
+use search::notes::many_notes;
+use search::notes::note_entries;
 use store::Answer;
 use store::answer_of;
 use store::store_check;
-use table::FEW_CELLS;
 use table::FEW_SLOTS;
+use table::cell_marks::FEW_BLOCKS;
+use table::cell_marks::SOME_BLOCKS;
+use table::cell_marks::blocks_wanted;
+use table::cell_marks::few_marks;
+use table::cell_marks::group_held;
+use table::cell_marks::group_of;
+use table::cell_marks::many_marks;
+use table::cell_marks::mark_of;
+use table::cell_marks::past_blank;
+use table::cell_marks::some_marks;
 use table::domains::is_inside;
-use table::few_marks;
 use table::fields::depth_of;
 use table::first_word;
-use table::many_marks;
-use table::mark_of;
 use table::no_bodies;
+use table::reach_of;
 use words::copy_bytes;
 use words::layout::CELL_SIZE;
 use words::layout::GROUP_SIZE;
@@ -43,20 +54,20 @@ use words::wide;
 ghost use mathlib.Core.Path.{_≡_};
 ghost use mathlib.Core.Bool.{true, false};
 ghost use Prim.Native.Nat.{ℕ, _+_, _*_, _≤_, _<_, min};
-ghost use lib.ListN.{length, take, getD};
+ghost use lib.ListN.{length, take};
 ghost use Rattle.store.specs.Checks.{lent};
-ghost use Rattle.words.specs.Layout.{cellAt, cellsOf, bodiesOf, pairsAt, slotsOf, tableWords, maxSlots, maxLive, maxCells, maxBodies, cellSize, groupSize, groupAt};
+ghost use Rattle.words.specs.Layout.{cellAt, cellsOf, bodiesOf, pairsAt, slotsOf, tableWords, maxSlots, maxLive, maxCells, cellSize, groupSize, groupAt};
 ghost use Rattle.words.specs.Stores.{stores, gather};
 ghost use Rattle.words.specs.Cells.{cellPlan};
 ghost use Rattle.table.specs.Entry.{live, word1, depthOf};
-ghost use Rattle.table.specs.Marks.{Blank, Marked, AllMarked};
+ghost use Rattle.table.specs.Blocks.{maxGroups, cellsIn, Kept, Enough};
+ghost use Rattle.table.specs.Marks.{Marked, EndsAt, Reached, AllMarked, RoomForMarks};
 ghost use Rattle.table.specs.Rule.{ruleOk};
-ghost use Rattle.search.specs.Search.{heldFrom};
 ghost use Rattle.changes.specs.Staged.{Turned, Stages, HeadOk, headStores, Journaled};
 ghost use Rattle.store.specs.Outcome.{buffers, report, Makes};
 ghost use Rattle.store.specs.Means.{Shows};
 ghost use Rattle.restore.specs.Restore.{restoreCheck, restoreBytes, restoreChange, restoreWords, restoreCall, restoreMeans};
-ghost use Rattle.restore.specs.Marks.{inwards, heldBy, Unheld, Tells};
+ghost use Rattle.restore.specs.Marks.{inwards, Holders, FirstDepth, Tells, Unheld};
 ghost use Rattle.restore.specs.Parts.{backPlan, groupPlan, headWords, endingWords};
 
 // The questions put to restore: 0, or the number of the first no. It leaves the marks of all entries where it says 0.
@@ -64,16 +75,16 @@ fn restore_check(
     memory: usize,
     bodies: usize,
     table: &[u32],
+    top: usize,
     handle: u32,
     seen: &mut [u8],
     used: &mut [u8],
 ) -> u32
-    requires room { ⌜ (min (cellsOf memory) maxCells ≤ length (now seen)) × (length (now used) ≡ maxBodies) ⌝ }
-    requires blank { ⌜ Blank (now seen) × Blank (now used) ⌝ }
+    requires { ⌜ RoomForMarks (now table) (cellsOf memory) top (now seen) (now used) ⌝ }
     ensures no { λ r. ⌜ r ≡ restoreCheck (lent memory bodies (now (table .entry))) handle ⌝ }
     ensures marks { λ r. ⌜ (r ≡ 0 → AllMarked (slotsOf (length (now (table .entry)))) (now (table .entry)) (now (seen .exit)) (now (used .exit))) ⌝ }
 {
-    let no = store_check(memory, bodies, table, seen, used);
+    let no = store_check(memory, bodies, table, top, seen, used);
     if no != 0 {
         return no;
     }
@@ -93,41 +104,28 @@ fn inwards_of(depth: u32) -> u8
     (256 - (1u32 << depth) / 2) as u8
 }
 
-// Has a mark one of the mask's domains?
-fn held_by(mask: u8, mark: u8) -> bool
-    ensures { λ r. ⌜ r ≡ heldBy mask mark ⌝ }
+// The outermost of the domains that `held` has: depth k is bit k - 1.
+fn first_depth(held: u8) -> u32
+    requires { ⌜ (held ≡ 0 → ⊥) ⌝ }
+    ensures { λ r. ⌜ FirstDepth held r ⌝ }
 {
-    (mark & mask) != 0
+    u64::trailing_zeros(held as u64) + 1
 }
 
-// Has one of 64 marks a domain of the mask? All of them are asked, so that the compiler can ask many at once.
-fn any_held(marks: &[u8], mask: u8) -> bool
-    requires { ⌜ length (now marks) ≡ groupSize ⌝ }
-    ensures { λ r. ⌜ (r ≡ false → (j : ℕ) → j < groupSize → heldBy mask (getD (now (marks .entry)) j 0) ≡ false) ⌝ }
+// Passes over groups of cells from `from` on of which none is to be put back: all of a large memory's that have no marks, and those whose marks
+// have none of the mask's domains. It is a loop of its own, so that its numbers stay in registers.
+fn past_unheld(seen: &[u8], from: usize, groups: usize, mask: u8) -> usize
+    requires { ⌜ (from ≤ groups) × (groups ≤ maxGroups) × Kept (now seen) ⌝ }
+    ensures { λ r. ⌜ Unheld mask (now (seen .entry)) from groups r ⌝ }
 {
-    let mut any = false;
-    let mut j: usize = 0;
-    while j < GROUP_SIZE {
-        any = any | held_by(mask, marks[j]);
-        j += 1;
-    }
-    any
-}
-
-// Passes over groups of cells from `from` on of which none is to be put back: most of a large memory's. What is left at the end is less than a
-// group, and is not passed over. It is a loop of its own, so that its numbers stay in registers.
-fn past_unheld(seen: &[u8], from: usize, cells: usize, mask: u8) -> usize
-    requires { ⌜ (from ≤ cells) × (cells ≤ length (now seen)) ⌝ }
-    ensures { λ r. ⌜ Unheld mask (now (seen .entry)) from cells r ⌝ }
-{
-    let mut at = from;
-    while at + GROUP_SIZE <= cells {
-        if any_held(&seen[at..at + GROUP_SIZE], mask) {
-            return at;
+    let mut g = past_blank(seen, from, groups);
+    while g < groups {
+        if group_held(seen, g, mask) {
+            return g;
         }
-        at += GROUP_SIZE;
+        g = past_blank(seen, g + 1, groups);
     }
-    at
+    g
 }
 
 // Puts 64 bytes back into a cell of memory, at most budget of them. It is lent the bytes that the holder holds, and no table.
@@ -139,7 +137,8 @@ fn put_cell(bytes: &[u8], memory: &mut [u8], cell: usize, budget: usize)
     copy_bytes(bytes, &mut memory[at..at + CELL_SIZE], budget);
 }
 
-// Puts a cell back where it is held, at most budget bytes of it, and gives how many bytes that is uncut.
+// Puts a cell back where it is held, at most budget bytes of it, and gives how many bytes that is uncut. `held` has the domains that hold it,
+// so that the search begins at the first of them and looks for no other's entry. `last` and `before` are notes of places to begin at.
 fn put_held(
     memory: &mut [u8],
     bodies: &[u8],
@@ -147,19 +146,21 @@ fn put_held(
     slots: usize,
     depth: u32,
     cell: usize,
-    held: bool,
+    held: u8,
+    last: &[u16],
+    before: &[u16],
     budget: usize,
 ) -> usize
     requires { ⌜ (slots ≤ maxSlots) × (pairsAt slots ≤ length (now table)) × (1 ≤ depth) × (cell < maxCells) × (cellAt cell + cellSize ≤ length (now memory)) ⌝ }
-    requires { ⌜ (ruleOk (cellsOf (length (now memory))) slots (bodiesOf (length (now bodies))) (now table) ≡ true) × (held ≡ heldFrom slots (now table) depth cell) ⌝ }
+    requires { ⌜ (ruleOk (cellsOf (length (now memory))) slots (bodiesOf (length (now bodies))) (now table) ≡ true) × Holders slots (now table) depth cell held ⌝ }
     ensures made { λ r. ⌜ r ≡ length (backPlan slots (now (table .entry)) depth (now (bodies .entry)) cell) ⌝ }
     ensures few { λ r. ⌜ r ≤ cellSize ⌝ }
     ensures bytes { λ _. ⌜ now (memory .exit) ≡ stores (take budget (backPlan slots (now (table .entry)) depth (now (bodies .entry)) cell)) (now (memory .entry)) ⌝ }
 {
-    if !held {
+    if held == 0 {
         return 0;
     }
-    match find_value(table, slots, depth, cell as u32) {
+    match find_value(table, slots, first_depth(held), cell as u32, last, before) {
         Held::Nowhere => 0,
         Held::InBody(_, body) => {
             let at = cell_at(wide(body));
@@ -180,10 +181,12 @@ fn put_group(
     mask: u8,
     from: usize,
     n: usize,
+    last: &[u16],
+    before: &[u16],
     budget: usize,
 ) -> usize
     requires { ⌜ (slots ≤ maxSlots) × (pairsAt slots ≤ length (now table)) × (1 ≤ depth) × (cellsOf (length (now memory)) ≤ maxCells)
-        × (n ≤ groupSize) × (from + n ≤ length (now seen)) × (from + n ≤ cellsOf (length (now memory))) ⌝ }
+        × (n ≤ groupSize) × (from + n ≤ cellsIn (now seen)) × (from + n ≤ cellsOf (length (now memory))) ⌝ }
     requires { ⌜ (ruleOk (cellsOf (length (now memory))) slots (bodiesOf (length (now bodies))) (now table) ≡ true) × Tells slots (now table) depth mask (now seen) ⌝ }
     ensures made { λ r. ⌜ r ≡ length (groupPlan slots (now (table .entry)) depth (now (bodies .entry)) from n) ⌝ }
     ensures few { λ r. ⌜ r ≤ cellSize * n ⌝ }
@@ -200,7 +203,9 @@ fn put_group(
             slots,
             depth,
             cell,
-            held_by(mask, mark_of(seen, cell)),
+            mark_of(seen, cell) & mask,
+            last,
+            before,
             remaining(budget, bytes),
         );
         j += 1;
@@ -217,10 +222,11 @@ fn put_back(
     depth: u32,
     seen: &[u8],
     mask: u8,
+    last: &[u16],
+    before: &[u16],
     budget: usize,
 ) -> usize
-    requires { ⌜ (slots ≤ maxSlots) × (pairsAt slots ≤ length (now table)) × (1 ≤ depth)
-        × (cellsOf (length (now memory)) ≤ maxCells) × (cellsOf (length (now memory)) ≤ length (now seen)) ⌝ }
+    requires { ⌜ (slots ≤ maxSlots) × (pairsAt slots ≤ length (now table)) × (1 ≤ depth) × (cellsOf (length (now memory)) ≤ maxCells) × Kept (now seen) ⌝ }
     requires { ⌜ (ruleOk (cellsOf (length (now memory))) slots (bodiesOf (length (now bodies))) (now table) ≡ true) × Tells slots (now table) depth mask (now seen) ⌝ }
     ensures made { λ r. ⌜ r ≡ length (gather (cellsOf (length (now (memory .entry)))) (backPlan slots (now (table .entry)) depth (now (bodies .entry)))) ⌝ }
     ensures few { λ r. ⌜ r ≤ cellSize * maxCells ⌝ }
@@ -228,11 +234,11 @@ fn put_back(
         ≡ stores (take budget (gather (cellsOf (length (now (memory .entry)))) (backPlan slots (now (table .entry)) depth (now (bodies .entry))))) (now (memory .entry)) ⌝ }
 {
     let cells = cells_of(memory.len());
+    let groups = group_of(cells + GROUP_SIZE - 1);
     let mut bytes: usize = 0;
-    let mut cell: usize = 0;
-    while cell < cells {
-        let at = past_unheld(seen, cell, cells, mask);
-        let n = least(GROUP_SIZE, cells - at);
+    let mut g = past_unheld(seen, 0, groups, mask);
+    while g < groups {
+        let from = GROUP_SIZE * g;
         bytes += put_group(
             memory,
             bodies,
@@ -241,26 +247,31 @@ fn put_back(
             depth,
             seen,
             mask,
-            at,
-            n,
+            from,
+            least(GROUP_SIZE, cells - from),
+            last,
+            before,
             remaining(budget, bytes),
         );
-        cell = at + n;
+        g = past_unheld(seen, g + 1, groups, mask);
     }
     bytes
 }
 
-// Restore's part on memory, and its steps uncut, by the marks of all entries.
-fn restore_memory(
+// Restore's part on memory, and its steps uncut, by the marks of all entries, with arrays lent for notes of the entries below `top`.
+fn memory_noted(
     memory: &mut [u8],
     bodies: &[u8],
     table: &[u32],
+    top: usize,
     depth: u32,
     seen: &[u8],
+    last: &mut [u16],
+    before: &mut [u16],
     budget: usize,
 ) -> usize
-    requires { ⌜ (slotsOf (length (now table)) ≤ maxSlots) × (pairsAt (slotsOf (length (now table))) ≤ length (now table))
-        × (1 ≤ depth) × (depth ≤ maxLive) × (cellsOf (length (now memory)) ≤ maxCells) × (cellsOf (length (now memory)) ≤ length (now seen)) ⌝ }
+    requires { ⌜ (slotsOf (length (now table)) ≤ maxSlots) × (pairsAt (slotsOf (length (now table))) ≤ length (now table)) × (top ≤ slotsOf (length (now table)))
+        × (1 ≤ depth) × (depth ≤ maxLive) × (cellsOf (length (now memory)) ≤ maxCells) × Kept (now seen) ⌝ }
     requires { ⌜ (ruleOk (cellsOf (length (now memory))) (slotsOf (length (now table))) (bodiesOf (length (now bodies))) (now table) ≡ true)
         × Marked (slotsOf (length (now table))) (now table) (slotsOf (length (now table))) (now seen) ⌝ }
     ensures made { λ r. ⌜ r ≡ length (restoreBytes (cellsOf (length (now (memory .entry)))) depth (now (bodies .entry)) (now (table .entry))) ⌝ }
@@ -270,7 +281,112 @@ fn restore_memory(
 {
     let slots = slots_of(table.len());
     let mask = inwards_of(depth);
-    put_back(memory, bodies, table, slots, depth, seen, mask, budget)
+    note_entries(table, slots, top, last, before);
+    put_back(
+        memory,
+        bodies,
+        table,
+        slots,
+        depth,
+        seen,
+        mask,
+        last,
+        before,
+        budget,
+    )
+}
+
+// The same with room for notes of few entries.
+fn memory_few(
+    memory: &mut [u8],
+    bodies: &[u8],
+    table: &[u32],
+    top: usize,
+    depth: u32,
+    seen: &[u8],
+    budget: usize,
+) -> usize
+    requires { ⌜ (slotsOf (length (now table)) ≤ maxSlots) × (pairsAt (slotsOf (length (now table))) ≤ length (now table)) × (top ≤ slotsOf (length (now table)))
+        × (1 ≤ depth) × (depth ≤ maxLive) × (cellsOf (length (now memory)) ≤ maxCells) × Kept (now seen) ⌝ }
+    requires { ⌜ (ruleOk (cellsOf (length (now memory))) (slotsOf (length (now table))) (bodiesOf (length (now bodies))) (now table) ≡ true)
+        × Marked (slotsOf (length (now table))) (now table) (slotsOf (length (now table))) (now seen) ⌝ }
+    ensures made { λ r. ⌜ r ≡ length (restoreBytes (cellsOf (length (now (memory .entry)))) depth (now (bodies .entry)) (now (table .entry))) ⌝ }
+    ensures few { λ r. ⌜ r ≤ cellSize * maxCells ⌝ }
+    ensures bytes { λ _. ⌜ now (memory .exit)
+        ≡ stores (take budget (restoreBytes (cellsOf (length (now (memory .entry)))) depth (now (bodies .entry)) (now (table .entry)))) (now (memory .entry)) ⌝ }
+{
+    let mut last = few_notes();
+    let mut before = few_notes();
+    memory_noted(
+        memory,
+        bodies,
+        table,
+        top,
+        depth,
+        seen,
+        &mut last,
+        &mut before,
+        budget,
+    )
+}
+
+// The same with room for notes of as many as there can be.
+fn memory_many(
+    memory: &mut [u8],
+    bodies: &[u8],
+    table: &[u32],
+    top: usize,
+    depth: u32,
+    seen: &[u8],
+    budget: usize,
+) -> usize
+    requires { ⌜ (slotsOf (length (now table)) ≤ maxSlots) × (pairsAt (slotsOf (length (now table))) ≤ length (now table)) × (top ≤ slotsOf (length (now table)))
+        × (1 ≤ depth) × (depth ≤ maxLive) × (cellsOf (length (now memory)) ≤ maxCells) × Kept (now seen) ⌝ }
+    requires { ⌜ (ruleOk (cellsOf (length (now memory))) (slotsOf (length (now table))) (bodiesOf (length (now bodies))) (now table) ≡ true)
+        × Marked (slotsOf (length (now table))) (now table) (slotsOf (length (now table))) (now seen) ⌝ }
+    ensures made { λ r. ⌜ r ≡ length (restoreBytes (cellsOf (length (now (memory .entry)))) depth (now (bodies .entry)) (now (table .entry))) ⌝ }
+    ensures few { λ r. ⌜ r ≤ cellSize * maxCells ⌝ }
+    ensures bytes { λ _. ⌜ now (memory .exit)
+        ≡ stores (take budget (restoreBytes (cellsOf (length (now (memory .entry)))) depth (now (bodies .entry)) (now (table .entry)))) (now (memory .entry)) ⌝ }
+{
+    let mut last = many_notes();
+    let mut before = many_notes();
+    memory_noted(
+        memory,
+        bodies,
+        table,
+        top,
+        depth,
+        seen,
+        &mut last,
+        &mut before,
+        budget,
+    )
+}
+
+// Restore's part on memory, and its steps uncut.
+fn restore_memory(
+    memory: &mut [u8],
+    bodies: &[u8],
+    table: &[u32],
+    top: usize,
+    depth: u32,
+    seen: &[u8],
+    budget: usize,
+) -> usize
+    requires { ⌜ (slotsOf (length (now table)) ≤ maxSlots) × (pairsAt (slotsOf (length (now table))) ≤ length (now table)) × (top ≤ slotsOf (length (now table)))
+        × (1 ≤ depth) × (depth ≤ maxLive) × (cellsOf (length (now memory)) ≤ maxCells) × Kept (now seen) ⌝ }
+    requires { ⌜ (ruleOk (cellsOf (length (now memory))) (slotsOf (length (now table))) (bodiesOf (length (now bodies))) (now table) ≡ true)
+        × Marked (slotsOf (length (now table))) (now table) (slotsOf (length (now table))) (now seen) ⌝ }
+    ensures made { λ r. ⌜ r ≡ length (restoreBytes (cellsOf (length (now (memory .entry)))) depth (now (bodies .entry)) (now (table .entry))) ⌝ }
+    ensures few { λ r. ⌜ r ≤ cellSize * maxCells ⌝ }
+    ensures bytes { λ _. ⌜ now (memory .exit)
+        ≡ stores (take budget (restoreBytes (cellsOf (length (now (memory .entry)))) depth (now (bodies .entry)) (now (table .entry)))) (now (memory .entry)) ⌝ }
+{
+    if top <= FEW_SLOTS {
+        return memory_few(memory, bodies, table, top, depth, seen, budget);
+    }
+    memory_many(memory, bodies, table, top, depth, seen, budget)
 }
 
 // ---- the table
@@ -346,14 +462,21 @@ fn stage_group(
     changed[k] = bits;
 }
 
-// All entries that are freed.
-fn stage_freed(table: &[u32], slots: usize, depth: u32, words: &mut [u32], changed: &mut [u64])
+// All entries that are freed. Those from `top` on are free already.
+fn stage_freed(
+    table: &[u32],
+    slots: usize,
+    top: usize,
+    depth: u32,
+    words: &mut [u32],
+    changed: &mut [u64],
+)
     requires { ⌜ (slots ≤ maxSlots) × (length (now table) ≡ tableWords slots) × (2 * slots ≤ length (now words)) × (slots ≤ groupAt (length (now changed))) ⌝ }
-    requires { ⌜ Stages 0 (restoreChange slots (now table) depth) (now words) (now changed) ⌝ }
+    requires { ⌜ EndsAt slots (now table) top × Stages 0 (restoreChange slots (now table) depth) (now words) (now changed) ⌝ }
     ensures { λ _. ⌜ Stages slots (restoreChange slots (now (table .entry)) depth) (now (words .exit)) (now (changed .exit)) ⌝ }
 {
     let mut k: usize = 0;
-    while GROUP_SIZE * k < slots {
+    while GROUP_SIZE * k < top {
         stage_group(table, slots, depth, words, changed, k);
         k += 1;
     }
@@ -363,6 +486,7 @@ fn stage_freed(table: &[u32], slots: usize, depth: u32, words: &mut [u32], chang
 fn end_domains(
     table: &mut [u32],
     slots: usize,
+    top: usize,
     depth: u32,
     live: u32,
     words: &mut [u32],
@@ -371,10 +495,10 @@ fn end_domains(
 ) -> usize
     requires { ⌜ (slots ≤ maxSlots) × (length (now table) ≡ tableWords slots) × (depth ≤ live) × (live ≤ maxLive)
         × (2 * slots ≤ length (now words)) × (slots ≤ groupAt (length (now changed))) ⌝ }
-    requires { ⌜ Stages 0 (restoreChange slots (now table) depth) (now words) (now changed) ⌝ }
+    requires { ⌜ EndsAt slots (now table) top × Stages 0 (restoreChange slots (now table) depth) (now words) (now changed) ⌝ }
     ensures { λ r. ⌜ Journaled slots (endingWords slots (now (table .entry)) depth live) budget (now (table .entry)) r (now (table .exit)) ⌝ }
 {
-    stage_freed(table, slots, depth, words, changed);
+    stage_freed(table, slots, top, depth, words, changed);
     write_staged(
         table,
         slots,
@@ -386,29 +510,62 @@ fn end_domains(
 }
 
 // The same with arrays for a table of few slots.
-fn end_few(table: &mut [u32], slots: usize, depth: u32, live: u32, budget: usize) -> usize
-    requires { ⌜ (slots ≤ 256) × (length (now table) ≡ tableWords slots) × (depth ≤ live) × (live ≤ maxLive) ⌝ }
+fn end_few(
+    table: &mut [u32],
+    slots: usize,
+    top: usize,
+    depth: u32,
+    live: u32,
+    budget: usize,
+) -> usize
+    requires { ⌜ (slots ≤ 256) × (length (now table) ≡ tableWords slots) × EndsAt slots (now table) top × (depth ≤ live) × (live ≤ maxLive) ⌝ }
     ensures { λ r. ⌜ Journaled slots (endingWords slots (now (table .entry)) depth live) budget (now (table .entry)) r (now (table .exit)) ⌝ }
 {
     let mut words = few_words();
     let mut changed = few_bits();
-    end_domains(table, slots, depth, live, &mut words, &mut changed, budget)
+    end_domains(
+        table,
+        slots,
+        top,
+        depth,
+        live,
+        &mut words,
+        &mut changed,
+        budget,
+    )
 }
 
 // The same with arrays for any table.
-fn end_many(table: &mut [u32], slots: usize, depth: u32, live: u32, budget: usize) -> usize
-    requires { ⌜ (slots ≤ maxSlots) × (length (now table) ≡ tableWords slots) × (depth ≤ live) × (live ≤ maxLive) ⌝ }
+fn end_many(
+    table: &mut [u32],
+    slots: usize,
+    top: usize,
+    depth: u32,
+    live: u32,
+    budget: usize,
+) -> usize
+    requires { ⌜ (slots ≤ maxSlots) × (length (now table) ≡ tableWords slots) × EndsAt slots (now table) top × (depth ≤ live) × (live ≤ maxLive) ⌝ }
     ensures { λ r. ⌜ Journaled slots (endingWords slots (now (table .entry)) depth live) budget (now (table .entry)) r (now (table .exit)) ⌝ }
 {
     let mut words = many_words();
     let mut changed = many_bits();
-    end_domains(table, slots, depth, live, &mut words, &mut changed, budget)
+    end_domains(
+        table,
+        slots,
+        top,
+        depth,
+        live,
+        &mut words,
+        &mut changed,
+        budget,
+    )
 }
 
 // Restore's part on the table, and its steps uncut. Where no domain ends, which is the usual case, nothing is staged, so the arrays for it are
 // made here and not beside the marks: that case clears none.
-fn restore_words(table: &mut [u32], depth: u32, budget: usize) -> usize
-    requires { ⌜ (slotsOf (length (now table)) ≤ maxSlots) × (length (now table) ≡ tableWords (slotsOf (length (now table)))) × (depth ≤ live (now table)) × (live (now table) ≤ maxLive) ⌝ }
+fn restore_words(table: &mut [u32], top: usize, depth: u32, budget: usize) -> usize
+    requires { ⌜ (slotsOf (length (now table)) ≤ maxSlots) × (length (now table) ≡ tableWords (slotsOf (length (now table))))
+        × EndsAt (slotsOf (length (now table))) (now table) top × (depth ≤ live (now table)) × (live (now table) ≤ maxLive) ⌝ }
     ensures { λ r. ⌜ Journaled (slotsOf (length (now (table .entry)))) (restoreWords depth (now (table .entry))) budget (now (table .entry)) r (now (table .exit)) ⌝ }
 {
     let live = table[LIVE_AT];
@@ -417,9 +574,9 @@ fn restore_words(table: &mut [u32], depth: u32, budget: usize) -> usize
     }
     let slots = slots_of(table.len());
     if slots <= FEW_SLOTS {
-        return end_few(table, slots, depth, live, budget);
+        return end_few(table, slots, top, depth, live, budget);
     }
-    end_many(table, slots, depth, live, budget)
+    end_many(table, slots, top, depth, live, budget)
 }
 
 // ---- the call
@@ -429,57 +586,105 @@ fn restore_marked(
     memory: &mut [u8],
     bodies: &[u8],
     table: &mut [u32],
+    top: usize,
     handle: u32,
     seen: &mut [u8],
     used: &mut [u8],
     budget: usize,
 ) -> Answer
-    requires room { ⌜ (min (cellsOf (length (now memory))) maxCells ≤ length (now seen)) × (length (now used) ≡ maxBodies) ⌝ }
-    requires blank { ⌜ Blank (now seen) × Blank (now used) ⌝ }
+    requires { ⌜ RoomForMarks (now table) (cellsOf (length (now memory))) top (now seen) (now used) ⌝ }
     ensures { λ r. ⌜ Makes (restoreCall handle) budget (buffers (now (memory .entry)) (now (bodies .entry)) (now (table .entry)))
         (report r) (buffers (now (memory .exit)) (now (bodies .entry)) (now (table .exit))) ⌝ }
 {
-    let no = restore_check(memory.len(), bodies.len(), table, handle, seen, used);
+    let no = restore_check(memory.len(), bodies.len(), table, top, handle, seen, used);
     if no != 0 {
         return Answer::Refused(no);
     }
     let depth = find_domain(table, handle);
-    let bytes = restore_memory(memory, bodies, table, depth, seen, budget);
-    let words = restore_words(table, depth, remaining(budget, bytes));
+    let bytes = restore_memory(memory, bodies, table, top, depth, seen, budget);
+    let words = restore_words(table, top, depth, remaining(budget, bytes));
     answer_of(bytes + words, 0, budget)
 }
 
-// Restore in a small memory, where clearing marks for the largest would take longer than all else.
+// Restore with marks of its own for few blocks, where clearing marks for the largest memory would take longer than all else.
 fn restore_few(
     memory: &mut [u8],
     bodies: &[u8],
     table: &mut [u32],
+    top: usize,
     handle: u32,
     budget: usize,
 ) -> Answer
-    requires { ⌜ cellsOf (length (now memory)) ≤ 1024 ⌝ }
+    requires { ⌜ Enough 64 top (cellsOf (length (now memory))) × Reached (now table) top ⌝ }
     ensures { λ r. ⌜ Makes (restoreCall handle) budget (buffers (now (memory .entry)) (now (bodies .entry)) (now (table .entry)))
         (report r) (buffers (now (memory .exit)) (now (bodies .entry)) (now (table .exit))) ⌝ }
 {
     let mut seen = few_marks();
     let mut used = no_bodies();
-    restore_marked(memory, bodies, table, handle, &mut seen, &mut used, budget)
+    restore_marked(
+        memory,
+        bodies,
+        table,
+        top,
+        handle,
+        &mut seen,
+        &mut used,
+        budget,
+    )
 }
 
-// Restore in any memory.
+// With marks for some more.
+fn restore_some(
+    memory: &mut [u8],
+    bodies: &[u8],
+    table: &mut [u32],
+    top: usize,
+    handle: u32,
+    budget: usize,
+) -> Answer
+    requires { ⌜ Enough 256 top (cellsOf (length (now memory))) × Reached (now table) top ⌝ }
+    ensures { λ r. ⌜ Makes (restoreCall handle) budget (buffers (now (memory .entry)) (now (bodies .entry)) (now (table .entry)))
+        (report r) (buffers (now (memory .exit)) (now (bodies .entry)) (now (table .exit))) ⌝ }
+{
+    let mut seen = some_marks();
+    let mut used = no_bodies();
+    restore_marked(
+        memory,
+        bodies,
+        table,
+        top,
+        handle,
+        &mut seen,
+        &mut used,
+        budget,
+    )
+}
+
+// And for any memory.
 fn restore_many(
     memory: &mut [u8],
     bodies: &[u8],
     table: &mut [u32],
+    top: usize,
     handle: u32,
     budget: usize,
 ) -> Answer
+    requires { ⌜ Reached (now table) top ⌝ }
     ensures { λ r. ⌜ Makes (restoreCall handle) budget (buffers (now (memory .entry)) (now (bodies .entry)) (now (table .entry)))
         (report r) (buffers (now (memory .exit)) (now (bodies .entry)) (now (table .exit))) ⌝ }
 {
     let mut seen = many_marks();
     let mut used = no_bodies();
-    restore_marked(memory, bodies, table, handle, &mut seen, &mut used, budget)
+    restore_marked(
+        memory,
+        bodies,
+        table,
+        top,
+        handle,
+        &mut seen,
+        &mut used,
+        budget,
+    )
 }
 
 // Puts memory back as the named domain and those inside it hold it, and ends those inside.
@@ -495,8 +700,13 @@ pub fn restore(
     ensures means { λ r. ⌜ Shows (restoreMeans handle) budget (buffers (now (memory .entry)) (now (bodies .entry)) (now (table .entry)))
         (report r) (buffers (now (memory .exit)) (now (bodies .entry)) (now (table .exit))) ⌝ }
 {
-    if cells_of(memory.len()) <= FEW_CELLS {
-        return restore_few(memory, bodies, table, handle, budget);
+    let top = reach_of(table);
+    let blocks = blocks_wanted(top, cells_of(memory.len()));
+    if blocks <= FEW_BLOCKS {
+        return restore_few(memory, bodies, table, top, handle, budget);
     }
-    restore_many(memory, bodies, table, handle, budget)
+    if blocks <= SOME_BLOCKS {
+        return restore_some(memory, bodies, table, top, handle, budget);
+    }
+    restore_many(memory, bodies, table, top, handle, budget)
 }

@@ -5,6 +5,7 @@ use mathlib.Core.List.{List, [], _∷_}
 use mathlib.Core.Path.{_≡_, refl, sym, ap, _∙_}
 use native.Mathlib.Omega.{arith}
 use borrow.Author.Tests.{not-false, eq-eqb, ne-eqb, eqb-true, eqb-false, lt-ltb, ltb-true, le-leb, leb-true}
+use lib.Bits.{bitAnd, and-zero-l}
 use lib.Dec.{eqb, ltb, leb}
 use lib.ListN.{length, getD, set, take, drop, length-set}
 use lib.Seq.{getD-set-same, getD-set-other, getD-take, getD-drop}
@@ -431,3 +432,29 @@ blank-more s at n g from start long none so-far k low high =
     let high-byte = ap (λ (x : ℕ). getD s x 0) (sym b) ∙ byte (2 * k - 2 * g + 1) (omega (arith, far, high)) in
     omega (arith, low-byte, high-byte))
     (λ near. so-far k low near)
+
+-- ---- what the marks of a group have of a mask
+
+-- x says whether one of the first j has any of it
+pub held-more : (marks : List ℕ) (mask j : ℕ) (x : Bool) → (x ≡ false → (k : ℕ) → k < j → bitAnd (getD marks k 0) mask ≡ 0)
+    → (x || not (eqb (bitAnd (getD marks j 0) mask) 0)) ≡ false → (k : ℕ) → k < j + 1 → bitAnd (getD marks k 0) mask ≡ 0
+held-more marks mask j x so-far h k l =
+    let both = or-split x (not (eqb (bitAnd (getD marks j 0) mask) 0)) h in
+    by-le j k
+    (λ far. let q : k ≡ j = omega (arith, far, l) in rw q (eqb-true _ 0 (not-false _ (both .1))))
+    (λ near. so-far (both .0) k near)
+
+-- none, where it has no block
+pub none-held : (s : List ℕ) → Kept s → (mask c : ℕ) → blockOf s (c / 64) ≡ 0 → bitAnd (markOf s c) mask ≡ 0
+none-held s ok mask c h = ap (λ (m : ℕ). bitAnd m mask) (group-none s ok c h) ∙ and-zero-l mask
+
+-- else they are those of its block
+pub block-held : (s : List ℕ) (g mask at n : ℕ) → g < maxGroups → at ≡ blockAt (blockOf s g) → 64 ≤ n
+    → ((j : ℕ) → j < 64 → bitAnd (getD (take n (drop at s)) j 0) mask ≡ 0) → (c : ℕ) → c / 64 ≡ g → bitAnd (markOf s c) mask ≡ 0
+block-held s g mask at n l start long none c here =
+    let block : blockOf s (c / 64) ≡ blockOf s g = ap (blockOf s) here in
+    let there : placeOf s c ≡ at + c % 64 = omega (arith, place-is s c, start, block) in
+    let mark : markOf s c ≡ getD (take n (drop at s)) (c % 64) 0 =
+    mark-at s c (omega (arith, here, l)) ∙ ap (λ (p : ℕ). getD s p 0) there
+    ∙ sym (rw (getD-take n (drop at s) (c % 64) 0 (omega (arith, long)), getD-drop)) in
+    ap (λ (m : ℕ). bitAnd m mask) mark ∙ none (c % 64) (omega arith)

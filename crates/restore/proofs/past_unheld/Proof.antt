@@ -1,53 +1,44 @@
--- `past_unheld` meets its contract. The loop's invariant: none of the cells passed is held by a domain of the mask. Assumes nothing.
 use Prim.Native.Nat.{_-_}
 use native.Mathlib.Omega.{arith}
-use borrow.Author.Needs.{needs}
 use Rattle.restore.specs.Marks.{Unheld}
-use Rattle.restore.proofs.Marking.{unheld-more}
+use Rattle.restore.proofs.Marking.{unheld-blank, unheld-more}
+-- `past_unheld` meets its contract. The loop's invariant: in none of the groups passed has a mark any of the mask. Assumes nothing.
+use borrow.Author.Needs.{needs}
 use Rattle.restore.proofs.past_unheld.Statement.{statement}
 use Rattle.restore.proofs.past_unheld.Tie as tie
 
 abbrev Inv-loop : tie.InvT-loop
-Inv-loop seen from cells mask at₀ at = Unheld mask seen from cells at
+Inv-loop seen from groups mask g₀ g = Unheld mask seen from groups g
 
 abbrev μ-loop : tie.MeasureT-loop
-μ-loop seen from cells mask at₀ at = cells - at
+μ-loop seen from groups mask g₀ g = groups - g
+
+past-blank-requires : tie.Need-past-blank-requires Inv-loop μ-loop
+past-blank-requires c κs = (c .before .pre .0, c .before .pre .1, omega (arith, c .before .pre .2 .room))
 
 loop-holds : tie.Need-loop-holds Inv-loop μ-loop
-loop-holds c = record { low = omega arith; high = omega arith; none = λ k a b. absurd (omega (arith, a, b)) }
+loop-holds c = unheld-blank (c .before .before .args .mask) (c .before .before .args .seen .now) _ _ _ (c .before .before .pre .2) (c .past-blank .ensures .0) (c .past-blank .ensures .1) (c .past-blank .ensures .2)
 
-add-loop : tie.Need-add-loop Inv-loop μ-loop
-add-loop c = search needs
-
-add-any-held : tie.Need-add-any-held Inv-loop μ-loop
-add-any-held c = search needs
-
-sub-any-held : tie.Need-sub-any-held Inv-loop μ-loop
-sub-any-held c = search needs
-
-part-any-held-start : tie.Need-part-any-held-start Inv-loop μ-loop
-part-any-held-start c = search needs
-
-part-any-held-end : tie.Need-part-any-held-end Inv-loop μ-loop
-part-any-held-end c = search needs
-
-any-held-requires : tie.Need-any-held-requires Inv-loop μ-loop
-any-held-requires c κs = search needs
+group-held-requires : tie.Need-group-held-requires Inv-loop μ-loop
+group-held-requires c κs = (omega arith, c .before .before .before .before .pre .2)
 
 returns : tie.Need-returns Inv-loop μ-loop
-returns c = search needs
+returns c = c .before .before .before .loop .inv
 
-add-at : tie.Need-add-at Inv-loop μ-loop
-add-at c = search needs
+add-past-blank : tie.Need-add-past-blank Inv-loop μ-loop
+add-past-blank c = search needs
+
+past-blank-requires-2 : tie.Need-past-blank-requires-2 Inv-loop μ-loop
+past-blank-requires-2 c κs = (omega arith, c .before .before .before .before .before .before .pre .1, omega (arith, c .before .before .before .before .before .before .pre .2 .room))
 
 loop-less : tie.Need-loop-less Inv-loop μ-loop
-loop-less c = search needs
+loop-less c = omega (arith, c .past-blank2 .ensures .0, c .past-blank2 .ensures .1)
 
 loop-again : tie.Need-loop-again Inv-loop μ-loop
-loop-again c = unheld-more _ _ _ _ _ (c .before .before .before .before .loop .inv) (omega arith) (c .before .any-held .ensures (c .if1 .left))
+loop-again c = unheld-more (c .before .before .before .before .before .before .before .args .mask) (c .before .before .before .before .before .before .before .args .seen .now) _ _ (c .before .before .before .before .loop .g) _ (c .before .before .before .before .loop .inv) (c .before .before .group-held .ensures (c .before .if1 .left)) (unheld-blank (c .before .before .before .before .before .before .before .args .mask) (c .before .before .before .before .before .before .before .args .seen .now) _ _ _ (c .before .before .before .before .before .before .before .pre .2) (c .past-blank2 .ensures .0) (c .past-blank2 .ensures .1) (c .past-blank2 .ensures .2))
 
 returns-2 : tie.Need-returns-2 Inv-loop μ-loop
-returns-2 c = search needs
+returns-2 c = c .before .loop .inv
 
 pub past-unheld-spec : {M : Type 1} → statement M
 past-unheld-spec =
@@ -55,15 +46,12 @@ past-unheld-spec =
     (tie.spec
     Inv-loop
     μ-loop
+    past-blank-requires
     loop-holds
-    add-loop
-    add-any-held
-    sub-any-held
-    part-any-held-start
-    part-any-held-end
-    any-held-requires
+    group-held-requires
     returns
-    add-at
+    add-past-blank
+    past-blank-requires-2
     loop-less
     loop-again
     returns-2)

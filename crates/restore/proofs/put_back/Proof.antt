@@ -1,6 +1,6 @@
--- `put_back` meets its contract. The loop's invariant: memory is what the bytes of the cells passed leave, cut at the budget, and `bytes` is
--- their number. Assumes nothing.
-use Prim.Native.Nat.{ℕ, _-_, _*_, _≤_}
+-- `put_back` meets its contract. The loop's invariant: memory is what the bytes of the cells of the groups passed leave, cut at the budget,
+-- and `bytes` is their number. Assumes nothing.
+use Prim.Native.Nat.{ℕ, _+_, _-_, _*_, _≤_, min}
 use mathlib.Core.Bool.{true}
 use mathlib.Core.List.{List}
 use mathlib.Core.Path.{_≡_, refl, sym, ap, subst, _∙_}
@@ -10,30 +10,51 @@ use lib.ListN.{length, take}
 use Rattle.words.specs.Layout.{cellsOf, bodiesOf}
 use Rattle.words.specs.Stores.{Store, store, stores, gather}
 use Rattle.words.proofs.Plans.{stores-none}
-use Rattle.words.proofs.Gather.{gather-skip}
 use Rattle.table.specs.Rule.{ruleOk}
+use Rattle.table.proofs.Blocks.{cells-all}
 use Rattle.restore.specs.Parts.{backPlan}
 use Rattle.restore.proofs.Blocks.{block-length, block-turn}
+use Rattle.restore.proofs.Finding.{put-passed}
 use Rattle.restore.proofs.put_back.Statement.{statement}
 use Rattle.restore.proofs.put_back.Tie as tie
 
 abbrev Inv-loop : tie.InvT-loop
-Inv-loop memory₀ bodies table slots depth seen mask budget cells bytes₀ cell₀ memory bytes cell = (cell ≤ cells) × (bytes ≤ 64 * cell) × (length memory ≡ length memory₀) × (bytes ≡ length (gather cell (backPlan slots table depth bodies))) × (memory ≡ stores (take budget (gather cell (backPlan slots table depth bodies))) memory₀)
+Inv-loop memory₀ bodies table slots depth seen mask last before budget cells groups bytes₀ g₀ memory bytes g = (g ≤ groups) × (bytes ≤ 64 * min cells (64 * g)) × (length memory ≡ length memory₀) × (bytes ≡ length (gather (min cells (64 * g)) (backPlan slots table depth bodies))) × (memory ≡ stores (take budget (gather (min cells (64 * g)) (backPlan slots table depth bodies))) memory₀)
 
 abbrev μ-loop : tie.MeasureT-loop
-μ-loop memory₀ bodies table slots depth seen mask budget cells bytes₀ cell₀ memory bytes cell = cells - cell
+μ-loop memory₀ bodies table slots depth seen mask last before budget cells groups bytes₀ g₀ memory bytes g = groups - g
 
 cells-of-requires : tie.Need-cells-of-requires Inv-loop μ-loop
 cells-of-requires c κs = search needs
 
-loop-holds : tie.Need-loop-holds Inv-loop μ-loop
-loop-holds c = (search needs, search needs, refl, refl, stores-none (c .before .before .before .before .before .args .budget) (c .before .before .before .before .before .args .memory .now))
+add-group-of : tie.Need-add-group-of Inv-loop μ-loop
+add-group-of c = omega (arith, c .cells-of .ensures, c .before .before .before .before .before .before .before .pre .0 .3)
+
+sub-group-of : tie.Need-sub-group-of Inv-loop μ-loop
+sub-group-of c = search needs
+
+group-of-requires : tie.Need-group-of-requires Inv-loop μ-loop
+group-of-requires c κs = search needs
 
 past-unheld-requires : tie.Need-past-unheld-requires Inv-loop μ-loop
-past-unheld-requires c κs = search needs
+past-unheld-requires c κs = (omega arith, omega (arith, c .group-of .ensures, c .before .cells-of .ensures, c .before .before .before .before .before .before .before .before .pre .0 .3), c .before .before .before .before .before .before .before .before .pre .0 .4)
+
+loop-holds : tie.Need-loop-holds Inv-loop μ-loop
+loop-holds c =
+    let a = c .before .before .before .before .before .before .before .before .before .args in
+    let p = c .before .before .before .before .before .before .before .before .before .pre in
+    let u = c .past-unheld .ensures in
+    let cells : ℕ = c .before .before .cells-of .result in
+    let plan : ℕ → List Store = backPlan (a .slots) (a .table .now) (a .depth) (a .bodies .now) in
+    let zero : 0 ≡ min cells (64 * 0) = omega arith in
+    let none : gather 0 plan ≡ gather (min cells (64 * c .past-unheld .result)) plan = ap (λ (n : ℕ). gather n plan) zero ∙ put-passed _ (a .slots) (a .table .now) (a .depth) (a .bodies .now) (p .1 .0) (p .0 .2) (a .mask) (a .seen .now) (p .1 .1) cells 0 _ _ u in
+    (u .high, omega arith, refl, ap length none, stores-none (a .budget) (a .memory .now) ∙ ap (λ (l : List Store). stores (take (a .budget) l) (a .memory .now)) none)
+
+mul-from : tie.Need-mul-from Inv-loop μ-loop
+mul-from c = omega (arith, c .before .before .before .group-of .ensures, c .before .before .before .before .cells-of .ensures, c .before .before .before .before .before .before .before .before .before .before .before .pre .0 .3)
 
 sub-least : tie.Need-sub-least Inv-loop μ-loop
-sub-least c = search needs
+sub-least c = omega (arith, c .before .before .before .before .group-of .ensures)
 
 least-requires : tie.Need-least-requires Inv-loop μ-loop
 least-requires c κs = search needs
@@ -43,44 +64,51 @@ remaining-requires c κs = search needs
 
 put-group-requires : tie.Need-put-group-requires Inv-loop μ-loop
 put-group-requires c κs =
-    let a = c .before .before .before .before .before .before .before .before .before .before .before .args in
-    let s = c .before .before .before .before .before .loop in
-    let q = c .before .before .before .before .before .before .cells-of .ensures in
-    let n = c .before .before .least .ensures in
-    let u = c .before .before .before .past-unheld .ensures in
-    let p = c .before .before .before .before .before .before .before .before .before .before .before .pre in (
-      (p .0 .0, p .0 .1, p .0 .2, omega (arith, s .inv .2, p .0 .3), omega (arith, n), omega (arith, n, q, u .high, p .0 .4), omega (arith, n, q, u .high, s .inv .2)),
+    let a = c .before .before .before .before .before .before .before .before .before .before .before .before .before .before .args in
+    let s = c .before .before .before .before .loop in
+    let q = c .before .before .before .before .before .before .before .cells-of .ensures in
+    let h = c .before .before .before .before .before .before .group-of .ensures in
+    let n = c .before .least .ensures in
+    let p = c .before .before .before .before .before .before .before .before .before .before .before .before .before .before .pre in
+    let all = cells-all (a .seen .now) (omega (arith, p .0 .4 .room)) in (
+      (p .0 .0, p .0 .1, p .0 .2, omega (arith, s .inv .2, p .0 .3), omega (arith, n), omega (arith, n, q, h, all, p .0 .3), omega (arith, n, q, h, s .inv .2)),
       (subst (λ (n : ℕ). ruleOk (cellsOf n) (a .slots) (bodiesOf (length (a .bodies .now))) (a .table .now) ≡ true) (sym (s .inv .2)) (p .1 .0), p .1 .1),
     )
 
 add-bytes : tie.Need-add-bytes Inv-loop μ-loop
-add-bytes c = omega (arith, c .before .before .put-group .ensures .1 .0, c .before .before .before .before .before .least .ensures, c .before .before .before .before .before .before .before .before .before .cells-of .ensures, c .before .before .before .before .before .before .before .before .before .before .before .before .before .before .pre .0 .3, c .before .before .before .before .before .before .past-unheld .ensures .high, c .before .before .before .before .before .before .past-unheld .ensures .low)
+add-bytes c = omega (arith, c .before .before .put-group .ensures .1 .0, c .before .before .before .before .least .ensures, c .before .before .before .before .before .before .before .before .before .before .cells-of .ensures, c .before .before .before .before .before .before .before .loop .inv .1, c .before .before .before .before .before .before .before .before .before .before .before .before .before .before .before .before .before .pre .0 .3)
 
-add-cell : tie.Need-add-cell Inv-loop μ-loop
-add-cell c = omega (arith, c .before .before .before .before .before .least .ensures, c .before .before .before .before .before .before .before .before .before .cells-of .ensures, c .before .before .before .before .before .before .before .before .before .before .before .before .before .before .pre .0 .3, c .before .before .before .before .before .before .past-unheld .ensures .high, c .before .before .before .before .before .before .past-unheld .ensures .low)
+add-past-unheld : tie.Need-add-past-unheld Inv-loop μ-loop
+add-past-unheld c = omega (arith, c .before .before .before .before .before .before .before .before .before .group-of .ensures, c .before .before .before .before .before .before .before .before .before .before .cells-of .ensures, c .before .before .before .before .before .before .before .before .before .before .before .before .before .before .before .before .before .pre .0 .3)
+
+past-unheld-requires-2 : tie.Need-past-unheld-requires-2 Inv-loop μ-loop
+past-unheld-requires-2 c κs = (omega arith, omega (arith, c .before .before .before .before .before .before .before .before .before .group-of .ensures, c .before .before .before .before .before .before .before .before .before .before .cells-of .ensures, c .before .before .before .before .before .before .before .before .before .before .before .before .before .before .before .before .before .pre .0 .3), c .before .before .before .before .before .before .before .before .before .before .before .before .before .before .before .before .before .pre .0 .4)
 
 loop-less : tie.Need-loop-less Inv-loop μ-loop
-loop-less c = omega (arith, c .before .before .before .before .before .least .ensures, c .before .before .before .before .before .before .past-unheld .ensures .high, c .before .before .before .before .before .before .past-unheld .ensures .low)
+loop-less c = omega (arith, c .past-unheld2 .ensures .low, c .past-unheld2 .ensures .high)
 
 loop-again : tie.Need-loop-again Inv-loop μ-loop
 loop-again c =
-    let a = c .before .before .before .before .before .before .before .before .before .before .before .before .before .before .args in
-    let p = c .before .before .before .before .before .before .before .before .before .before .before .before .before .before .pre in
+    let a = c .before .before .before .before .before .before .before .before .before .before .before .before .before .before .before .before .before .before .args in
+    let p = c .before .before .before .before .before .before .before .before .before .before .before .before .before .before .before .before .before .before .pre in
     let s = c .before .before .before .before .before .before .before .before .loop in
-    let u = c .before .before .before .before .before .before .past-unheld .ensures in
-    let at = c .before .before .before .before .before .before .past-unheld .result in
+    let u = c .past-unheld2 .ensures in
     let n = c .before .before .before .before .before .least .ensures in
+    let h = c .before .before .before .before .before .before .before .before .before .before .group-of .ensures in
+    let cells : ℕ = c .before .before .before .before .before .before .before .before .before .before .before .cells-of .result in
     let plan : ℕ → List Store = backPlan (a .slots) (a .table .now) (a .depth) (a .bodies .now) in
-    let skip : gather (s .cell) plan ≡ gather at plan = sym (gather-skip plan (s .cell) at (u .low) (λ i x y. rw (sym (p .1 .1 i) ∙ u .none i x y))) in
-    let made = s .inv .3 ∙ ap length skip in
-    let stored = s .inv .4 ∙ ap (λ (l : List Store). stores (take (a .budget) l) (a .memory .now)) skip in
-    let r = c .before .before .put-group .ensures in
-    let e₂ = rw (c .before .before .before .remaining .ensures) at (r .1 .1) in (
-      omega (arith, n, u .high),
-      omega (arith, r .1 .0, u .low),
-      c .before .before .put-group .kept .0 ∙ s .inv .2,
-      block-length plan at (c .before .before .before .before .before .least .result) (s .bytes) (c .before .before .put-group .result) made (r .0),
-      block-turn plan store (a .budget) at (c .before .before .before .before .before .least .result) (s .bytes) (a .memory .now) (s .memory) _ made stored e₂,
+    let so-far : min cells (64 * s .g) ≡ 64 * s .g = omega (arith, h) in
+    let next : 64 * s .g + c .before .before .before .before .before .least .result ≡ min cells (64 * (s .g + 1)) = omega (arith, n, h) in
+    let whole : gather (64 * s .g + c .before .before .before .before .before .least .result) plan ≡ gather (min cells (64 * c .past-unheld2 .result)) plan = ap (λ (x : ℕ). gather x plan) next ∙ put-passed _ (a .slots) (a .table .now) (a .depth) (a .bodies .now) (p .1 .0) (p .0 .2) (a .mask) (a .seen .now) (p .1 .1) cells (s .g + 1) _ _ u in
+    let made = s .inv .3 ∙ ap (λ (x : ℕ). length (gather x plan)) so-far in
+    let stored = s .inv .4 ∙ ap (λ (x : ℕ). stores (take (a .budget) (gather x plan)) (a .memory .now)) so-far in
+    let r = c .before .before .before .put-group .ensures in
+    let e₂ = rw (c .before .before .before .before .remaining .ensures) at (r .1 .1) in (
+      u .high,
+      omega (arith, r .1 .0, n, h, u .low, s .inv .1),
+      c .before .before .before .put-group .kept .0 ∙ s .inv .2,
+      block-length plan (64 * s .g) (c .before .before .before .before .before .least .result) (s .bytes) (c .before .before .before .put-group .result) made (r .0) ∙ ap length whole,
+      block-turn plan store (a .budget) (64 * s .g) (c .before .before .before .before .before .least .result) (s .bytes) (a .memory .now) (s .memory) _ made stored e₂ ∙ ap (λ (l : List Store). stores (take (a .budget) l) (a .memory .now)) whole,
     )
 
 same-length : tie.Need-same-length Inv-loop μ-loop
@@ -88,12 +116,14 @@ same-length c = c .before .loop .inv .2
 
 returns : tie.Need-returns Inv-loop μ-loop
 returns c =
-    let a = c .before .before .before .before .before .before .before .args in
+    let a = c .before .before .before .before .before .before .before .before .before .before .before .args in
     let s = c .before .loop in
     let plan : ℕ → List Store = backPlan (a .slots) (a .table .now) (a .depth) (a .bodies .now) in
-    let last : s .cell ≡ cellsOf (length (a .memory .now)) = omega (arith, c .before .before .cells-of .ensures) in (
+    let q = c .before .before .before .before .cells-of .ensures in
+    let h = c .before .before .before .group-of .ensures in
+    let last : min (c .before .before .before .before .cells-of .result) (64 * s .g) ≡ cellsOf (length (a .memory .now)) = omega (arith, q, h) in (
       s .inv .3 ∙ ap (λ (n : ℕ). length (gather n plan)) last,
-      (omega (arith, c .before .before .before .before .before .before .before .pre .0 .3), s .inv .4 ∙ ap (λ (n : ℕ). stores (take (a .budget) (gather n plan)) (a .memory .now)) last),
+      (omega (arith, s .inv .1, q, c .before .before .before .before .before .before .before .before .before .before .before .pre .0 .3), s .inv .4 ∙ ap (λ (n : ℕ). stores (take (a .budget) (gather n plan)) (a .memory .now)) last),
     )
 
 pub put-back-spec : {M : Type 1} → statement M
@@ -103,14 +133,19 @@ put-back-spec =
     Inv-loop
     μ-loop
     cells-of-requires
-    loop-holds
+    add-group-of
+    sub-group-of
+    group-of-requires
     past-unheld-requires
+    loop-holds
+    mul-from
     sub-least
     least-requires
     remaining-requires
     put-group-requires
     add-bytes
-    add-cell
+    add-past-unheld
+    past-unheld-requires-2
     loop-less
     loop-again
     same-length

@@ -6,49 +6,48 @@ use mathlib.Core.List.{List}
 use mathlib.Core.Path.{_≡_, refl, sym, ap, subst, _∙_}
 use native.Mathlib.Omega.{arith}
 use borrow.Author.Needs.{needs}
+use lib.Bits.{bitAnd}
 use lib.ListN.{length, take}
 use Rattle.words.specs.Layout.{cellsOf, bodiesOf}
 use Rattle.words.specs.Stores.{Store, store, stores}
 use Rattle.words.proofs.Gather.{gather-length, gather-turn}
 use Rattle.words.proofs.Plans.{stores-none}
 use Rattle.table.specs.Rule.{ruleOk}
+use Rattle.restore.specs.Marks.{Holders}
 use Rattle.restore.specs.Parts.{backPlan, groupPlan}
 use Rattle.restore.proofs.put_group.Statement.{statement}
 use Rattle.restore.proofs.put_group.Tie as tie
 
 abbrev Inv-loop : tie.InvT-loop
-Inv-loop memory₀ bodies table slots depth seen mask from n budget bytes₀ j₀ memory bytes j = (j ≤ n) × (bytes ≤ 64 * j) × (length memory ≡ length memory₀) × (bytes ≡ length (groupPlan slots table depth bodies from j)) × (memory ≡ stores (take budget (groupPlan slots table depth bodies from j)) memory₀)
+Inv-loop memory₀ bodies table slots depth seen mask from n last before budget bytes₀ j₀ memory bytes j = (j ≤ n) × (bytes ≤ 64 * j) × (length memory ≡ length memory₀) × (bytes ≡ length (groupPlan slots table depth bodies from j)) × (memory ≡ stores (take budget (groupPlan slots table depth bodies from j)) memory₀)
 
 abbrev μ-loop : tie.MeasureT-loop
-μ-loop memory₀ bodies table slots depth seen mask from n budget bytes₀ j₀ memory bytes j = n - j
+μ-loop memory₀ bodies table slots depth seen mask from n last before budget bytes₀ j₀ memory bytes j = n - j
 
 loop-holds : tie.Need-loop-holds Inv-loop μ-loop
-loop-holds c = (search needs, search needs, refl, refl, stores-none (c .before .before .before .before .args .budget) (c .before .before .before .before .args .memory .now))
+loop-holds c = (search needs, search needs, refl, refl, stores-none (c .before .before .before .before .before .before .args .budget) (c .before .before .before .before .before .before .args .memory .now))
 
 add-cell : tie.Need-add-cell Inv-loop μ-loop
-add-cell c = omega (arith, c .before .before .before .before .before .before .pre .0 .6, c .before .before .before .before .before .before .pre .0 .3)
+add-cell c = omega (arith, c .before .before .before .before .before .before .before .before .pre .0 .6, c .before .before .before .before .before .before .before .before .pre .0 .3)
 
 mark-of-requires : tie.Need-mark-of-requires Inv-loop μ-loop
 mark-of-requires c κs = search needs
-
-held-by-requires : tie.Need-held-by-requires Inv-loop μ-loop
-held-by-requires c κs = search needs
 
 remaining-requires : tie.Need-remaining-requires Inv-loop μ-loop
 remaining-requires c κs = search needs
 
 put-held-requires : tie.Need-put-held-requires Inv-loop μ-loop
 put-held-requires c κs =
-    let a = c .before .before .before .before .before .before .before .before .before .before .args in
-    let s = c .before .before .before .before .before .loop in
-    let here = c .before .before .before .before .loop-test .taken in
-    let p = c .before .before .before .before .before .before .before .before .before .before .pre in (
+    let a = c .before .before .before .before .before .before .before .before .before .before .before .args in
+    let s = c .before .before .before .before .loop in
+    let here = c .before .before .before .loop-test .taken in
+    let p = c .before .before .before .before .before .before .before .before .before .before .before .pre in (
       (p .0 .0, p .0 .1, p .0 .2, omega (arith, p .0 .6, p .0 .3), omega (arith, p .0 .6, s .inv .2)),
-      (subst (λ (n : ℕ). ruleOk (cellsOf n) (a .slots) (bodiesOf (length (a .bodies .now))) (a .table .now) ≡ true) (sym (s .inv .2)) (p .1 .0), rw (c .before .before .mark-of .ensures) at (c .before .held-by .ensures) ∙ p .1 .1 (a .from + s .j)),
+      (subst (λ (n : ℕ). ruleOk (cellsOf n) (a .slots) (bodiesOf (length (a .bodies .now))) (a .table .now) ≡ true) (sym (s .inv .2)) (p .1 .0), subst (λ (m : ℕ). Holders (a .slots) (a .table .now) (a .depth) (a .from + s .j) (bitAnd m (a .mask))) (sym (c .before .mark-of .ensures)) (p .1 .1 (a .from + s .j))),
     )
 
 add-bytes : tie.Need-add-bytes Inv-loop μ-loop
-add-bytes c = omega (arith, c .before .before .put-held .ensures .1 .0, c .before .before .before .before .before .before .before .before .before .before .before .before .before .pre .0 .6, c .before .before .before .before .before .before .before .before .before .before .before .before .before .pre .0 .3)
+add-bytes c = omega (arith, c .before .before .put-held .ensures .1 .0, c .before .before .before .before .before .before .before .before .before .before .before .before .before .before .pre .0 .6, c .before .before .before .before .before .before .before .before .before .before .before .before .before .before .pre .0 .3)
 
 add-j : tie.Need-add-j Inv-loop μ-loop
 add-j c = search needs
@@ -58,8 +57,8 @@ loop-less c = search needs
 
 loop-again : tie.Need-loop-again Inv-loop μ-loop
 loop-again c =
-    let a = c .before .before .before .before .before .before .before .before .before .before .before .before .before .args in
-    let s = c .before .before .before .before .before .before .before .before .loop in
+    let a = c .before .before .before .before .before .before .before .before .before .before .before .before .before .before .args in
+    let s = c .before .before .before .before .before .before .before .loop in
     let plan : ℕ → List Store = λ j. backPlan (a .slots) (a .table .now) (a .depth) (a .bodies .now) (a .from + j) in
     let r = c .before .before .put-held .ensures in
     let e₂ = rw (c .before .before .before .remaining .ensures) at (r .1 .1) in (
@@ -75,7 +74,7 @@ same-length c = c .before .loop .inv .2
 
 returns : tie.Need-returns Inv-loop μ-loop
 returns c =
-    let a = c .before .before .before .before .before .before .args in
+    let a = c .before .before .before .before .before .before .before .before .args in
     let s = c .before .loop in
     let plan : ℕ → List Store = groupPlan (a .slots) (a .table .now) (a .depth) (a .bodies .now) (a .from) in
     let last : s .j ≡ a .n = omega arith in (
@@ -92,7 +91,6 @@ put-group-spec =
     loop-holds
     add-cell
     mark-of-requires
-    held-by-requires
     remaining-requires
     put-held-requires
     add-bytes

@@ -1,27 +1,30 @@
--- `put_held` meets its contract. Assumes nothing.
-use mathlib.Core.Path.{sym, _∙_}
+-- `put_held` meets its contract: the search that begins at the first holder finds what one from the named depth finds. Assumes nothing.
+use mathlib.Core.Path.{_∙_}
 use native.Mathlib.Omega.{arith}
-use borrow.Author.Tests.{not-true}
 use Rattle.search.proofs.Behind.{nowhere-held}
-use Rattle.restore.proofs.Finding.{put-none, put-source, put-live, put-fits, put-some}
+use Rattle.restore.proofs.Finding.{put-none, put-source, put-live, put-once, put-unheld, put-first, put-fits, put-some}
 use borrow.Author.Needs.{needs}
 use Rattle.restore.proofs.put_held.Statement.{statement}
 use Rattle.restore.proofs.put_held.Tie as tie
 
 returns : tie.Need-returns
 returns c =
-    let a = c .before .before .before .before .args in
-    put-none (a .slots) (a .table .now) (a .depth) (a .cell) (a .bodies .now) (a .memory .now) (a .budget) (sym (c .before .before .before .before .pre .1 .1) ∙ not-true (a .held) (c .if1 .taken))
+    let a = c .before .before .before .before .before .before .args in
+    let p = c .before .before .before .before .before .before .pre in
+    put-none (a .slots) (a .table .now) (a .depth) (a .cell) (a .bodies .now) (a .memory .now) (a .budget) (put-unheld _ (a .slots) (a .table .now) (a .depth) (a .cell) (a .bodies .now) (p .1 .0) (p .0 .2) (a .held) (p .1 .1) (c .if1 .taken))
+
+first-depth-requires : tie.Need-first-depth-requires
+first-depth-requires c κs = search needs
 
 cast-find-value : tie.Need-cast-find-value
 cast-find-value c = search needs
 
 find-value-requires : tie.Need-find-value-requires
 find-value-requires c κs =
-    let a = c .before .before .before .before .args in
-    let ok = c .before .before .before .before .pre .1 .0 in
-    let low = c .before .before .before .before .pre .0 .2 in
-    ((c .before .before .before .before .pre .0 .0, c .before .before .before .before .pre .0 .1, put-live _ (a .slots) (a .table .now) (a .depth) (a .cell) (a .bodies .now) ok low), put-source _ (a .slots) (a .table .now) (a .depth) (a .cell) (a .bodies .now) ok low)
+    let a = c .before .before .before .before .before .before .before .args in
+    let p = c .before .before .before .before .before .before .before .pre in
+    let f = c .first-depth .ensures in
+    ((p .0 .0, p .0 .1, put-live _ (a .slots) (a .table .now) (a .depth) (a .cell) (a .bodies .now) (p .1 .0) (p .0 .2), f .low), (put-once _ (a .slots) (a .table .now) (a .depth) (a .cell) (a .bodies .now) (p .1 .0) (p .0 .2), put-source _ (a .slots) (a .table .now) (c .first-depth .result) (a .cell) (a .bodies .now) (p .1 .0) (f .low)))
 
 enum-told : tie.Need-enum-told
 enum-told c = search needs
@@ -34,15 +37,19 @@ wide-requires c κs = search needs
 
 cell-at-requires : tie.Need-cell-at-requires
 cell-at-requires c κs =
-    let a = c .before .before .before .before .before .before .before .before .before .args in
-    let f = put-fits _ (a .slots) (a .table .now) (a .depth) (a .cell) (a .bodies .now) (c .before .before .before .before .before .before .before .before .before .pre .1 .0) (c .before .before .before .before .before .before .before .before .before .pre .0 .2) _ _ _ (c .before .before .before .before .find-value .ensures) (c .before .before .body .given .1) in
-    omega (arith, c .wide .ensures)
+    let a = c .before .before .before .before .before .before .before .before .before .before .before .before .args in
+    let p = c .before .before .before .before .before .before .before .before .before .before .before .before .pre in
+    let v = c .before .before .before .before .find-value .ensures ∙ put-first _ (a .slots) (a .table .now) (a .depth) (a .cell) (a .bodies .now) (p .1 .0) (p .0 .2) (a .held) (p .1 .1) _ (c .before .before .before .before .before .first-depth .ensures) in
+    let f = put-fits _ (a .slots) (a .table .now) (a .depth) (a .cell) (a .bodies .now) (p .1 .0) (p .0 .2) _ _ _ v (c .before .before .body .given .1) in
+    omega (arith, f, c .wide .ensures)
 
 add-put-cell : tie.Need-add-put-cell
 add-put-cell c =
-    let a = c .before .before .before .before .before .before .before .before .before .before .args in
-    let f = put-fits _ (a .slots) (a .table .now) (a .depth) (a .cell) (a .bodies .now) (c .before .before .before .before .before .before .before .before .before .before .pre .1 .0) (c .before .before .before .before .before .before .before .before .before .before .pre .0 .2) _ _ _ (c .before .before .before .before .before .find-value .ensures) (c .before .before .before .body .given .1) in
-    omega (arith, c .before .wide .ensures, c .cell-at .ensures)
+    let a = c .before .before .before .before .before .before .before .before .before .before .before .before .before .args in
+    let p = c .before .before .before .before .before .before .before .before .before .before .before .before .before .pre in
+    let v = c .before .before .before .before .before .find-value .ensures ∙ put-first _ (a .slots) (a .table .now) (a .depth) (a .cell) (a .bodies .now) (p .1 .0) (p .0 .2) (a .held) (p .1 .1) _ (c .before .before .before .before .before .before .first-depth .ensures) in
+    let f = put-fits _ (a .slots) (a .table .now) (a .depth) (a .cell) (a .bodies .now) (p .1 .0) (p .0 .2) _ _ _ v (c .before .before .before .body .given .1) in
+    omega (arith, f, c .before .wide .ensures, c .cell-at .ensures)
 
 sub-put-cell : tie.Need-sub-put-cell
 sub-put-cell c = search needs
@@ -52,31 +59,38 @@ part-put-cell-start c = search needs
 
 part-put-cell-end : tie.Need-part-put-cell-end
 part-put-cell-end c =
-    let a = c .before .before .before .before .before .before .before .before .before .before .args in
-    let f = put-fits _ (a .slots) (a .table .now) (a .depth) (a .cell) (a .bodies .now) (c .before .before .before .before .before .before .before .before .before .before .pre .1 .0) (c .before .before .before .before .before .before .before .before .before .before .pre .0 .2) _ _ _ (c .before .before .before .before .before .find-value .ensures) (c .before .before .before .body .given .1) in
-    omega (arith, c .before .wide .ensures, c .cell-at .ensures)
+    let a = c .before .before .before .before .before .before .before .before .before .before .before .before .before .args in
+    let p = c .before .before .before .before .before .before .before .before .before .before .before .before .before .pre in
+    let v = c .before .before .before .before .before .find-value .ensures ∙ put-first _ (a .slots) (a .table .now) (a .depth) (a .cell) (a .bodies .now) (p .1 .0) (p .0 .2) (a .held) (p .1 .1) _ (c .before .before .before .before .before .before .first-depth .ensures) in
+    let f = put-fits _ (a .slots) (a .table .now) (a .depth) (a .cell) (a .bodies .now) (p .1 .0) (p .0 .2) _ _ _ v (c .before .before .before .body .given .1) in
+    omega (arith, f, c .before .wide .ensures, c .cell-at .ensures)
 
 put-cell-requires : tie.Need-put-cell-requires
 put-cell-requires c κs = search needs
 
 returns-2 : tie.Need-returns-2
 returns-2 c =
-    let a = c .before .before .before .before .before .before .before .args in
-    put-none (a .slots) (a .table .now) (a .depth) (a .cell) (a .bodies .now) (a .memory .now) (a .budget) (nowhere-held _ _ _ _ _ (c .before .before .find-value .ensures) (c .enum-told .given .1))
+    let a = c .before .before .before .before .before .before .before .before .before .before .args in
+    let p = c .before .before .before .before .before .before .before .before .before .before .pre in
+    let v = c .before .before .find-value .ensures ∙ put-first _ (a .slots) (a .table .now) (a .depth) (a .cell) (a .bodies .now) (p .1 .0) (p .0 .2) (a .held) (p .1 .1) _ (c .before .before .before .first-depth .ensures) in
+    put-none (a .slots) (a .table .now) (a .depth) (a .cell) (a .bodies .now) (a .memory .now) (a .budget) (nowhere-held _ _ _ _ _ v (c .enum-told .given .1))
 
 same-length : tie.Need-same-length
 same-length c = search needs
 
 returns-3 : tie.Need-returns-3
 returns-3 c =
-    let a = c .before .before .before .before .before .before .before .before .before .before .before .before .before .before .before .args in
-    put-some _ (a .slots) (a .table .now) (a .depth) (a .cell) (a .bodies .now) (c .before .before .before .before .before .before .before .before .before .before .before .before .before .before .before .pre .1 .0) (c .before .before .before .before .before .before .before .before .before .before .before .before .before .before .before .pre .0 .2) _ _ _ (c .before .before .before .before .before .before .before .before .before .before .find-value .ensures) (c .before .before .before .before .before .before .before .before .body .given .1) (a .memory .now) (a .budget) _ _ _ (c .before .before .before .before .before .before .wide .ensures) (c .before .before .before .before .before .cell-at .ensures) (c .before .before .put-cell .ensures)
+    let a = c .before .before .before .before .before .before .before .before .before .before .before .before .before .before .before .before .before .before .args in
+    let p = c .before .before .before .before .before .before .before .before .before .before .before .before .before .before .before .before .before .before .pre in
+    let v = c .before .before .before .before .before .before .before .before .before .before .find-value .ensures ∙ put-first _ (a .slots) (a .table .now) (a .depth) (a .cell) (a .bodies .now) (p .1 .0) (p .0 .2) (a .held) (p .1 .1) _ (c .before .before .before .before .before .before .before .before .before .before .before .first-depth .ensures) in
+    put-some _ (a .slots) (a .table .now) (a .depth) (a .cell) (a .bodies .now) (p .1 .0) (p .0 .2) _ _ _ v (c .before .before .before .before .before .before .before .before .body .given .1) (a .memory .now) (a .budget) _ _ _ (c .before .before .before .before .before .before .wide .ensures) (c .before .before .before .before .before .cell-at .ensures) (c .before .before .put-cell .ensures)
 
 pub put-held-spec : {M : Type 1} → statement M
 put-held-spec =
     tie.close
     (tie.spec
     returns
+    first-depth-requires
     cast-find-value
     find-value-requires
     enum-told

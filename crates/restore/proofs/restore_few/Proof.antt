@@ -1,7 +1,6 @@
--- `restore_few` meets its contract: 1024 marks are enough in a small memory. Assumes nothing.
-use native.Mathlib.Omega.{arith}
+-- `restore_few` meets its contract: marks for 64 blocks are enough. Assumes nothing.
+use Rattle.table.proofs.Marks.{room-few}
 use borrow.Author.Needs.{needs}
-use Rattle.restore.proofs.Marking.{lent}
 use Rattle.restore.proofs.restore_few.Statement.{statement}
 use Rattle.restore.proofs.restore_few.Tie as tie
 
@@ -18,10 +17,7 @@ slice-aggregate-restore-marked-2 : tie.Need-slice-aggregate-restore-marked-2
 slice-aggregate-restore-marked-2 c = search needs
 
 restore-marked-requires : tie.Need-restore-marked-requires
-restore-marked-requires c κs =
-    let seen = lent 1024 _ (c .before .before .before .before .before .few-marks .ensures) in
-    let used = lent 4096 _ (c .before .before .before .before .no-bodies .ensures) in
-    ((omega (arith, seen .0), used .0), (seen .1, used .1))
+restore-marked-requires c κs = rw (c .before .before .before .before .before .few-marks .ensures, c .before .before .before .before .no-bodies .ensures) (room-few _ _ _ (c .before .before .before .before .before .before .before .before .before .pre .1) (c .before .before .before .before .before .before .before .before .before .pre .0))
 
 same-length : tie.Need-same-length
 same-length c = search needs

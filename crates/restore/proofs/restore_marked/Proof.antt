@@ -22,9 +22,7 @@ same-length-3 : tie.Need-same-length-3
 same-length-3 c = search needs
 
 returns : tie.Need-returns
-returns c =
-    let a = c .before .before .before .before .before .before .before .before .before .before .before .before .before .before .args in
-    restore-refused _ _ _ (a .handle) (a .budget) _ (c .before .before .before .before .before .restore-check .ensures .0) (c .if1 .taken)
+returns c = restore-refused _ _ _ (c .before .before .before .before .before .before .before .before .before .before .before .before .before .before .args .handle) (c .before .before .before .before .before .before .before .before .before .before .before .before .before .before .args .budget) _ (c .before .before .before .before .before .restore-check .ensures .0) (c .if1 .taken)
 
 find-domain-requires : tie.Need-find-domain-requires
 find-domain-requires c κs =
@@ -40,9 +38,11 @@ restore-memory-requires c κs =
     let passed = sym (c .before .before .before .before .before .before .before .before .before .before .restore-check .ensures .0) ∙ c .before .before .before .before .before .if1 .left in
     let store = restore-store _ _ t (a .handle) passed in
     let f = store-lengths _ _ t store in
-    let named = c .before .before .before .find-domain .ensures in (
-      (f .slots-high, omega (arith, f .table-exact), omega (arith, named, restore-depth _ _ t (a .handle) passed), omega (arith, named, depth-small t (a .handle), live-within _ _ t store), f .cells-high, omega (arith, c .before .before .before .before .before .before .before .before .before .before .restore-check .kept .1 .1 .1 .1 .0, c .before .before .before .before .before .before .before .before .before .before .before .before .before .before .before .before .before .before .before .pre .0 .0, f .cells-high)),
-      (rule-passed _ _ t store, c .before .before .before .before .before .before .before .before .before .before .restore-check .ensures .1 (c .before .before .before .before .before .if1 .left) .cells),
+    let named = c .before .before .before .find-domain .ensures in
+    let ends = c .before .before .before .before .before .before .before .before .before .before .before .before .before .before .before .before .before .before .before .pre .reached (f .slots-low) (f .slots-high) .0 in
+    let marks = c .before .before .before .before .before .before .before .before .before .before .restore-check .ensures .1 (c .before .before .before .before .before .if1 .left) in (
+      (f .slots-high, omega (arith, f .table-exact), ends .0, omega (arith, named, restore-depth _ _ t (a .handle) passed), omega (arith, named, depth-small t (a .handle), live-within _ _ t store), f .cells-high, marks .kept),
+      (rule-passed _ _ t store, marks .cells),
     )
 
 remaining-requires : tie.Need-remaining-requires
@@ -56,7 +56,7 @@ restore-words-requires c κs =
     let store = restore-store _ _ t (a .handle) passed in
     let f = store-lengths _ _ t store in
     let named = c .before .before .before .before .before .before .before .before .find-domain .ensures in
-    (f .slots-high, f .table-exact, omega (arith, named, depth-small t (a .handle)), live-within _ _ t store)
+    (f .slots-high, f .table-exact, c .before .before .before .before .before .before .before .before .before .before .before .before .before .before .before .before .before .before .before .before .before .before .before .before .pre .reached (f .slots-low) (f .slots-high) .0, omega (arith, named, depth-small t (a .handle)), live-within _ _ t store)
 
 add-answer-of : tie.Need-add-answer-of
 add-answer-of c =
@@ -85,8 +85,7 @@ returns-2 c =
     let a = c .before .before .before .before .before .before .before .before .before .before .before .before .before .before .before .before .before .before .before .before .before .before .before .before .before .before .before .before .args in
     let passed = sym (c .before .before .before .before .before .before .before .before .before .before .before .before .before .before .before .before .before .before .before .restore-check .ensures .0) ∙ c .before .before .before .before .before .before .before .before .before .before .before .before .before .before .if1 .left in
     let mem = c .before .before .before .before .before .before .before .before .restore-memory .ensures in
-    let tab = c .before .before .before .restore-words .ensures in
-    restore-performed (a .memory .now) (a .bodies .now) (a .table .now) (a .handle) (a .budget) _ _ _ _ _ _ _ passed (c .before .before .before .before .before .before .before .before .before .before .before .before .find-domain .ensures) (mem .0) (mem .1 .1) (c .before .before .before .before .remaining .ensures) tab (c .answer-of .ensures)
+    restore-performed (a .memory .now) (a .bodies .now) (a .table .now) (a .handle) (a .budget) _ _ _ _ _ _ _ passed (c .before .before .before .before .before .before .before .before .before .before .before .before .find-domain .ensures) (mem .0) (mem .1 .1) (c .before .before .before .before .remaining .ensures) (c .before .before .before .restore-words .ensures) (c .answer-of .ensures)
 
 pub restore-marked-spec : {M : Type 1} → statement M
 restore-marked-spec =

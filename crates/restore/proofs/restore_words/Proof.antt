@@ -14,7 +14,7 @@ slots-of-requires : tie.Need-slots-of-requires
 slots-of-requires c κs = search needs
 
 end-few-requires : tie.Need-end-few-requires
-end-few-requires c κs = search needs
+end-few-requires c κs = (search needs, search needs, rw (c .before .before .slots-of .ensures) (c .before .before .before .before .before .before .pre .2), search needs, search needs)
 
 same-length : tie.Need-same-length
 same-length c = search needs
@@ -23,7 +23,7 @@ returns-2 : tie.Need-returns-2
 returns-2 c = finished (c .before .before .before .before .before .before .before .before .before .args .table .now) (c .before .before .before .before .before .before .before .before .before .args .depth) _ _ _ _ (c .before .before .before .before .before .before .if1 .left) (c .before .before .before .before .before .slots-of .ensures) (c .before .before .end-few .ensures)
 
 end-many-requires : tie.Need-end-many-requires
-end-many-requires c κs = search needs
+end-many-requires c κs = (search needs, search needs, rw (c .before .before .slots-of .ensures) (c .before .before .before .before .before .before .pre .2), search needs, search needs)
 
 same-length-2 : tie.Need-same-length-2
 same-length-2 c = search needs

@@ -1,28 +1,33 @@
 -- `stage_freed` meets its contract. The loop's invariant: the entries of the groups passed are staged. Assumes nothing.
 use Prim.Native.Nat.{_+_, _-_, _*_, _≤_, min}
 use mathlib.Core.Path.{_≡_, refl, _∙_}
+use native.Mathlib.Omega.{arith}
 use lib.ListN.{length}
 use Rattle.changes.specs.Staged.{Stages}
-use Rattle.changes.proofs.Staging.{stages-to}
+use Rattle.changes.proofs.Staging.{stages-to, stages-skip}
 use Rattle.restore.specs.Restore.{restoreChange}
+use Rattle.restore.proofs.Writing.{not-freed}
 use borrow.Author.Needs.{needs}
 use Rattle.restore.proofs.stage_freed.Statement.{statement}
 use Rattle.restore.proofs.stage_freed.Tie as tie
 
 abbrev Inv-loop : tie.InvT-loop
-Inv-loop table slots depth words₀ changed₀ k₀ words changed k = (64 * k ≤ slots + 63) × (length words ≡ length words₀) × (length changed ≡ length changed₀) × Stages (min slots (64 * k)) (restoreChange slots table depth) words changed
+Inv-loop table slots top depth words₀ changed₀ k₀ words changed k = (64 * k ≤ top + 63) × (length words ≡ length words₀) × (length changed ≡ length changed₀) × Stages (min slots (64 * k)) (restoreChange slots table depth) words changed
 
 abbrev μ-loop : tie.MeasureT-loop
-μ-loop table slots depth words₀ changed₀ k₀ words changed k = slots + 64 - 64 * k
+μ-loop table slots top depth words₀ changed₀ k₀ words changed k = top + 64 - 64 * k
 
 loop-holds : tie.Need-loop-holds Inv-loop μ-loop
-loop-holds c = (search needs, refl, refl, stages-to _ (c .before .before .before .pre .1) (search needs))
+loop-holds c = (search needs, refl, refl, stages-to _ (c .before .before .before .pre .1 .1) (search needs))
 
 mul-loop : tie.Need-mul-loop Inv-loop μ-loop
 mul-loop c = search needs
 
 stage-group-requires : tie.Need-stage-group-requires Inv-loop μ-loop
-stage-group-requires c κs = (search needs, stages-to _ (c .before .before .before .loop .inv .3) (search needs))
+stage-group-requires c κs =
+    let p = c .before .before .before .before .before .before .before .pre in
+    let s = c .before .before .before .loop in
+    ((omega (arith, p .1 .0 .0), p .0 .0, p .0 .1, omega (arith, p .0 .2, s .inv .1), omega (arith, p .0 .3, s .inv .2)), stages-to (64 * s .k) (s .inv .3) (omega (arith, p .1 .0 .0)))
 
 add-k : tie.Need-add-k Inv-loop μ-loop
 add-k c = search needs
@@ -40,7 +45,11 @@ same-length-2 : tie.Need-same-length-2 Inv-loop μ-loop
 same-length-2 c = search needs
 
 returns : tie.Need-returns Inv-loop μ-loop
-returns c = stages-to _ (c .before .loop .inv .3) (search needs)
+returns c =
+    let a = c .before .before .before .before .before .args in
+    let p = c .before .before .before .before .before .pre in
+    let s = c .before .loop in
+    stages-skip _ (s .inv .3) (omega arith) (λ i low high. not-freed (a .slots) (a .table .now) (a .depth) i (omega (arith, p .1 .0 .1 i (omega (arith, low, high)) high .0)))
 
 pub stage-freed-spec : {M : Type 1} → statement M
 stage-freed-spec =
