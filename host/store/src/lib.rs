@@ -81,9 +81,9 @@
 //! writes through [`Store::memory_mut`] may change a buffer of a store: for slices Rust sees to
 //! that, for a mapped file the program does.
 //!
-//! A call takes no heap. Stack of a call at the largest sizes, measured: make 5 KB; open, create,
-//! list, look, delete 104 KB; advance 124 KB; commit 134 KB; add, restore 138 KB. A thread of Rust
-//! has 2 MiB where nothing else is asked for.
+//! A call takes no heap. Stack of a call at the largest sizes, measured: make 5 KB; create, list,
+//! look, delete 74 KB; open 107 KB; commit 108 KB; add, restore 116 KB; advance 127 KB. A thread of
+//! Rust has 2 MiB where nothing else is asked for.
 
 #![deny(missing_docs)]
 #![deny(unsafe_code)]
