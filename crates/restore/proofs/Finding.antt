@@ -97,12 +97,12 @@ module _ (m e : ℕ) (t : List ℕ) (d c : ℕ) (bodies : List ℕ) (ok : ruleOk
 
 -- ---- all cells
 
--- the groups passed over have no bytes
+-- the runs passed over have no bytes
 pub put-passed : (m e : ℕ) (t : List ℕ) (d : ℕ) (bodies : List ℕ) → ruleOk m e (bodiesOf (length bodies)) t ≡ true → 1 ≤ d
     → (mask : ℕ) (seen : List ℕ) → Tells e t d mask seen → (cells from n r : ℕ) → Unheld mask seen from n r
-    → gather (min cells (64 * from)) (backPlan e t d bodies) ≡ gather (min cells (64 * r)) (backPlan e t d bodies)
+    → gather (min cells (8 * from)) (backPlan e t d bodies) ≡ gather (min cells (8 * r)) (backPlan e t d bodies)
 put-passed m e t d bodies ok low mask seen tell cells from n r u =
-    sym (gather-skip (backPlan e t d bodies) (min cells (64 * from)) (min cells (64 * r)) (omega (arith, u .low))
+    sym (gather-skip (backPlan e t d bodies) (min cells (8 * from)) (min cells (8 * r)) (omega (arith, u .low))
     (λ c a b. rw (put-unheld m e t d c bodies ok low _ (tell c) (u .none c (omega (arith, a, b)) (omega (arith, a, b))))))
 
 pub bytes-are : (m d e : ℕ) (bodies t : List ℕ) → e ≡ slotsOf (length t) → gather m (backPlan e t d bodies) ≡ restoreBytes m d bodies t

@@ -87,22 +87,31 @@ marks-tell e t d low high seen marked c k l few =
 
 -- ---- groups that are passed over
 
--- up to r no group has a block
-pub unheld-blank : (mask : ℕ) (seen : List ℕ) (from n r : ℕ) → Kept seen → from ≤ r → r ≤ n → ((g : ℕ) → from ≤ g → g < r → blockOf seen g ≡ 0)
-    → Unheld mask seen from n r
-unheld-blank mask seen from n r ok low high blank = record { low = low; high = high; none = λ c a b. none-held seen ok mask c (blank (c / 64) a b) }
+-- none is passed
+pub unheld-none : (mask : ℕ) (seen : List ℕ) (from n : ℕ) → from ≤ n → Unheld mask seen from n from
+unheld-none mask seen from n low = record { low = omega arith; high = low; none = λ c a b. absurd (omega (arith, a, b)) }
 
--- one group more, and then those without a block
-pub unheld-more : (mask : ℕ) (seen : List ℕ) (from n g r : ℕ) → Unheld mask seen from n g → ((c : ℕ) → c / 64 ≡ g → bitAnd (markOf seen c) mask ≡ 0)
+-- the runs of groups without a block
+pub unheld-blank : (mask : ℕ) (seen : List ℕ) (from n g : ℕ) → Kept seen → from ≤ n → from % 8 ≡ 0 → from / 8 ≤ g
+    → ((k : ℕ) → from / 8 ≤ k → k < g → blockOf seen k ≡ 0) → Unheld mask seen from n (min (8 * g) n)
+unheld-blank mask seen from n g ok low whole some blank =
+    record {
+      low = omega (arith, low, whole, some);
+      high = omega arith;
+      none = λ c a b. none-held seen ok mask c (blank (c / 64) (omega (arith, a)) (omega (arith, b)));
+    }
+
+-- one run more, and then those of groups without a block
+pub unheld-more : (mask : ℕ) (seen : List ℕ) (from n g r : ℕ) → Unheld mask seen from n g → ((c : ℕ) → 8 * g ≤ c → c < 8 * g + 8 → bitAnd (markOf seen c) mask ≡ 0)
     → Unheld mask seen (g + 1) n r → Unheld mask seen from n r
 unheld-more mask seen from n g r u here rest =
     record {
       low = omega (arith, u .low, rest .low);
       high = rest .high;
       none = λ c a b.
-          by-le (g + 1) (c / 64)
+          by-le (g + 1) (c / 8)
           (λ far. rest .none c far b)
-          (λ near. by-bool (eqb (c / 64) g) (λ z. here c (eqb-true (c / 64) g z)) (λ z. u .none c a (omega (arith, near, eqb-false (c / 64) g z))));
+          (λ near. by-bool (eqb (c / 8) g) (λ z. let q = eqb-true (c / 8) g z in here c (omega (arith, q)) (omega (arith, q))) (λ z. u .none c a (omega (arith, near, eqb-false (c / 8) g z))));
     }
 
 -- ---- the first depth of those that hold a cell

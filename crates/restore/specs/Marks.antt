@@ -5,7 +5,7 @@ use mathlib.Core.List.{List}
 use mathlib.Core.Path.{_≡_}
 use lib.Bits.{bitAnd}
 use lib.Dec.{leb}
-use Rattle.words.specs.Layout.{maxLive, groupOf}
+use Rattle.words.specs.Layout.{maxLive}
 use Rattle.table.specs.Entry.{holdsIn}
 use Rattle.table.specs.Marks.{has, markOf}
 
@@ -28,8 +28,15 @@ pub record FirstDepth (held r : ℕ) : Type 0 where
 abbrev pub Tells : ℕ → List ℕ → (d mask : ℕ) → (seen : List ℕ) → Type 0
 Tells e t d mask seen = (c : ℕ) → Holders e t d c (bitAnd (markOf seen c) mask)
 
--- in the groups from `from` on and before r, of n groups, no mark has any of the mask
+-- cells are asked in runs of so many
+abbrev pub runSize : ℕ
+runSize = 8
+
+abbrev pub runOf : ℕ → ℕ
+runOf c = c / runSize
+
+-- in the runs from `from` on and before r, of n runs, no mark has any of the mask
 pub record Unheld (mask : ℕ) (seen : List ℕ) (from n r : ℕ) : Type 0 where
   pub low : from ≤ r
   pub high : r ≤ n
-  pub none : (c : ℕ) → from ≤ groupOf c → groupOf c < r → bitAnd (markOf seen c) mask ≡ 0
+  pub none : (c : ℕ) → from ≤ runOf c → runOf c < r → bitAnd (markOf seen c) mask ≡ 0

@@ -1,9 +1,9 @@
 // Restore: it puts back each cell held by the named domain or one inside it, with the value of the outermost of these holders, and then ends
 // the domains inside.
 //
-// The questions leave marks of the cells, with the domains that hold them. Then the groups of 64 cells are walked in their order, past those in
-// which no mark has a domain from the named one inwards, with one search for the value of each cell that is put back. The mark tells the holder
-// whose value that is, and notes tell where its entry stands. Memory is whole before any word of the table changes. Where domains end, their
+// The questions leave marks of the cells, with the domains that hold them. Then the cells are walked in their order, past groups of 64
+// that have no marks, and past runs of 8 in which no mark has a domain from the named one inwards, with one search for the value of each cell that
+// is put back. The mark tells the holder whose value that is, and notes tell where its entry stands. Memory is whole before any word of the table changes. Where domains end, their
 // entries and the head's words are staged, and one writer stores them.
 use changes::Head;
 use changes::few_bits;
@@ -28,9 +28,8 @@ use table::FEW_SLOTS;
 use table::cell_marks::FEW_BLOCKS;
 use table::cell_marks::SOME_BLOCKS;
 use table::cell_marks::blocks_wanted;
+use table::cell_marks::cells_held;
 use table::cell_marks::few_marks;
-use table::cell_marks::group_held;
-use table::cell_marks::group_of;
 use table::cell_marks::many_marks;
 use table::cell_marks::mark_of;
 use table::cell_marks::past_blank;
@@ -67,7 +66,7 @@ ghost use Rattle.changes.specs.Staged.{Turned, Stages, HeadOk, headStores, Jour
 ghost use Rattle.store.specs.Outcome.{buffers, report, Makes};
 ghost use Rattle.store.specs.Means.{Shows};
 ghost use Rattle.restore.specs.Restore.{restoreCheck, restoreBytes, restoreChange, restoreWords, restoreCall, restoreMeans};
-ghost use Rattle.restore.specs.Marks.{inwards, Holders, FirstDepth, Tells, Unheld};
+ghost use Rattle.restore.specs.Marks.{runSize, runOf, inwards, Holders, FirstDepth, Tells, Unheld};
 ghost use Rattle.restore.specs.Parts.{backPlan, groupPlan, headWords, endingWords};
 
 // The questions put to restore: 0, or the number of the first no. It leaves the marks of all entries where it says 0.
@@ -112,20 +111,41 @@ fn first_depth(held: u8) -> u32
     u64::trailing_zeros(held as u64) + 1
 }
 
-// Passes over groups of cells from `from` on of which none is to be put back: all of a large memory's that have no marks, and those whose marks
-// have none of the mask's domains. It is a loop of its own, so that its numbers stay in registers.
-fn past_unheld(seen: &[u8], from: usize, groups: usize, mask: u8) -> usize
-    requires { ⌜ (from ≤ groups) × (groups ≤ maxGroups) × Kept (now seen) ⌝ }
-    ensures { λ r. ⌜ Unheld mask (now (seen .entry)) from groups r ⌝ }
+// Cells are asked in runs of so many, of which 8 make a group.
+const RUN_SIZE: usize = 8;
+
+// The run to which a cell belongs.
+fn run_of(cell: usize) -> usize
+    ensures { λ r. ⌜ r ≡ runOf cell ⌝ }
 {
-    let mut g = past_blank(seen, from, groups);
-    while g < groups {
-        if group_held(seen, g, mask) {
-            return g;
-        }
-        g = past_blank(seen, g + 1, groups);
+    cell / RUN_SIZE
+}
+
+// Where a group begins, passes over runs of groups without a block: most of a large memory's.
+fn past_groups(seen: &[u8], from: usize, runs: usize) -> usize
+    requires { ⌜ (from ≤ runs) × (runs ≤ runOf maxCells) × Kept (now seen) ⌝ }
+    ensures { λ r. ⌜ ((mask : ℕ) → Unheld mask (now (seen .entry)) from runs r) ⌝ }
+{
+    if from % RUN_SIZE != 0 {
+        return from;
     }
-    g
+    let g = past_blank(seen, from / RUN_SIZE, (runs + RUN_SIZE - 1) / RUN_SIZE);
+    least(RUN_SIZE * g, runs)
+}
+
+// Passes over runs of cells from `from` on of which none is to be put back. It is a loop of its own, so that its numbers stay in registers.
+fn past_unheld(seen: &[u8], from: usize, runs: usize, mask: u8) -> usize
+    requires { ⌜ (from ≤ runs) × (runs ≤ runOf maxCells) × Kept (now seen) ⌝ }
+    ensures { λ r. ⌜ Unheld mask (now (seen .entry)) from runs r ⌝ }
+{
+    let mut r = past_groups(seen, from, runs);
+    while r < runs {
+        if cells_held(seen, RUN_SIZE * r, RUN_SIZE, mask) {
+            return r;
+        }
+        r = past_groups(seen, r + 1, runs);
+    }
+    r
 }
 
 // Puts 64 bytes back into a cell of memory, at most budget of them. It is lent the bytes that the holder holds, and no table.
@@ -171,7 +191,7 @@ fn put_held(
 }
 
 // Puts back the held ones of n cells from `from` on, in their order, and gives how many bytes that is uncut.
-fn put_group(
+fn put_run(
     memory: &mut [u8],
     bodies: &[u8],
     table: &[u32],
@@ -186,7 +206,7 @@ fn put_group(
     budget: usize,
 ) -> usize
     requires { ⌜ (slots ≤ maxSlots) × (pairsAt slots ≤ length (now table)) × (1 ≤ depth) × (cellsOf (length (now memory)) ≤ maxCells)
-        × (n ≤ groupSize) × (from + n ≤ cellsIn (now seen)) × (from + n ≤ cellsOf (length (now memory))) ⌝ }
+        × (n ≤ runSize) × (from + n ≤ cellsIn (now seen)) × (from + n ≤ cellsOf (length (now memory))) ⌝ }
     requires { ⌜ (ruleOk (cellsOf (length (now memory))) slots (bodiesOf (length (now bodies))) (now table) ≡ true) × Tells slots (now table) depth mask (now seen) ⌝ }
     ensures made { λ r. ⌜ r ≡ length (groupPlan slots (now (table .entry)) depth (now (bodies .entry)) from n) ⌝ }
     ensures few { λ r. ⌜ r ≤ cellSize * n ⌝ }
@@ -234,12 +254,12 @@ fn put_back(
         ≡ stores (take budget (gather (cellsOf (length (now (memory .entry)))) (backPlan slots (now (table .entry)) depth (now (bodies .entry))))) (now (memory .entry)) ⌝ }
 {
     let cells = cells_of(memory.len());
-    let groups = group_of(cells + GROUP_SIZE - 1);
+    let runs = run_of(cells + RUN_SIZE - 1);
     let mut bytes: usize = 0;
-    let mut g = past_unheld(seen, 0, groups, mask);
-    while g < groups {
-        let from = GROUP_SIZE * g;
-        bytes += put_group(
+    let mut r = past_unheld(seen, 0, runs, mask);
+    while r < runs {
+        let from = RUN_SIZE * r;
+        bytes += put_run(
             memory,
             bodies,
             table,
@@ -248,12 +268,12 @@ fn put_back(
             seen,
             mask,
             from,
-            least(GROUP_SIZE, cells - from),
+            least(RUN_SIZE, cells - from),
             last,
             before,
             remaining(budget, bytes),
         );
-        g = past_unheld(seen, g + 1, groups, mask);
+        r = past_unheld(seen, r + 1, runs, mask);
     }
     bytes
 }

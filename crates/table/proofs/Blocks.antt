@@ -448,13 +448,19 @@ held-more marks mask j x so-far h k l =
 pub none-held : (s : List ℕ) → Kept s → (mask c : ℕ) → blockOf s (c / 64) ≡ 0 → bitAnd (markOf s c) mask ≡ 0
 none-held s ok mask c h = ap (λ (m : ℕ). bitAnd m mask) (group-none s ok c h) ∙ and-zero-l mask
 
--- else they are those of its block
-pub block-held : (s : List ℕ) (g mask at n : ℕ) → g < maxGroups → at ≡ blockAt (blockOf s g) → 64 ≤ n
-    → ((j : ℕ) → j < 64 → bitAnd (getD (take n (drop at s)) j 0) mask ≡ 0) → (c : ℕ) → c / 64 ≡ g → bitAnd (markOf s c) mask ≡ 0
-block-held s g mask at n l start long none c here =
-    let block : blockOf s (c / 64) ≡ blockOf s g = ap (blockOf s) here in
-    let there : placeOf s c ≡ at + c % 64 = omega (arith, place-is s c, start, block) in
-    let mark : markOf s c ≡ getD (take n (drop at s)) (c % 64) 0 =
-    mark-at s c (omega (arith, here, l)) ∙ ap (λ (p : ℕ). getD s p 0) there
-    ∙ sym (rw (getD-take n (drop at s) (c % 64) 0 (omega (arith, long)), getD-drop)) in
-    ap (λ (m : ℕ). bitAnd m mask) mark ∙ none (c % 64) (omega arith)
+-- the marks of n cells of one group stand side by side
+pub part-fits : (s : List ℕ) → Kept s → (cell n : ℕ) → cell < maxCells → cell % 64 + n ≤ 64 → (placeOf s cell + n ≤ length s) × (placeOf s cell + n < 4200000)
+part-fits s ok cell n small one =
+    let block = ok .low (cell / 64) (omega (arith, small)) in
+    (omega (arith, place-is s cell, block, ok .room, one), omega (arith, place-is s cell, block, few s ok, one))
+
+pub part-held : (s : List ℕ) (cell n mask w : ℕ) → cell < maxCells → cell % 64 + n ≤ 64 → n ≤ w
+    → ((j : ℕ) → j < n → bitAnd (getD (take w (drop (placeOf s cell) s)) j 0) mask ≡ 0) → (c : ℕ) → cell ≤ c → c < cell + n → bitAnd (markOf s c) mask ≡ 0
+part-held s cell n mask w small one long none c low high =
+    let same : c / 64 ≡ cell / 64 = omega (arith, one, low, high) in
+    let block : blockOf s (c / 64) ≡ blockOf s (cell / 64) = ap (blockOf s) same in
+    let there : placeOf s c ≡ placeOf s cell + (c - cell) = omega (arith, place-is s c, place-is s cell, block, same, one, low, high) in
+    let mark : markOf s c ≡ getD (take w (drop (placeOf s cell) s)) (c - cell) 0 =
+    mark-at s c (omega (arith, small, same)) ∙ ap (λ (p : ℕ). getD s p 0) there
+    ∙ sym (rw (getD-take w (drop (placeOf s cell) s) (c - cell) 0 (omega (arith, long, low, high)), getD-drop)) in
+    ap (λ (m : ℕ). bitAnd m mask) mark ∙ none (c - cell) (omega (arith, low, high))

@@ -13,7 +13,7 @@ ghost use mathlib.Core.Bool.{true, false, not};
 ghost use Prim.Native.Nat.{ℕ, _+_, _*_, _/_, _<_, _≤_, min};
 ghost use lib.Bits.{bitAnd};
 ghost use lib.ListN.{length, getD, set};
-ghost use Rattle.words.specs.Layout.{maxCells, maxLive, groupSize, groupOf};
+ghost use Rattle.words.specs.Layout.{maxCells, maxLive, groupSize, groupOf, inGroup};
 ghost use Rattle.table.specs.Entry.{depthOf, cellOf};
 ghost use Rattle.table.specs.Blocks.{number, putNumber, taken, blockOf, maxGroups, groupsFor, directoryEnd, placeOf, markOf, cellsIn, Kept, withBlock, Spare};
 ghost use Rattle.table.specs.Marks.{has, withDepth, markAt, markCell, zeros};
@@ -204,29 +204,26 @@ pub fn many_marks() -> [u8; 67712]
 
 // ---- what the marks of a group have of a mask of domains
 
-// Has one of 64 marks a domain of the mask? All of them are asked, so that the compiler can ask many at once.
-fn any_held(marks: &[u8], mask: u8) -> bool
-    requires { ⌜ length (now marks) ≡ groupSize ⌝ }
-    ensures { λ r. ⌜ (r ≡ false → (j : ℕ) → j < groupSize → bitAnd (getD (now (marks .entry)) j 0) mask ≡ 0) ⌝ }
+// Has one of n marks any of the mask? All of them are asked, so that the compiler can ask many at once.
+fn any_held(marks: &[u8], n: usize, mask: u8) -> bool
+    requires { ⌜ length (now marks) ≡ n ⌝ }
+    ensures { λ r. ⌜ (r ≡ false → (j : ℕ) → j < n → bitAnd (getD (now (marks .entry)) j 0) mask ≡ 0) ⌝ }
 {
     let mut any = false;
     let mut j: usize = 0;
-    while j < GROUP_SIZE {
+    while j < n {
         any = any | ((marks[j] & mask) != 0);
         j += 1;
     }
     any
 }
 
-// Has a mark of this group a domain of the mask? A group without a block has no marks.
-pub fn group_held(seen: &[u8], g: usize, mask: u8) -> bool
-    requires { ⌜ (g < maxGroups) × Kept (now seen) ⌝ }
-    ensures { λ r. ⌜ (r ≡ false → (c : ℕ) → groupOf c ≡ g → bitAnd (markOf (now (seen .entry)) c) mask ≡ 0) ⌝ }
+// May one of n cells from this one on, all of one group, have a mark with any of the mask? A group without a block has the marks of block 0,
+// which is blank.
+pub fn cells_held(seen: &[u8], cell: usize, n: usize, mask: u8) -> bool
+    requires { ⌜ (cell < maxCells) × (inGroup cell + n ≤ groupSize) × Kept (now seen) ⌝ }
+    ensures { λ r. ⌜ (r ≡ false → (c : ℕ) → cell ≤ c → c < cell + n → bitAnd (markOf (now (seen .entry)) c) mask ≡ 0) ⌝ }
 {
-    let block = block_of(seen, g);
-    if block == 0 {
-        return false;
-    }
-    let at = DIRECTORY_END + GROUP_SIZE * block;
-    any_held(&seen[at..at + GROUP_SIZE], mask)
+    let at = place_of(seen, cell);
+    any_held(&seen[at..at + n], n, mask)
 }

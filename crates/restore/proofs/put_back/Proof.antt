@@ -19,25 +19,25 @@ use Rattle.restore.proofs.put_back.Statement.{statement}
 use Rattle.restore.proofs.put_back.Tie as tie
 
 abbrev Inv-loop : tie.InvT-loop
-Inv-loop memory₀ bodies table slots depth seen mask last before budget cells groups bytes₀ g₀ memory bytes g = (g ≤ groups) × (bytes ≤ 64 * min cells (64 * g)) × (length memory ≡ length memory₀) × (bytes ≡ length (gather (min cells (64 * g)) (backPlan slots table depth bodies))) × (memory ≡ stores (take budget (gather (min cells (64 * g)) (backPlan slots table depth bodies))) memory₀)
+Inv-loop memory₀ bodies table slots depth seen mask last before budget cells runs bytes₀ r₀ memory bytes r = (r ≤ runs) × (bytes ≤ 64 * min cells (8 * r)) × (length memory ≡ length memory₀) × (bytes ≡ length (gather (min cells (8 * r)) (backPlan slots table depth bodies))) × (memory ≡ stores (take budget (gather (min cells (8 * r)) (backPlan slots table depth bodies))) memory₀)
 
 abbrev μ-loop : tie.MeasureT-loop
-μ-loop memory₀ bodies table slots depth seen mask last before budget cells groups bytes₀ g₀ memory bytes g = groups - g
+μ-loop memory₀ bodies table slots depth seen mask last before budget cells runs bytes₀ r₀ memory bytes r = runs - r
 
 cells-of-requires : tie.Need-cells-of-requires Inv-loop μ-loop
 cells-of-requires c κs = search needs
 
-add-group-of : tie.Need-add-group-of Inv-loop μ-loop
-add-group-of c = omega (arith, c .cells-of .ensures, c .before .before .before .before .before .before .before .pre .0 .3)
+add-run-of : tie.Need-add-run-of Inv-loop μ-loop
+add-run-of c = omega (arith, c .cells-of .ensures, c .before .before .before .before .before .before .before .pre .0 .3)
 
-sub-group-of : tie.Need-sub-group-of Inv-loop μ-loop
-sub-group-of c = search needs
+sub-run-of : tie.Need-sub-run-of Inv-loop μ-loop
+sub-run-of c = search needs
 
-group-of-requires : tie.Need-group-of-requires Inv-loop μ-loop
-group-of-requires c κs = search needs
+run-of-requires : tie.Need-run-of-requires Inv-loop μ-loop
+run-of-requires c κs = search needs
 
 past-unheld-requires : tie.Need-past-unheld-requires Inv-loop μ-loop
-past-unheld-requires c κs = (omega arith, omega (arith, c .group-of .ensures, c .before .cells-of .ensures, c .before .before .before .before .before .before .before .before .pre .0 .3), c .before .before .before .before .before .before .before .before .pre .0 .4)
+past-unheld-requires c κs = (omega arith, omega (arith, c .run-of .ensures, c .before .cells-of .ensures, c .before .before .before .before .before .before .before .before .pre .0 .3), c .before .before .before .before .before .before .before .before .pre .0 .4)
 
 loop-holds : tie.Need-loop-holds Inv-loop μ-loop
 loop-holds c =
@@ -46,15 +46,15 @@ loop-holds c =
     let u = c .past-unheld .ensures in
     let cells : ℕ = c .before .before .cells-of .result in
     let plan : ℕ → List Store = backPlan (a .slots) (a .table .now) (a .depth) (a .bodies .now) in
-    let zero : 0 ≡ min cells (64 * 0) = omega arith in
-    let none : gather 0 plan ≡ gather (min cells (64 * c .past-unheld .result)) plan = ap (λ (n : ℕ). gather n plan) zero ∙ put-passed _ (a .slots) (a .table .now) (a .depth) (a .bodies .now) (p .1 .0) (p .0 .2) (a .mask) (a .seen .now) (p .1 .1) cells 0 _ _ u in
+    let zero : 0 ≡ min cells (8 * 0) = omega arith in
+    let none : gather 0 plan ≡ gather (min cells (8 * c .past-unheld .result)) plan = ap (λ (n : ℕ). gather n plan) zero ∙ put-passed _ (a .slots) (a .table .now) (a .depth) (a .bodies .now) (p .1 .0) (p .0 .2) (a .mask) (a .seen .now) (p .1 .1) cells 0 _ _ u in
     (u .high, omega arith, refl, ap length none, stores-none (a .budget) (a .memory .now) ∙ ap (λ (l : List Store). stores (take (a .budget) l) (a .memory .now)) none)
 
 mul-from : tie.Need-mul-from Inv-loop μ-loop
-mul-from c = omega (arith, c .before .before .before .group-of .ensures, c .before .before .before .before .cells-of .ensures, c .before .before .before .before .before .before .before .before .before .before .before .pre .0 .3)
+mul-from c = omega (arith, c .before .before .before .run-of .ensures, c .before .before .before .before .cells-of .ensures, c .before .before .before .before .before .before .before .before .before .before .before .pre .0 .3)
 
 sub-least : tie.Need-sub-least Inv-loop μ-loop
-sub-least c = omega (arith, c .before .before .before .before .group-of .ensures)
+sub-least c = omega (arith, c .before .before .before .before .run-of .ensures)
 
 least-requires : tie.Need-least-requires Inv-loop μ-loop
 least-requires c κs = search needs
@@ -62,12 +62,12 @@ least-requires c κs = search needs
 remaining-requires : tie.Need-remaining-requires Inv-loop μ-loop
 remaining-requires c κs = search needs
 
-put-group-requires : tie.Need-put-group-requires Inv-loop μ-loop
-put-group-requires c κs =
+put-run-requires : tie.Need-put-run-requires Inv-loop μ-loop
+put-run-requires c κs =
     let a = c .before .before .before .before .before .before .before .before .before .before .before .before .before .before .args in
     let s = c .before .before .before .before .loop in
     let q = c .before .before .before .before .before .before .before .cells-of .ensures in
-    let h = c .before .before .before .before .before .before .group-of .ensures in
+    let h = c .before .before .before .before .before .before .run-of .ensures in
     let n = c .before .least .ensures in
     let p = c .before .before .before .before .before .before .before .before .before .before .before .before .before .before .pre in
     let all = cells-all (a .seen .now) (omega (arith, p .0 .4 .room)) in (
@@ -76,13 +76,13 @@ put-group-requires c κs =
     )
 
 add-bytes : tie.Need-add-bytes Inv-loop μ-loop
-add-bytes c = omega (arith, c .before .before .put-group .ensures .1 .0, c .before .before .before .before .least .ensures, c .before .before .before .before .before .before .before .before .before .before .cells-of .ensures, c .before .before .before .before .before .before .before .loop .inv .1, c .before .before .before .before .before .before .before .before .before .before .before .before .before .before .before .before .before .pre .0 .3)
+add-bytes c = omega (arith, c .before .before .put-run .ensures .1 .0, c .before .before .before .before .least .ensures, c .before .before .before .before .before .before .before .before .before .before .cells-of .ensures, c .before .before .before .before .before .before .before .loop .inv .1, c .before .before .before .before .before .before .before .before .before .before .before .before .before .before .before .before .before .pre .0 .3)
 
 add-past-unheld : tie.Need-add-past-unheld Inv-loop μ-loop
-add-past-unheld c = omega (arith, c .before .before .before .before .before .before .before .before .before .group-of .ensures, c .before .before .before .before .before .before .before .before .before .before .cells-of .ensures, c .before .before .before .before .before .before .before .before .before .before .before .before .before .before .before .before .before .pre .0 .3)
+add-past-unheld c = omega (arith, c .before .before .before .before .before .before .before .before .before .run-of .ensures, c .before .before .before .before .before .before .before .before .before .before .cells-of .ensures, c .before .before .before .before .before .before .before .before .before .before .before .before .before .before .before .before .before .pre .0 .3)
 
 past-unheld-requires-2 : tie.Need-past-unheld-requires-2 Inv-loop μ-loop
-past-unheld-requires-2 c κs = (omega arith, omega (arith, c .before .before .before .before .before .before .before .before .before .group-of .ensures, c .before .before .before .before .before .before .before .before .before .before .cells-of .ensures, c .before .before .before .before .before .before .before .before .before .before .before .before .before .before .before .before .before .pre .0 .3), c .before .before .before .before .before .before .before .before .before .before .before .before .before .before .before .before .before .pre .0 .4)
+past-unheld-requires-2 c κs = (omega arith, omega (arith, c .before .before .before .before .before .before .before .before .before .run-of .ensures, c .before .before .before .before .before .before .before .before .before .before .cells-of .ensures, c .before .before .before .before .before .before .before .before .before .before .before .before .before .before .before .before .before .pre .0 .3), c .before .before .before .before .before .before .before .before .before .before .before .before .before .before .before .before .before .pre .0 .4)
 
 loop-less : tie.Need-loop-less Inv-loop μ-loop
 loop-less c = omega (arith, c .past-unheld2 .ensures .low, c .past-unheld2 .ensures .high)
@@ -94,21 +94,21 @@ loop-again c =
     let s = c .before .before .before .before .before .before .before .before .loop in
     let u = c .past-unheld2 .ensures in
     let n = c .before .before .before .before .before .least .ensures in
-    let h = c .before .before .before .before .before .before .before .before .before .before .group-of .ensures in
+    let h = c .before .before .before .before .before .before .before .before .before .before .run-of .ensures in
     let cells : ℕ = c .before .before .before .before .before .before .before .before .before .before .before .cells-of .result in
     let plan : ℕ → List Store = backPlan (a .slots) (a .table .now) (a .depth) (a .bodies .now) in
-    let so-far : min cells (64 * s .g) ≡ 64 * s .g = omega (arith, h) in
-    let next : 64 * s .g + c .before .before .before .before .before .least .result ≡ min cells (64 * (s .g + 1)) = omega (arith, n, h) in
-    let whole : gather (64 * s .g + c .before .before .before .before .before .least .result) plan ≡ gather (min cells (64 * c .past-unheld2 .result)) plan = ap (λ (x : ℕ). gather x plan) next ∙ put-passed _ (a .slots) (a .table .now) (a .depth) (a .bodies .now) (p .1 .0) (p .0 .2) (a .mask) (a .seen .now) (p .1 .1) cells (s .g + 1) _ _ u in
+    let so-far : min cells (8 * s .r) ≡ 8 * s .r = omega (arith, h) in
+    let next : 8 * s .r + c .before .before .before .before .before .least .result ≡ min cells (8 * (s .r + 1)) = omega (arith, n, h) in
+    let whole : gather (8 * s .r + c .before .before .before .before .before .least .result) plan ≡ gather (min cells (8 * c .past-unheld2 .result)) plan = ap (λ (x : ℕ). gather x plan) next ∙ put-passed _ (a .slots) (a .table .now) (a .depth) (a .bodies .now) (p .1 .0) (p .0 .2) (a .mask) (a .seen .now) (p .1 .1) cells (s .r + 1) _ _ u in
     let made = s .inv .3 ∙ ap (λ (x : ℕ). length (gather x plan)) so-far in
     let stored = s .inv .4 ∙ ap (λ (x : ℕ). stores (take (a .budget) (gather x plan)) (a .memory .now)) so-far in
-    let r = c .before .before .before .put-group .ensures in
+    let r = c .before .before .before .put-run .ensures in
     let e₂ = rw (c .before .before .before .before .remaining .ensures) at (r .1 .1) in (
       u .high,
       omega (arith, r .1 .0, n, h, u .low, s .inv .1),
-      c .before .before .before .put-group .kept .0 ∙ s .inv .2,
-      block-length plan (64 * s .g) (c .before .before .before .before .before .least .result) (s .bytes) (c .before .before .before .put-group .result) made (r .0) ∙ ap length whole,
-      block-turn plan store (a .budget) (64 * s .g) (c .before .before .before .before .before .least .result) (s .bytes) (a .memory .now) (s .memory) _ made stored e₂ ∙ ap (λ (l : List Store). stores (take (a .budget) l) (a .memory .now)) whole,
+      c .before .before .before .put-run .kept .0 ∙ s .inv .2,
+      block-length plan (8 * s .r) (c .before .before .before .before .before .least .result) (s .bytes) (c .before .before .before .put-run .result) made (r .0) ∙ ap length whole,
+      block-turn plan store (a .budget) (8 * s .r) (c .before .before .before .before .before .least .result) (s .bytes) (a .memory .now) (s .memory) _ made stored e₂ ∙ ap (λ (l : List Store). stores (take (a .budget) l) (a .memory .now)) whole,
     )
 
 same-length : tie.Need-same-length Inv-loop μ-loop
@@ -120,8 +120,8 @@ returns c =
     let s = c .before .loop in
     let plan : ℕ → List Store = backPlan (a .slots) (a .table .now) (a .depth) (a .bodies .now) in
     let q = c .before .before .before .before .cells-of .ensures in
-    let h = c .before .before .before .group-of .ensures in
-    let last : min (c .before .before .before .before .cells-of .result) (64 * s .g) ≡ cellsOf (length (a .memory .now)) = omega (arith, q, h) in (
+    let h = c .before .before .before .run-of .ensures in
+    let last : min (c .before .before .before .before .cells-of .result) (8 * s .r) ≡ cellsOf (length (a .memory .now)) = omega (arith, q, h) in (
       s .inv .3 ∙ ap (λ (n : ℕ). length (gather n plan)) last,
       (omega (arith, s .inv .1, q, c .before .before .before .before .before .before .before .before .before .before .before .pre .0 .3), s .inv .4 ∙ ap (λ (n : ℕ). stores (take (a .budget) (gather n plan)) (a .memory .now)) last),
     )
@@ -133,16 +133,16 @@ put-back-spec =
     Inv-loop
     μ-loop
     cells-of-requires
-    add-group-of
-    sub-group-of
-    group-of-requires
+    add-run-of
+    sub-run-of
+    run-of-requires
     past-unheld-requires
     loop-holds
     mul-from
     sub-least
     least-requires
     remaining-requires
-    put-group-requires
+    put-run-requires
     add-bytes
     add-past-unheld
     past-unheld-requires-2

@@ -1,51 +1,36 @@
+-- `store::ask_many` meets its contract. Assumes nothing.
 use Rattle.table.proofs.Marks.{room-many}
 use borrow.Author.Needs.{needs}
 use Rattle.store.proofs.ask_many.Statement.{statement}
 use Rattle.store.proofs.ask_many.Tie as tie
-use Rattle.store.proofs.ask_many.Reads as reads
-use Rattle.store.proofs.ask_many.Lts as lts
-use Rattle.store.proofs.open_marked.Reads as open-marked-reads
-use Rattle.store.proofs.store_check.Reads as store-check-reads
-use Rattle.table.proofs.cell_marks.many_marks.Reads as many-marks-reads
-use Rattle.table.proofs.no_bodies.Reads as no-bodies-reads
 
--- src/lib.rt:188:20
 many-marks-requires : tie.Need-many-marks-requires
 many-marks-requires c κs = search needs
 
--- src/lib.rt:189:20
 no-bodies-requires : tie.Need-no-bodies-requires
 no-bodies-requires c κs = search needs
 
--- src/lib.rt:191:56
 slice-aggregate-open-marked : tie.Need-slice-aggregate-open-marked
 slice-aggregate-open-marked c = search needs
 
--- src/lib.rt:191:67
 slice-aggregate-open-marked-2 : tie.Need-slice-aggregate-open-marked-2
 slice-aggregate-open-marked-2 c = search needs
 
--- src/lib.rt:191:9
 open-marked-requires : tie.Need-open-marked-requires
 open-marked-requires c κs = rw (c .before .before .before .before .many-marks .ensures, c .before .before .before .no-bodies .ensures) (room-many _ _ _ (c .before .before .before .before .before .before .pre))
 
--- src/lib.rt:191:9
 returns : tie.Need-returns
 returns c = rw (c .before .before .before .before .before .if1 .taken) (c .before .before .open-marked .ensures)
 
--- src/lib.rt:193:45
 slice-aggregate-store-check : tie.Need-slice-aggregate-store-check
 slice-aggregate-store-check c = search needs
 
--- src/lib.rt:193:56
 slice-aggregate-store-check-2 : tie.Need-slice-aggregate-store-check-2
 slice-aggregate-store-check-2 c = search needs
 
--- src/lib.rt:193:5
 store-check-requires : tie.Need-store-check-requires
 store-check-requires c κs = rw (c .before .before .before .before .many-marks .ensures, c .before .before .before .no-bodies .ensures) (room-many _ _ _ (c .before .before .before .before .before .before .pre))
 
--- src/lib.rt:184:1
 returns-2 : tie.Need-returns-2
 returns-2 c = rw (c .before .before .before .before .before .if1 .left) (c .before .before .store-check .ensures .0)
 

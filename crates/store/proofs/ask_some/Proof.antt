@@ -1,51 +1,36 @@
+-- `store::ask_some` meets its contract. Assumes nothing.
 use Rattle.table.proofs.Marks.{room-some}
 use borrow.Author.Needs.{needs}
 use Rattle.store.proofs.ask_some.Statement.{statement}
 use Rattle.store.proofs.ask_some.Tie as tie
-use Rattle.store.proofs.ask_some.Reads as reads
-use Rattle.store.proofs.ask_some.Lts as lts
-use Rattle.store.proofs.open_marked.Reads as open-marked-reads
-use Rattle.store.proofs.store_check.Reads as store-check-reads
-use Rattle.table.proofs.cell_marks.some_marks.Reads as some-marks-reads
-use Rattle.table.proofs.no_bodies.Reads as no-bodies-reads
 
--- src/lib.rt:175:20
 some-marks-requires : tie.Need-some-marks-requires
 some-marks-requires c κs = search needs
 
--- src/lib.rt:176:20
 no-bodies-requires : tie.Need-no-bodies-requires
 no-bodies-requires c κs = search needs
 
--- src/lib.rt:178:56
 slice-aggregate-open-marked : tie.Need-slice-aggregate-open-marked
 slice-aggregate-open-marked c = search needs
 
--- src/lib.rt:178:67
 slice-aggregate-open-marked-2 : tie.Need-slice-aggregate-open-marked-2
 slice-aggregate-open-marked-2 c = search needs
 
--- src/lib.rt:178:9
 open-marked-requires : tie.Need-open-marked-requires
 open-marked-requires c κs = rw (c .before .before .before .before .some-marks .ensures, c .before .before .before .no-bodies .ensures) (room-some _ _ _ (c .before .before .before .before .before .before .pre .1) (c .before .before .before .before .before .before .pre .0))
 
--- src/lib.rt:178:9
 returns : tie.Need-returns
 returns c = rw (c .before .before .before .before .before .if1 .taken) (c .before .before .open-marked .ensures)
 
--- src/lib.rt:180:45
 slice-aggregate-store-check : tie.Need-slice-aggregate-store-check
 slice-aggregate-store-check c = search needs
 
--- src/lib.rt:180:56
 slice-aggregate-store-check-2 : tie.Need-slice-aggregate-store-check-2
 slice-aggregate-store-check-2 c = search needs
 
--- src/lib.rt:180:5
 store-check-requires : tie.Need-store-check-requires
 store-check-requires c κs = rw (c .before .before .before .before .some-marks .ensures, c .before .before .before .no-bodies .ensures) (room-some _ _ _ (c .before .before .before .before .before .before .pre .1) (c .before .before .before .before .before .before .pre .0))
 
--- src/lib.rt:171:1
 returns-2 : tie.Need-returns-2
 returns-2 c = rw (c .before .before .before .before .before .if1 .left) (c .before .before .store-check .ensures .0)
 

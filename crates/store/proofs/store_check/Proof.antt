@@ -1,3 +1,4 @@
+-- `store::store_check` meets its contract. Assumes nothing.
 use mathlib.Core.Path.{sym, _∙_}
 use native.Mathlib.Omega.{arith}
 use Rattle.store.specs.Checks.{tableCheck}
@@ -5,63 +6,44 @@ use Rattle.store.proofs.Checks.{store-parts, idle-facts, shape-facts, a
 use borrow.Author.Needs.{needs}
 use Rattle.store.proofs.store_check.Statement.{statement}
 use Rattle.store.proofs.store_check.Tie as tie
-use Rattle.store.proofs.store_check.Reads as reads
-use Rattle.store.proofs.store_check.Lts as lts
-use Rattle.store.proofs.idle_check.Reads as idle-check-reads
-use Rattle.table.proofs.idle_ok.Reads as idle-ok-reads
-use Rattle.words.proofs.layout.bodies_of.Reads as bodies-of-reads
-use Rattle.words.proofs.layout.cells_of.Reads as cells-of-reads
-use Rattle.words.proofs.layout.slots_of.Reads as slots-of-reads
 
--- src/lib.rt:142:9
 idle-check-requires : tie.Need-idle-check-requires
 idle-check-requires c κs = search needs
 
--- src/lib.rt:144:9
 returns : tie.Need-returns
 returns c = (c .before .idle-check .ensures ∙ sym (orElse-stop _ _ (λ e. c .if1 .taken (c .before .idle-check .ensures ∙ e))) ∙ sym (store-parts _ _ _), (λ r. absurd (c .if1 .taken r)))
 
--- src/lib.rt:146:9
 cells-of-requires : tie.Need-cells-of-requires
 cells-of-requires c κs = search needs
 
--- src/lib.rt:147:9
 slots-of-requires : tie.Need-slots-of-requires
 slots-of-requires c κs = search needs
 
--- src/lib.rt:148:9
 bodies-of-requires : tie.Need-bodies-of-requires
 bodies-of-requires c κs = search needs
 
--- src/lib.rt:149:8
 idle-ok-requires : tie.Need-idle-ok-requires
 idle-ok-requires c κs = let p = c .before .before .before .before .before .before .before .before .before .before .pre in let idle = idle-facts _ _ _ (sym (c .before .before .before .before .before .before .idle-check .ensures) ∙ c .before .before .before .before .before .if1 .left) in let f = shape-facts _ _ _ (idle .0) in
     rw (c .before .before .before .before .cells-of .ensures, c .before .before .before .slots-of .ensures, c .before .before .bodies-of .ensures) ((f .slots-high, f .table-exact, f .bodies-high, p .reached (f .slots-low) (f .slots-high) .0, p .room, omega (arith, f .bodies-high, p .bodies)), (p .no-cells, p .no-bodies, idle .1))
 
--- src/lib.rt:130:1
 same-length : tie.Need-same-length
 same-length c = search needs
 
--- src/lib.rt:130:1
 same-length-2 : tie.Need-same-length-2
 same-length-2 c = search needs
 
--- src/lib.rt:130:1
 returns-2 : tie.Need-returns-2
 unfolding tableCheck
 returns-2 c = let none = sym (c .before .before .before .before .before .before .before .before .before .before .before .before .idle-check .ensures) ∙ c .before .before .before .before .before .before .before .before .before .before .before .if1 .left in
     let ok = sym (rw (c .before .before .before .before .before .before .before .before .before .slots-of .ensures, c .before .before .before .before .before .before .before .before .before .before .cells-of .ensures, c .before .before .before .before .before .before .before .before .bodies-of .ensures) at (c .before .before .before .before .before .idle-ok .ensures .0)) ∙ c .if2 .taken in
     (sym (ask-go _ _ _ ok) ∙ sym (orElse-go _ _ none) ∙ sym (store-parts _ _ _), (λ r. rw (c .before .before .before .before .before .before .before .before .before .slots-of .ensures) at (c .before .before .before .before .before .idle-ok .ensures .1 (c .if2 .taken))))
 
--- src/lib.rt:130:1
 same-length-3 : tie.Need-same-length-3
 same-length-3 c = search needs
 
--- src/lib.rt:130:1
 same-length-4 : tie.Need-same-length-4
 same-length-4 c = search needs
 
--- src/lib.rt:130:1
 returns-3 : tie.Need-returns-3
 unfolding tableCheck
 returns-3 c = let none = sym (c .before .before .before .before .before .before .before .before .before .before .before .before .idle-check .ensures) ∙ c .before .before .before .before .before .before .before .before .before .before .before .if1 .left in

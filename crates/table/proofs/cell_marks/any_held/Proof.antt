@@ -11,10 +11,10 @@ use Rattle.table.proofs.cell_marks.any_held.Statement.{statement}
 use Rattle.table.proofs.cell_marks.any_held.Tie as tie
 
 abbrev Inv-loop : tie.InvT-loop
-Inv-loop marks mask any₀ j₀ any j = (j ≤ 64) × (any ≡ false → (k : ℕ) → k < j → bitAnd (getD marks k 0) mask ≡ 0)
+Inv-loop marks n mask any₀ j₀ any j = (j ≤ n) × (any ≡ false → (k : ℕ) → k < j → bitAnd (getD marks k 0) mask ≡ 0)
 
 abbrev μ-loop : tie.MeasureT-loop
-μ-loop marks mask any₀ j₀ any j = 64 - j
+μ-loop marks n mask any₀ j₀ any j = n - j
 
 loop-holds : tie.Need-loop-holds Inv-loop μ-loop
 loop-holds c = (omega arith, λ _ k l. absurd (omega (arith, l)))

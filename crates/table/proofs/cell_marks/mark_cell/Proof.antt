@@ -1,3 +1,4 @@
+-- `table::cell_marks::mark_cell` meets its contract. Assumes nothing.
 use mathlib.Core.Path.{refl, sym, ap, _∙_}
 use mathlib.Core.Bool.{not}
 use native.Mathlib.Omega.{arith}
@@ -7,67 +8,45 @@ use Rattle.table.proofs.Blocks.{few, cell-fits, cell-read}
 use borrow.Author.Needs.{needs}
 use Rattle.table.proofs.cell_marks.mark_cell.Statement.{statement}
 use Rattle.table.proofs.cell_marks.mark_cell.Tie as tie
-use Rattle.table.proofs.cell_marks.mark_cell.Reads as reads
-use Rattle.table.proofs.cell_marks.mark_cell.Lts as lts
-use Rattle.table.proofs.cell_marks.group_of.Reads as group-of-reads
-use Rattle.table.proofs.cell_marks.has_depth.Reads as has-depth-reads
-use Rattle.table.proofs.cell_marks.place_of.Reads as place-of-reads
-use Rattle.table.proofs.cell_marks.take_block.Reads as take-block-reads
-use Rattle.table.proofs.cell_marks.with_depth.Reads as with-depth-reads
-use Rattle.table.proofs.fields.cell_of.Reads as cell-of-reads
-use Rattle.table.proofs.fields.depth_of.Reads as depth-of-reads
 
--- src/cell_marks.rt:116:9
 depth-of-requires : tie.Need-depth-of-requires
 depth-of-requires c κs = search needs
 
--- src/cell_marks.rt:117:9
 cell-of-requires : tie.Need-cell-of-requires
 cell-of-requires c κs = search needs
 
--- src/cell_marks.rt:118:22
 group-of-requires : tie.Need-group-of-requires
 group-of-requires c κs = search needs
 
--- src/cell_marks.rt:118:5
 take-block-requires : tie.Need-take-block-requires
 take-block-requires c κs = (omega (arith, c .group-of .ensures, c .before .before .cell-of .ensures), omega (arith, c .before .before .before .before .before .pre .1 .room), few (c .before .before .before .before .before .args .seen .now) (c .before .before .before .before .before .pre .1))
 
--- src/cell_marks.rt:119:9
 place-of-requires : tie.Need-place-of-requires
 place-of-requires c κs = (omega (arith, c .before .before .before .before .before .before .cell-of .ensures), omega (arith, c .before .before .before .before .before .before .before .before .before .pre .1 .room, c .before .before .before .take-block .kept .0))
 
--- src/cell_marks.rt:120:16
 slice-read-mark : tie.Need-slice-read-mark
 slice-read-mark c = rw (c .before .place-of .ensures, c .before .before .before .before .before .take-block .ensures, c .before .before .before .before .before .before .group-of .ensures, c .before .before .before .before .before .before .before .before .cell-of .ensures) (cell-fits (c .before .before .before .before .before .before .before .before .before .before .before .args .word) (c .before .before .before .before .before .before .before .before .before .before .before .args .seen .now) (c .before .before .before .before .before .before .before .before .before .before .before .pre .1) (c .before .before .before .before .before .before .before .before .before .before .before .pre .2))
 
--- src/cell_marks.rt:121:8
 has-depth-requires : tie.Need-has-depth-requires
 has-depth-requires c κs = search needs
 
--- src/cell_marks.rt:122:9
 same-length : tie.Need-same-length
 same-length c = search needs
 
--- src/cell_marks.rt:122:9
 returns : tie.Need-returns
 returns c = let w = c .before .before .before .before .before .before .before .before .before .before .before .before .before .args .word in let s = c .before .before .before .before .before .before .before .before .before .before .before .before .before .args .seen .now in
     let taken = rw (c .before .before .before .place-of .ensures, c .before .before .before .before .before .before .before .take-block .ensures, c .before .before .before .before .before .before .before .before .group-of .ensures, c .before .before .before .before .before .before .before .before .before .before .cell-of .ensures, c .before .before .before .before .before .before .before .before .before .before .before .depth-of .ensures, cell-read w s (c .before .before .before .before .before .before .before .before .before .before .before .before .before .pre .1) (c .before .before .before .before .before .before .before .before .before .before .before .before .before .pre .2)) at (sym (c .before .has-depth .ensures) ∙ c .if1 .taken) in
     (ap not (sym taken), (λ r. absurd (true≢ r refl)))
 
--- src/cell_marks.rt:124:16
 with-depth-requires : tie.Need-with-depth-requires
 with-depth-requires c κs = (search needs, sym (c .before .has-depth .ensures) ∙ c .if1 .left)
 
--- src/cell_marks.rt:124:5
 slice-write-seen : tie.Need-slice-write-seen
 slice-write-seen c = rw (c .before .before .before .before .place-of .ensures, c .before .before .before .before .before .before .before .before .take-block .ensures, c .before .before .before .before .before .before .before .before .before .group-of .ensures, c .before .before .before .before .before .before .before .before .before .before .before .cell-of .ensures) (cell-fits (c .before .before .before .before .before .before .before .before .before .before .before .before .before .before .args .word) (c .before .before .before .before .before .before .before .before .before .before .before .before .before .before .args .seen .now) (c .before .before .before .before .before .before .before .before .before .before .before .before .before .before .pre .1) (c .before .before .before .before .before .before .before .before .before .before .before .before .before .before .pre .2))
 
--- src/cell_marks.rt:112:1
 same-length-2 : tie.Need-same-length-2
 same-length-2 c = search needs
 
--- src/cell_marks.rt:112:1
 returns-2 : tie.Need-returns-2
 unfolding markCell
 returns-2 c = let w = c .before .before .before .before .before .before .before .before .before .before .before .before .before .before .args .word in let s = c .before .before .before .before .before .before .before .before .before .before .before .before .before .before .args .seen .now in

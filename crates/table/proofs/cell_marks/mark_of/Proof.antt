@@ -1,3 +1,4 @@
+-- `table::cell_marks::mark_of` meets its contract. Assumes nothing.
 use mathlib.Core.Path.{_≡_, sym, _∙_}
 use native.Mathlib.Omega.{arith}
 use Rattle.table.specs.Blocks.{placeOf}
@@ -5,24 +6,17 @@ use Rattle.table.proofs.Blocks.{cells-facts, mark-at, past}
 use borrow.Author.Needs.{needs}
 use Rattle.table.proofs.cell_marks.mark_of.Statement.{statement}
 use Rattle.table.proofs.cell_marks.mark_of.Tie as tie
-use Rattle.table.proofs.cell_marks.mark_of.Reads as reads
-use Rattle.table.proofs.cell_marks.mark_of.Lts as lts
-use Rattle.table.proofs.cell_marks.place_of.Reads as place-of-reads
 
--- src/cell_marks.rt:88:9
 place-of-requires : tie.Need-place-of-requires
 place-of-requires c κs = let f = cells-facts (c .before .args .seen .now) (c .before .args .cell) (c .before .pre) in (f .0, f .1)
 
--- src/cell_marks.rt:90:9
 returns : tie.Need-returns
 returns c = let s = c .before .before .before .args .seen .now in let f = cells-facts s (c .before .before .before .args .cell) (c .before .before .before .pre) in
     sym (mark-at s (c .before .before .before .args .cell) (f .0) ∙ past s (placeOf s (c .before .before .before .args .cell)) (omega (arith, c .before .place-of .ensures, c .if1 .taken)))
 
--- src/cell_marks.rt:92:5
 shared-slice-read-result : tie.Need-shared-slice-read-result
 shared-slice-read-result c = search needs
 
--- src/cell_marks.rt:84:1
 returns-2 : tie.Need-returns-2
 returns-2 c = let s = c .before .before .before .before .args .seen .now in let f = cells-facts s (c .before .before .before .before .args .cell) (c .before .before .before .before .pre) in
     rw (c .before .before .place-of .ensures) (sym (mark-at s (c .before .before .before .before .args .cell) (f .0)))

@@ -1,3 +1,4 @@
+-- `table::cell_marks::past_blank` meets its contract. The loop's invariant: the groups passed have no block. Assumes nothing.
 use borrow.Author.Needs.{needs}
 use Prim.Native.Nat.{ℕ, _+_, _-_, _*_, _≤_, _<_}
 use mathlib.Core.Path.{_≡_, refl}
@@ -6,9 +7,6 @@ use Rattle.table.specs.Blocks.{blockOf}
 use Rattle.table.proofs.Blocks.{blank-more}
 use Rattle.table.proofs.cell_marks.past_blank.Statement.{statement}
 use Rattle.table.proofs.cell_marks.past_blank.Tie as tie
-use Rattle.table.proofs.cell_marks.past_blank.Reads as reads
-use Rattle.table.proofs.cell_marks.past_blank.Lts as lts
-use Rattle.table.proofs.cell_marks.any_byte.Reads as any-byte-reads
 
 abbrev Inv-loop : tie.InvT-loop
 Inv-loop seen from end g₀ g = (from ≤ g) × (g ≤ end) × ((k : ℕ) → from ≤ k → k < g → blockOf seen k ≡ 0)
@@ -16,60 +14,46 @@ Inv-loop seen from end g₀ g = (from ≤ g) × (g ≤ end) × ((k : ℕ) → fr
 abbrev μ-loop : tie.MeasureT-loop
 μ-loop seen from end g₀ g = end - g
 
--- src/cell_marks.rt:161:5
 loop-holds : tie.Need-loop-holds Inv-loop μ-loop
 loop-holds c = (search needs, search needs, λ k low high. absurd (omega (arith, low, high)))
 
--- src/cell_marks.rt:161:11
 add-loop : tie.Need-add-loop Inv-loop μ-loop
 add-loop c = search needs
 
--- src/cell_marks.rt:162:22
 mul-at : tie.Need-mul-at Inv-loop μ-loop
 mul-at c = search needs
 
--- src/cell_marks.rt:162:18
 add-at : tie.Need-add-at Inv-loop μ-loop
 add-at c = search needs
 
--- src/cell_marks.rt:163:31
 add-any-byte : tie.Need-add-any-byte Inv-loop μ-loop
 add-any-byte c = search needs
 
--- src/cell_marks.rt:163:21
 sub-any-byte : tie.Need-sub-any-byte Inv-loop μ-loop
 sub-any-byte c = search needs
 
--- src/cell_marks.rt:163:21
 part-any-byte-start : tie.Need-part-any-byte-start Inv-loop μ-loop
 part-any-byte-start c = search needs
 
--- src/cell_marks.rt:163:21
 part-any-byte-end : tie.Need-part-any-byte-end Inv-loop μ-loop
 part-any-byte-end c = search needs
 
--- src/cell_marks.rt:163:12
 any-byte-requires : tie.Need-any-byte-requires Inv-loop μ-loop
 any-byte-requires c κs = search needs
 
--- src/cell_marks.rt:164:13
 returns : tie.Need-returns Inv-loop μ-loop
 returns c = let s = c .before .before .before .before .loop in (s .inv .0, s .inv .1, s .inv .2)
 
--- src/cell_marks.rt:166:9
 add-g : tie.Need-add-g Inv-loop μ-loop
 add-g c = search needs
 
--- src/cell_marks.rt:161:5
 loop-less : tie.Need-loop-less Inv-loop μ-loop
 loop-less c = search needs
 
--- src/cell_marks.rt:161:5
 loop-again : tie.Need-loop-again Inv-loop μ-loop
 loop-again c = let s = c .before .before .before .before .loop in let a = c .before .before .before .before .before .before .args in
     (omega (arith, s .inv .0), omega arith, blank-more (a .seen .now) (2 + 2 * s .g) (2 + 2 * s .g + 16 - (2 + 2 * s .g)) (s .g) (a .from) refl (omega arith) (c .before .any-byte .ensures (c .if1 .left)) (s .inv .2))
 
--- src/cell_marks.rt:156:1
 returns-2 : tie.Need-returns-2 Inv-loop μ-loop
 returns-2 c = let s = c .before .loop in (s .inv .0, s .inv .1, s .inv .2)
 

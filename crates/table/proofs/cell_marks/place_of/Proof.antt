@@ -1,34 +1,25 @@
+-- `table::cell_marks::place_of` meets its contract. Assumes nothing.
 use native.Mathlib.Omega.{arith}
 use Rattle.table.specs.Blocks.{placeOf}
 use borrow.Author.Needs.{needs}
 use Rattle.table.proofs.cell_marks.place_of.Statement.{statement}
 use Rattle.table.proofs.cell_marks.place_of.Tie as tie
-use Rattle.table.proofs.cell_marks.place_of.Reads as reads
-use Rattle.table.proofs.cell_marks.place_of.Lts as lts
-use Rattle.table.proofs.cell_marks.block_of.Reads as block-of-reads
-use Rattle.table.proofs.cell_marks.group_of.Reads as group-of-reads
 
--- src/cell_marks.rt:80:49
 group-of-requires : tie.Need-group-of-requires
 group-of-requires c κs = search needs
 
--- src/cell_marks.rt:80:34
 block-of-requires : tie.Need-block-of-requires
 block-of-requires c κs = search needs
 
--- src/cell_marks.rt:80:21
 mul-result : tie.Need-mul-result
 mul-result c = search needs
 
--- src/cell_marks.rt:80:5
 add-result : tie.Need-add-result
 add-result c = search needs
 
--- src/cell_marks.rt:80:5
 add-result-2 : tie.Need-add-result-2
 add-result-2 c = search needs
 
--- src/cell_marks.rt:76:1
 returns : tie.Need-returns
 unfolding placeOf
 returns c = omega (arith, c .block-of .ensures .0, rw (c .before .group-of .ensures) at (c .block-of .ensures .0))

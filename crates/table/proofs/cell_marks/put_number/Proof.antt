@@ -1,44 +1,34 @@
+-- `table::cell_marks::put_number` meets its contract. Assumes nothing.
 use mathlib.Core.Path.{refl}
 use Rattle.table.specs.Blocks.{putNumber}
 use borrow.Author.Needs.{needs}
 use Rattle.table.proofs.cell_marks.put_number.Statement.{statement}
 use Rattle.table.proofs.cell_marks.put_number.Tie as tie
-use Rattle.table.proofs.cell_marks.put_number.Reads as reads
-use Rattle.table.proofs.cell_marks.put_number.Lts as lts
 
--- src/cell_marks.rt:42:19
 cast-seen : tie.Need-cast-seen
 cast-seen c = search needs
 
--- src/cell_marks.rt:42:10
 mul-seen : tie.Need-mul-seen
 mul-seen c = search needs
 
--- src/cell_marks.rt:42:5
 slice-write-seen : tie.Need-slice-write-seen
 slice-write-seen c = search needs
 
--- src/cell_marks.rt:43:23
 cast-seen-2 : tie.Need-cast-seen-2
 cast-seen-2 c = search needs
 
--- src/cell_marks.rt:43:10
 mul-seen-2 : tie.Need-mul-seen-2
 mul-seen-2 c = search needs
 
--- src/cell_marks.rt:43:10
 add-seen : tie.Need-add-seen
 add-seen c = search needs
 
--- src/cell_marks.rt:43:5
 slice-write-seen-2 : tie.Need-slice-write-seen-2
 slice-write-seen-2 c = search needs
 
--- src/cell_marks.rt:38:1
 same-length : tie.Need-same-length
 same-length c = search needs
 
--- src/cell_marks.rt:38:1
 returns : tie.Need-returns
 unfolding putNumber
 returns c = refl

@@ -1,4 +1,4 @@
--- `put_group` meets its contract. The loop's invariant: memory is what the bytes of the group's cells passed leave, cut at the budget, and
+-- `put_run` meets its contract. The loop's invariant: memory is what the bytes of the group's cells passed leave, cut at the budget, and
 -- `bytes` is their number. Assumes nothing.
 use Prim.Native.Nat.{ℕ, _+_, _-_, _*_, _≤_}
 use mathlib.Core.Bool.{true}
@@ -15,8 +15,8 @@ use Rattle.words.proofs.Plans.{stores-none}
 use Rattle.table.specs.Rule.{ruleOk}
 use Rattle.restore.specs.Marks.{Holders}
 use Rattle.restore.specs.Parts.{backPlan, groupPlan}
-use Rattle.restore.proofs.put_group.Statement.{statement}
-use Rattle.restore.proofs.put_group.Tie as tie
+use Rattle.restore.proofs.put_run.Statement.{statement}
+use Rattle.restore.proofs.put_run.Tie as tie
 
 abbrev Inv-loop : tie.InvT-loop
 Inv-loop memory₀ bodies table slots depth seen mask from n last before budget bytes₀ j₀ memory bytes j = (j ≤ n) × (bytes ≤ 64 * j) × (length memory ≡ length memory₀) × (bytes ≡ length (groupPlan slots table depth bodies from j)) × (memory ≡ stores (take budget (groupPlan slots table depth bodies from j)) memory₀)
@@ -82,8 +82,8 @@ returns c =
       (omega arith, s .inv .4 ∙ ap (λ (n : ℕ). stores (take (a .budget) (plan n)) (a .memory .now)) last),
     )
 
-pub put-group-spec : {M : Type 1} → statement M
-put-group-spec =
+pub put-run-spec : {M : Type 1} → statement M
+put-run-spec =
     tie.close
     (tie.spec
     Inv-loop
