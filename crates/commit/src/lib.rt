@@ -3,7 +3,7 @@
 //
 // The questions leave a mark for each cell, the set of the depths that hold it. One pass over the entries has the marks tell of the innermost
 // depth which cells it holds read-write, and another stages each entry's change by them, so that no entry is compared with another. Both end
-// behind the last entry in use. What is staged is then written.
+// with the group of the last entry in use, or before. What is staged is then written.
 use changes::Head;
 use changes::few_bits;
 use changes::few_words;

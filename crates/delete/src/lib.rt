@@ -1,7 +1,7 @@
 // Delete: frees the named cells of the named domain.
 //
 // The questions come first, in one function that only reads. Then one pass over the entries stages those that are freed, and what is staged
-// is written. No body is stored: a free body means nothing. Each pass ends behind the last entry in use, which is looked for once.
+// is written. No body is stored: a free body means nothing. Each pass ends with the group of the last entry in use, or before.
 use changes::few_bits;
 use changes::few_words;
 use changes::many_bits;

@@ -358,7 +358,7 @@ module _ (w : ℕ) (s : List ℕ) (ok : Kept s) (spare : Spare s (groupOf (cellO
   group-small : g < maxGroups
   group-small = omega arith
 
-  pub long : directoryEnd ≤ length s
+  long : directoryEnd ≤ length s
   long = omega (arith, ok .room)
 
   got-kept : Kept got
@@ -389,10 +389,6 @@ module _ (w : ℕ) (s : List ℕ) (ok : Kept s) (spare : Spare s (groupOf (cellO
   pub cell-blocks : taken (markCell w s) ≤ taken s + 1
   unfolding markCell
   cell-blocks = omega (arith, store-taken got got-kept (cellOf w) cell-small own-block v, with-taken s g group-small long ok spare)
-
-  pub cell-length : length (markCell w s) ≡ length s
-  unfolding markCell
-  cell-length = length-set got (placeOf got (cellOf w)) v ∙ with-length s g group-small long
 
   pub cell-outside : (m : ℕ) → g < groupsFor m → Outside m s → Outside m (markCell w s)
   unfolding markCell

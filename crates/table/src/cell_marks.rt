@@ -128,7 +128,7 @@ pub fn mark_cell(seen: &mut [u8], word: u32) -> bool
     true
 }
 
-// Gives a cell that has a mark another.
+// Gives a cell another mark. Its group must have a block, which the caller sees to: block 0 stays blank.
 pub fn change_mark(seen: &mut [u8], cell: usize, mark: u8)
     requires { ⌜ (cell < maxCells) × Kept (now seen) ⌝ }
     ensures { λ _. ⌜ now (seen .exit) ≡ set (now (seen .entry)) (placeOf (now (seen .entry)) cell) mark ⌝ }
