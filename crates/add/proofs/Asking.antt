@@ -13,9 +13,9 @@ use Rattle.words.specs.Scan.{all, count}
 use Rattle.words.specs.Cells.{cellBytes, sameCell}
 use Rattle.words.proofs.Scan.{by-bool, by-le, and-split, true≢, all-at, all-ext, count-ext, count-le, count-more}
 use Rattle.table.specs.Entry.{live, parent, findIn, holdsIn, parentHas}
-use Rattle.table.specs.Blocks.{cellsIn, directoryEnd}
+use Rattle.marks.specs.Blocks.{cellsIn, directoryEnd}
 use Rattle.table.specs.Marks.{markOf, has, Marked, AllMarked, EndsAt, Reached}
-use Rattle.table.proofs.Digits.{has-zero}
+use Rattle.marks.proofs.Digits.{has-zero}
 use Rattle.table.proofs.Marks.{marked-holds}
 use Rattle.table.proofs.Entry.{holds-found}
 use Rattle.search.specs.Search.{sourceIn, valueIn}

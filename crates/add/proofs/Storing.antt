@@ -17,7 +17,7 @@ use Rattle.words.proofs.Nth.{nth-below, nth-rank, nth-ext}
 use Rattle.words.proofs.Gather.{gather-ext}
 use Rattle.table.specs.Entry.{live, word1}
 use Rattle.table.specs.Changes.{entryStores}
-use Rattle.table.specs.Blocks.{cellsIn}
+use Rattle.marks.specs.Blocks.{cellsIn}
 use Rattle.table.specs.Marks.{AllMarked, EndsAt}
 use Rattle.search.specs.Free.{slotFree, bodyFree, lowestFree, unmarked}
 use Rattle.search.proofs.Free.{unmarked-free}

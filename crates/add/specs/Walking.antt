@@ -12,7 +12,7 @@ use Rattle.words.specs.Scan.{all, count, nth}
 use Rattle.words.specs.Cells.{cellBytes, sameCell, cellPlan}
 use Rattle.words.specs.Stores.{Store, gather}
 use Rattle.table.specs.Entry.{live, word1, word2, entryWord, innermost, parent, parentHas}
-use Rattle.table.specs.Blocks.{cellsIn}
+use Rattle.marks.specs.Blocks.{cellsIn}
 use Rattle.table.specs.Marks.{markOf, has, Marked, CellsOnce, EndsAt}
 use Rattle.table.specs.Changes.{Change, keep, put, entryChanges}
 use Rattle.search.specs.Search.{sourceIn, valueIn}

@@ -15,10 +15,10 @@ use Rattle.words.specs.Scan.{count}
 use Rattle.words.proofs.Scan.{by-bool, by-le, and-split, is-true, true≢}
 use Rattle.words.proofs.Plans.{length-tab, getD-tab}
 use Rattle.table.specs.Entry.{word1, depthOf, writableOf, cellOf}
-use Rattle.table.specs.Blocks.{blockOf, blockAt, maxGroups, markOf, Kept}
+use Rattle.marks.specs.Blocks.{blockOf, blockAt, maxGroups, markOf, Kept}
 use Rattle.table.specs.Marks.{Blank, Marked, cellIn, has}
-use Rattle.table.proofs.Blocks.{marked-own}
-use Rattle.table.proofs.Digits.{has-none}
+use Rattle.marks.proofs.Blocks.{marked-own}
+use Rattle.marks.proofs.Digits.{has-none}
 use Rattle.table.proofs.Marks.{split}
 use Rattle.changes.specs.Staged.{withBit, isSet}
 use Rattle.changes.proofs.Bits.{bit-kept}

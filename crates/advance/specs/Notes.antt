@@ -10,7 +10,7 @@ use Rattle.words.specs.Layout.{cellsOf, bodiesOf, slotsOf, pairsAt, groupAt, gr
 use Rattle.words.specs.Scan.{all, count}
 use Rattle.words.specs.Stores.{tab}
 use Rattle.table.specs.Entry.{live, word1, word2, cellOf, innermost, parent, isOutermost, holdsIn}
-use Rattle.table.specs.Blocks.{blockOf, blockAt, maxGroups, Kept}
+use Rattle.marks.specs.Blocks.{blockOf, blockAt, maxGroups, Kept}
 use Rattle.table.specs.Marks.{Marks, IsCopy, EndsAt, cellIn}
 use Rattle.table.specs.Changes.{Change, keep}
 use Rattle.search.specs.Free.{copies, lowestFree, unmarked}

@@ -13,7 +13,7 @@ use lib.ListN.{length, getD, set}
 use lib.Pow.{shr-le, shl-shr, shl-exact}
 use lib.Seq.{getD-set-same, getD-set-other}
 use Rattle.words.proofs.Scan.{by-bool}
-use Rattle.table.proofs.Digits.{halved}
+use Rattle.marks.proofs.Digits.{halved}
 use Rattle.changes.specs.Staged.{bitAt, Lowest, Without, withBit, isSet}
 
 -- ---- one word, digit by digit

@@ -18,7 +18,7 @@ use Rattle.words.proofs.Plans.{tab-last, tab-below}
 use Rattle.words.proofs.Gather.{gather-ext}
 use Rattle.table.specs.Marks.{zeros}
 use Rattle.table.specs.Changes.{Change, keep, put, isChanged, entryStores, entryChanges}
-use Rattle.table.proofs.Marks.{zeros-clear}
+use Rattle.marks.proofs.Blocks.{zeros-clear}
 use Rattle.changes.specs.declared.Head.{Head}
 use Rattle.changes.specs.Staged.{withBit, isSet, Inside, withWords, Turned, entryOf, staged, but, Restaged, below, Stages, Gathers, headRoom, HeadOk, headStores}
 use Rattle.changes.proofs.Bits.{bit-none, bit-kept, word-own, word-other, more-here, more-other}

@@ -16,9 +16,9 @@ use Rattle.words.proofs.Scan.{count-le}
 use Rattle.words.proofs.Names.{name-live, name-from}
 use Rattle.table.specs.Entry.{live}
 use Rattle.table.specs.Changes.{isChanged, entryChanges}
-use Rattle.table.specs.Blocks.{cellsIn, Kept}
+use Rattle.marks.specs.Blocks.{cellsIn, Kept}
 use Rattle.table.specs.Marks.{CellsOnce, EndsAt, Reached}
-use Rattle.table.proofs.Blocks.{kept-cells, cells-same}
+use Rattle.marks.proofs.Blocks.{kept-cells, cells-same}
 use Rattle.table.proofs.Rule.{Rule}
 use Rattle.table.proofs.Entries.{changes-count, changes-names}
 use Rattle.search.specs.Domain.{depthNamed}

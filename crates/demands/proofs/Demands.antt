@@ -1,8 +1,8 @@
 -- The three demands: one term of each, and the proved contract of each call and of each function of C by its name. Assumes nothing.
-use Rattle.store.proofs.make.Met as make-proof
-use Rattle.store.proofs.open.Met as open-proof
-use Rattle.store.proofs.create.Met as create-proof
-use Rattle.store.proofs.list.Met as list-proof
+use Rattle.begin.proofs.make.Met as make-proof
+use Rattle.begin.proofs.open.Met as open-proof
+use Rattle.begin.proofs.create.Met as create-proof
+use Rattle.begin.proofs.list.Met as list-proof
 use Rattle.add.proofs.add.Met as add-proof
 use Rattle.delete.proofs.delete.Met as delete-proof
 use Rattle.commit.proofs.commit.Met as commit-proof

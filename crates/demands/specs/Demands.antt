@@ -31,10 +31,10 @@ use Rattle.add.specs.Choice as adding
 use Rattle.advance.specs.Advance.{advanceCall, bodyFor, advanceMeans}
 use Rattle.advance.specs.Choice as advancing
 use Rattle.look.specs.Look.{lookPlace, placeByState, placeWithin, shownAt, lookMeans}
-use Rattle.store.proofs.make.Statement as make-contract
-use Rattle.store.proofs.open.Statement as open-contract
-use Rattle.store.proofs.create.Statement as create-contract
-use Rattle.store.proofs.list.Statement as list-contract
+use Rattle.begin.proofs.make.Statement as make-contract
+use Rattle.begin.proofs.open.Statement as open-contract
+use Rattle.begin.proofs.create.Statement as create-contract
+use Rattle.begin.proofs.list.Statement as list-contract
 use Rattle.add.proofs.add.Statement as add-contract
 use Rattle.delete.proofs.delete.Statement as delete-contract
 use Rattle.commit.proofs.commit.Statement as commit-contract

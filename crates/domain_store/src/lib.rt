@@ -77,7 +77,7 @@ pub extern "C" fn ds_make(
     ensures { λ r. ⌜ Returns makeCall budget (buffers (now (memory .entry)) (now (bodies .entry)) (now (table .entry)))
         r (now (steps .exit)) (buffers (now (memory .entry)) (now (bodies .entry)) (now (table .exit))) ⌝ }
 {
-    let answer = store::make(memory, bodies, table, budget as usize);
+    let answer = begin::make(memory, bodies, table, budget as usize);
     tell(answer, steps)
 }
 
@@ -93,7 +93,7 @@ pub extern "C" fn ds_open(
     ensures { λ r. ⌜ Returns openCall budget (buffers (now (memory .entry)) (now (bodies .entry)) (now (table .entry)))
         r (now (steps .exit)) (buffers (now (memory .entry)) (now (bodies .entry)) (now (table .exit))) ⌝ }
 {
-    let answer = store::open(memory, bodies, table, budget as usize);
+    let answer = begin::open(memory, bodies, table, budget as usize);
     tell(answer, steps)
 }
 
@@ -113,7 +113,7 @@ pub extern "C" fn ds_create(
         ≡ outcome (createCall (buffers (now (memory .entry)) (now (bodies .entry)) (now (table .entry)))) budget
         (buffers (now (memory .entry)) (now (bodies .entry)) (now (table .entry))) .report .handle ⌝ }
 {
-    let answer = store::create(memory, bodies, table, budget as usize);
+    let answer = begin::create(memory, bodies, table, budget as usize);
     *handle = handle_of(answer);
     tell(answer, steps)
 }
@@ -233,7 +233,7 @@ pub extern "C" fn ds_list(
     ensures handles { λ _. ⌜ (length (now (handles .entry)) ≡ 8 → eight (now (handles .exit))
         ≡ eight (listMeans (buffers (now (memory .entry)) (now (bodies .entry)) (now (table .entry))) .handles)) ⌝ }
 {
-    let listing = store::list(memory, bodies, table);
+    let listing = begin::list(memory, bodies, table);
     let mut k = 0;
     while k < 8 {
         handles[k] = listing.handles[k];

@@ -73,7 +73,7 @@ fn say_entries(p: Play, bodies: &[u8], table: &[u32]) -> Play {
 
 pub fn say_state(p: Play, memory: &[u8], bodies: &[u8], table: &[u32]) -> Play {
     let said = say(say_memory(say(p, b"memory"), memory), b"; ");
-    let listed = say_listing(said, store::list(memory, bodies, table));
+    let listed = say_listing(said, begin::list(memory, bodies, table));
     say_entries(listed, bodies, table)
 }
 

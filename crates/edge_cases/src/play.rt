@@ -66,9 +66,9 @@ fn words_of(fresh: u64) -> usize {
 fn call_plain(m: &[u8], b: &[u8], t: &mut [u32], row: u64, budget: usize) -> Answer {
     let op = row % 0x100;
     match op {
-        MAKE => store::make(m, b, t, budget),
-        OPEN => store::open(m, b, t, budget),
-        CREATE => store::create(m, b, t, budget),
+        MAKE => begin::make(m, b, t, budget),
+        OPEN => begin::open(m, b, t, budget),
+        CREATE => begin::create(m, b, t, budget),
         LIST => listed(m, b, t),
         _ => look::look_answer(m, b, t, field(row, H), field(row, C)),
     }
@@ -76,7 +76,7 @@ fn call_plain(m: &[u8], b: &[u8], t: &mut [u32], row: u64, budget: usize) -> Ans
 
 // Of a reading, only the answer is told.
 fn listed(m: &[u8], b: &[u8], t: &[u32]) -> Answer {
-    let listing = store::list(m, b, t);
+    let listing = begin::list(m, b, t);
     listing.answer
 }
 
@@ -170,7 +170,7 @@ fn say_look<'a>(p: Play, m: &'a [u8], b: &'a [u8], t: &[u32], h: u32, cell: u32)
 fn read<'a>(m: &'a [u8], b: &'a [u8], t: &[u32], p: Play, row: u64) -> Play {
     let op = row % 0x100;
     match op {
-        LIST => say_listing(p, store::list(m, b, t)),
+        LIST => say_listing(p, begin::list(m, b, t)),
         LOOK => say_look(say_call(p, row), m, b, t, field(row, H), field(row, C)),
         _ => say_state(p, m, b, t),
     }

@@ -15,10 +15,10 @@ use Rattle.words.specs.Layout.{maxLive}
 use Rattle.words.specs.Scan.{first, all}
 use Rattle.words.proofs.Scan.{by-bool, by-le, true≢, is-false, first-at, all-at, and-split, and-join}
 use Rattle.table.specs.Entry.{live, word2, findIn, holdsIn}
-use Rattle.table.specs.Blocks.{blockOf, markOf, Kept}
+use Rattle.marks.specs.Blocks.{blockOf, markOf, Kept}
 use Rattle.table.specs.Marks.{has, Marked}
-use Rattle.table.proofs.Blocks.{none-held}
-use Rattle.table.proofs.Digits.{halved, has-none}
+use Rattle.marks.proofs.Blocks.{none-held}
+use Rattle.marks.proofs.Digits.{halved, has-none}
 use Rattle.table.proofs.Entry.{find-hit, holds-found}
 use Rattle.table.proofs.Marks.{marked-holds}
 use Rattle.table.proofs.Rule.{Rule}

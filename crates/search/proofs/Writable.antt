@@ -12,10 +12,10 @@ use lib.Pow.{pow-pos}
 use Rattle.words.specs.Layout.{maxLive, maxCells}
 use Rattle.words.proofs.Scan.{by-bool, by-le, and-split, and-join, is-false, is-true, true≢}
 use Rattle.table.specs.Entry.{word1, depthOf, cellOf, writableOf, findIn, holdsIn, writesIn}
-use Rattle.table.specs.Blocks.{placeOf, markOf, Kept}
-use Rattle.table.specs.Marks.{has, withDepth, cellIn, markAt, Marked, CellsOnce, FreeRun}
-use Rattle.table.proofs.Digits.{has-zero, has-none, has-other, bit-small}
-use Rattle.table.proofs.Blocks.{marked-own, store-mark, store-kept}
+use Rattle.marks.specs.Blocks.{withDepth, placeOf, markOf, Kept}
+use Rattle.table.specs.Marks.{has, cellIn, markAt, Marked, CellsOnce, FreeRun}
+use Rattle.marks.proofs.Digits.{has-zero, has-none, has-other, bit-small}
+use Rattle.marks.proofs.Blocks.{marked-own, store-mark, store-kept}
 use Rattle.table.proofs.Marks.{split}
 use Rattle.table.proofs.Entry.{find-some, find-hit, holds-true, holds-found}
 use Rattle.search.specs.Writable.{withoutDepth, takenBy, KeepsCell, TellWritable}

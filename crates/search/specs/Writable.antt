@@ -5,7 +5,7 @@ use mathlib.Core.List.{List}
 use mathlib.Core.Path.{_≡_}
 use lib.Dec.{eqb}
 use Rattle.table.specs.Entry.{depthOf, cellOf, writableOf, writesIn}
-use Rattle.table.specs.Blocks.{markOf, OneMark}
+use Rattle.marks.specs.Blocks.{markOf, OneMark}
 use Rattle.table.specs.Marks.{has, markAt}
 
 -- a mark with one depth less

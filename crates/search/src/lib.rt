@@ -2,9 +2,9 @@
 // chain; and which entry slots and bodies are free.
 pub mod notes;
 
+use marks::change_mark;
+use marks::mark_of;
 use notes::noted;
-use table::cell_marks::change_mark;
-use table::cell_marks::mark_of;
 use table::domains::parent_of;
 use table::fields::cell_of;
 use table::fields::depth_of;
@@ -23,7 +23,7 @@ ghost use Prim.Native.Nat.{ℕ, _+_, _/_, _^_, _<_, _≤_};
 ghost use lib.ListN.{length};
 ghost use Rattle.words.specs.Layout.{pairsAt, handleAt, maxSlots, maxLive, maxCells};
 ghost use Rattle.table.specs.Entry.{live, depthOf, findIn};
-ghost use Rattle.table.specs.Blocks.{Kept};
+ghost use Rattle.marks.specs.Blocks.{Kept};
 ghost use Rattle.table.specs.Marks.{markAt, Marked, CellsOnce, FreeRun, EndsAt};
 ghost use Rattle.search.specs.Search.{Bare, IsKey, namedBy, Unnamed, HasSource, holderIn, sourceIn, valueFrom};
 ghost use Rattle.search.specs.Free.{usedSlots, copies, unmarkedFrom};

@@ -3,57 +3,36 @@
 // Every call may be given any buffers and any numbers. It puts document 01's questions first, in one function that only reads, and
 // refuses with the number of the first no. A changing call takes a budget of steps; it makes as many of its stores as the budget
 // allows, and whether it was done or stopped is decided once, at the end.
-use changes::Head;
-use changes::no_head;
-use changes::with_word;
-use changes::write_head_words;
+use marks::FEW_BLOCKS;
+use marks::SOME_BLOCKS;
+use marks::blocks_wanted;
+use marks::few_marks;
+use marks::many_marks;
+use marks::some_marks;
 use search::find_domain;
-use table::cell_marks::FEW_BLOCKS;
-use table::cell_marks::SOME_BLOCKS;
-use table::cell_marks::blocks_wanted;
-use table::cell_marks::few_marks;
-use table::cell_marks::many_marks;
-use table::cell_marks::some_marks;
 use table::header_ok;
 use table::idle_ok;
 use table::lengths_ok;
 use table::no_bodies;
 use table::reach_of;
 use table::table_ok;
-use words::apply_pending;
-use words::layout::BODIES_AT;
-use words::layout::CELLS_AT;
 use words::layout::LIVE_AT;
-use words::layout::MAGIC;
-use words::layout::MAGIC_AT;
-use words::layout::MAX_LIVE;
-use words::layout::NEXT_AT;
 use words::layout::PENDING_AT;
-use words::layout::SLOTS_AT;
 use words::layout::bodies_of;
 use words::layout::cells_of;
-use words::layout::handle_at;
-use words::layout::pairs_at;
 use words::layout::slots_of;
-use words::least;
-use words::wide;
 ghost use mathlib.Core.Path.{_≡_};
 ghost use mathlib.Core.Bool.{cond};
-ghost use Prim.Native.Nat.{_≤_, _<_, min};
-ghost use lib.ListN.{length, take, getD};
-ghost use Rattle.words.specs.Layout.{cellsOf, slotsOf, tableWords, maxSlots, maxLive, maxCells, maxBodies, handleAt};
-ghost use Rattle.words.specs.Stores.{stores, tab};
-ghost use Rattle.table.specs.Entry.{live, handle};
-ghost use Rattle.table.specs.Blocks.{Enough};
+ghost use Prim.Native.Nat.{_≤_, _<_};
+ghost use lib.ListN.{length};
+ghost use Rattle.words.specs.Layout.{cellsOf, slotsOf, maxLive, handleAt};
+ghost use Rattle.table.specs.Entry.{live};
+ghost use Rattle.marks.specs.Blocks.{Enough};
 ghost use Rattle.table.specs.Marks.{Reached, RoomForMarks, AllMarked};
-ghost use Rattle.words.specs.Journal.{pending};
-ghost use Rattle.changes.specs.Staged.{HeadOk, headStores, Journaled};
 ghost use Rattle.model.specs.Answer.{ended};
 ghost use Rattle.model.specs.Holdings.{rangeOk};
-ghost use Rattle.store.specs.Outcome.{buffers, report, Makes};
-ghost use Rattle.store.specs.Checks.{shapeCheck, tableCheck, openCheck, idleCheck, storeCheck, askInnermostIn, createCheck, lent};
-ghost use Rattle.store.specs.Calls.{freshWord, makePlan, makeCall, openCall, domainWords, createWords, createCall};
-ghost use Rattle.store.specs.Means.{makeMeans, openMeans, createMeans, listing, listMeans, Shows};
+ghost use Rattle.store.specs.Outcome.{buffers, report};
+ghost use Rattle.store.specs.Checks.{shapeCheck, openCheck, idleCheck, storeCheck, askInnermostIn, lent};
 
 // What a call answers: the number of the question that refused it; or done, with its steps and, from create, the new handle; or stopped
 // by its budget, with that many steps made.
@@ -208,7 +187,7 @@ fn ask_plain(memory: usize, bodies: usize, table: &[u32], opening: bool) -> u32
 }
 
 // The questions put to open.
-fn open_check(memory: usize, bodies: usize, table: &[u32]) -> u32
+pub fn open_check(memory: usize, bodies: usize, table: &[u32]) -> u32
     ensures { λ r. ⌜ r ≡ openCheck (lent memory bodies (now (table .entry))) ⌝ }
 {
     ask_plain(memory, bodies, table, true)
@@ -246,23 +225,6 @@ pub fn range_ok(cells: usize, first: usize, count: usize) -> bool
     (1 <= count) & (first <= cells - count)
 }
 
-// The questions put to create.
-fn create_check(memory: usize, bodies: usize, table: &[u32]) -> u32
-    ensures { λ r. ⌜ r ≡ createCheck (lent memory bodies (now (table .entry))) ⌝ }
-{
-    let no = plain_check(memory, bodies, table);
-    if no != 0 {
-        return no;
-    }
-    if table[LIVE_AT] >= MAX_LIVE {
-        return 9;
-    }
-    if table[NEXT_AT] >= 4294967295 {
-        return 10;
-    }
-    0
-}
-
 // The answer of a call that needs so many steps.
 pub fn answer_of(need: usize, handle: u32, budget: usize) -> Answer
     ensures { λ r. ⌜ report r ≡ ended need handle budget ⌝ }
@@ -274,168 +236,5 @@ pub fn answer_of(need: usize, handle: u32, budget: usize) -> Answer
         }
     } else {
         Answer::Stopped(budget)
-    }
-}
-
-// ---- make
-
-// Word i of a fresh table.
-fn fresh_word(cells: u32, slots: u32, bodies: u32, i: usize) -> u32
-    ensures { λ r. ⌜ r ≡ freshWord cells slots bodies i ⌝ }
-{
-    if i == CELLS_AT {
-        return cells;
-    }
-    if i == SLOTS_AT {
-        return slots;
-    }
-    if i == BODIES_AT {
-        return bodies;
-    }
-    if i == NEXT_AT {
-        return 1;
-    }
-    0
-}
-
-// Make's stores. Word 0 is cleared first and by itself, with a test of the budget behind it, so that its store is never dead to the
-// compiler: from then on until its last store there is no store here.
-fn make_words(table: &mut [u32], cells: u32, slots: u32, bodies: u32, budget: usize)
-    requires { ⌜ (slots ≤ maxSlots) × (length (now table) ≡ tableWords slots) ⌝ }
-    ensures { λ _. ⌜ now (table .exit) ≡ stores (take budget (makePlan cells slots bodies)) (now (table .entry)) ⌝ }
-{
-    if budget == 0 {
-        return;
-    }
-    table[MAGIC_AT] = 0;
-    let end = pairs_at(slots as usize);
-    let n = least(budget, end);
-    let mut i = 1;
-    while i < n {
-        table[i] = fresh_word(cells, slots, bodies, i);
-        i += 1;
-    }
-    if end < budget {
-        table[MAGIC_AT] = MAGIC;
-    }
-}
-
-// Makes a fresh store: no domains, next handle 1, no entries.
-pub fn make(memory: &[u8], bodies: &[u8], table: &mut [u32], budget: usize) -> Answer
-    ensures made { λ r. ⌜ Makes makeCall budget (buffers (now (memory .entry)) (now (bodies .entry)) (now (table .entry)))
-        (report r) (buffers (now (memory .entry)) (now (bodies .entry)) (now (table .exit))) ⌝ }
-    ensures means { λ r. ⌜ Shows makeMeans budget (buffers (now (memory .entry)) (now (bodies .entry)) (now (table .entry)))
-        (report r) (buffers (now (memory .entry)) (now (bodies .entry)) (now (table .exit))) ⌝ }
-{
-    if !lengths_ok(memory.len(), bodies.len(), table.len()) {
-        return Answer::Refused(1);
-    }
-    let cells = cells_of(memory.len()) as u32;
-    let places = bodies_of(bodies.len()) as u32;
-    let slots = slots_of(table.len());
-    make_words(table, cells, slots as u32, places, budget);
-    answer_of(pairs_at(slots) + 1, 0, budget)
-}
-
-// ---- open
-
-// Puts the pending pairs in place.
-pub fn open(memory: &[u8], bodies: &[u8], table: &mut [u32], budget: usize) -> Answer
-    ensures made { λ r. ⌜ Makes openCall budget (buffers (now (memory .entry)) (now (bodies .entry)) (now (table .entry)))
-        (report r) (buffers (now (memory .entry)) (now (bodies .entry)) (now (table .exit))) ⌝ }
-    ensures means { λ r. ⌜ Shows openMeans budget (buffers (now (memory .entry)) (now (bodies .entry)) (now (table .entry)))
-        (report r) (buffers (now (memory .entry)) (now (bodies .entry)) (now (table .exit))) ⌝ }
-{
-    let no = open_check(memory.len(), bodies.len(), table);
-    if no != 0 {
-        return Answer::Refused(no);
-    }
-    let p = wide(table[PENDING_AT]);
-    if p == 0 {
-        return Answer::Done {
-            steps: 0,
-            handle: 0,
-        };
-    }
-    apply_pending(table, pairs_at(slots_of(table.len())), p, budget);
-    answer_of(p + 1, 0, budget)
-}
-
-// ---- create
-
-// The words of create: the number of live domains, the next handle, and the new domain's handle.
-fn create_head(live: u32, handle: u32) -> Head
-    requires { ⌜ (live < maxLive) × (handle < 4294967295) ⌝ }
-    ensures right { λ r. ⌜ HeadOk r ⌝ }
-    ensures stored { λ r. ⌜ headStores r ≡ domainWords live handle ⌝ }
-{
-    let one = with_word(no_head(), LIVE_AT as u32, live + 1);
-    let two = with_word(one, NEXT_AT as u32, handle + 1);
-    with_word(two, handle_at(live as usize) as u32, handle)
-}
-
-// Create's part on the table. Returns its steps uncut.
-fn create_words(table: &mut [u32], budget: usize) -> usize
-    requires long { ⌜ (length (now table) ≡ tableWords (slotsOf (length (now table)))) × (slotsOf (length (now table)) ≤ maxSlots) ⌝ }
-    requires few { ⌜ (getD (now table) 4 0 < maxLive) × (getD (now table) 5 0 < 4294967295) ⌝ }
-    ensures { λ r. ⌜ Journaled (slotsOf (length (now (table .entry)))) (createWords (now (table .entry))) budget (now (table .entry)) r (now (table .exit)) ⌝ }
-{
-    let head = create_head(table[LIVE_AT], table[NEXT_AT]);
-    let slots = slots_of(table.len());
-    write_head_words(table, slots, head, budget)
-}
-
-// Adds a domain inside the innermost, and names its handle.
-pub fn create(memory: &[u8], bodies: &[u8], table: &mut [u32], budget: usize) -> Answer
-    ensures made { λ r. ⌜ Makes createCall budget (buffers (now (memory .entry)) (now (bodies .entry)) (now (table .entry)))
-        (report r) (buffers (now (memory .entry)) (now (bodies .entry)) (now (table .exit))) ⌝ }
-    ensures means { λ r. ⌜ Shows createMeans budget (buffers (now (memory .entry)) (now (bodies .entry)) (now (table .entry)))
-        (report r) (buffers (now (memory .entry)) (now (bodies .entry)) (now (table .exit))) ⌝ }
-{
-    let no = create_check(memory.len(), bodies.len(), table);
-    if no != 0 {
-        return Answer::Refused(no);
-    }
-    let handle = table[NEXT_AT];
-    let need = create_words(table, budget);
-    answer_of(need, handle, budget)
-}
-
-// ---- list
-
-// Words 8 to 15.
-fn read_handles(table: &[u32]) -> [u32; 8]
-    requires { ⌜ handleAt maxLive ≤ length (now table) ⌝ }
-    ensures { λ r. ⌜ r ≡ tab maxLive (handle (now (table .entry))) ⌝ }
-{
-    let mut handles = [0u32; 8];
-    let mut k = 0;
-    while k < 8 {
-        handles[k] = table[handle_at(k)];
-        k += 1;
-    }
-    handles
-}
-
-// Gives the number of live domains and their handles.
-pub fn list(memory: &[u8], bodies: &[u8], table: &[u32]) -> Listing
-    ensures { λ r. ⌜ listing r ≡ listMeans (buffers (now (memory .entry)) (now (bodies .entry)) (now (table .entry))) ⌝ }
-{
-    let no = plain_check(memory.len(), bodies.len(), table);
-    if no != 0 {
-        return Listing {
-            answer: Answer::Refused(no),
-            count: 0,
-            handles: [0u32; 8],
-        };
-    }
-    let handles = read_handles(table);
-    Listing {
-        answer: Answer::Done {
-            steps: 0,
-            handle: 0,
-        },
-        count: table[LIVE_AT],
-        handles,
     }
 }

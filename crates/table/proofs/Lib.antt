@@ -4,8 +4,6 @@ pub mod Made
 pub mod Rule
 pub mod Agree
 pub mod Single
-pub mod Digits
-pub mod Blocks
 pub mod Marks
 pub mod Parts
 pub mod Passing

@@ -8,16 +8,17 @@ use native.Mathlib.Nat.{not-suc-le-zero, eq-or-lt-of-le, le-of-suc-le-suc}
 use native.Mathlib.Numerals.{add-one}
 use native.Mathlib.Omega.{arith}
 use borrow.Author.Tests.{eq-eqb, ne-eqb, eqb-true, eqb-false, ltb-true, lt-ltb, not-true, not-false}
-use lib.ListN.{length, getD, set, replicate, length-replicate}
+use lib.ListN.{length, getD, set}
 use lib.Seq.{getD-set-same, getD-set-other}
 use lib.Dec.{ltb, eqb}
 use Rattle.words.specs.Layout.{maxBodies}
 use Rattle.words.proofs.Scan.{by-bool, and-split, is-false, true≢}
 use Rattle.table.specs.Entry.{word1, word2, depthOf, viaOf, parent, findIn, holdsIn, ownsBody}
 use Rattle.table.specs.Rule.{parentOk}
-use Rattle.table.specs.Blocks.{markOf, blockAt, Enough, OneMark}
-use Rattle.table.specs.Marks.{Reached, RoomForMarks, Marks, Distinct, zeros, has, withDepth, cellIn, markAt, Marked, CellsOnce, Blank, ViaInner, parentTold, IsCopy, markBody, bodyFits}
-use Rattle.table.proofs.Digits.{has-zero, has-here, has-other}
+use Rattle.marks.specs.Blocks.{markOf, withDepth, blockAt, Enough, OneMark}
+use Rattle.table.specs.Marks.{Reached, RoomForMarks, Marks, Distinct, zeros, has, cellIn, markAt, Marked, CellsOnce, Blank, ViaInner, parentTold, IsCopy, markBody, bodyFits}
+use Rattle.marks.proofs.Digits.{has-zero, has-here, has-other}
+use Rattle.marks.proofs.Blocks.{zeros-length, blank-zeros}
 use Rattle.table.proofs.Entry.{find-some, find-hit}
 use Rattle.table.proofs.Rule.{outer-facts, outer-make}
 
@@ -65,24 +66,6 @@ module _ (Wanted : ℕ → Type 0) (key : ℕ → ℕ) where
       split n i l
       (λ p. subst (λ (x : ℕ). (j : ℕ) → j < x → Wanted x → Wanted j → key j ≡ key x → ⊥) (sym p) h)
       (λ p. d i p)
-
--- ---- no marks
-replicate-clear : (n k : ℕ) → _≡_ {A = ℕ} (getD (replicate n 0) k 0) 0
-replicate-clear zero zero = refl
-replicate-clear zero (suc k) = refl
-replicate-clear (suc n) zero = refl
-replicate-clear (suc n) (suc k) = replicate-clear n k
-
-pub zeros-clear : (n k : ℕ) → getD (zeros n) k 0 ≡ 0
-unfolding zeros
-zeros-clear n k = replicate-clear n k
-
-pub zeros-length : (n : ℕ) → length (zeros n) ≡ n
-unfolding zeros
-zeros-length n = length-replicate n 0
-
-pub blank-zeros : (n : ℕ) → Blank (zeros n)
-blank-zeros n k = zeros-clear n k
 
 pub marked-holds : (e : ℕ) (t seen : List ℕ) → Marked e t e seen → (d c : ℕ) → 1 ≤ d → has d (markOf seen c) ≡ holdsIn e t d c
 unfolding holdsIn

@@ -13,10 +13,10 @@ use Rattle.words.specs.Scan.{all}
 use Rattle.words.proofs.Scan.{and-split, by-le, all-make, all-not, all-ext, true≢}
 use Rattle.table.specs.Entry.{live, word1, word2, depthOf, viaOf, unusedOf, cellOf}
 use Rattle.table.specs.Rule.{headOk, kindOk, entryOk, parentOk, ruleOk}
-use Rattle.table.specs.Blocks.{blockAt, cellsIn, Spare, Room}
-use Rattle.table.specs.Marks.{Blank, has, cellIn, markAt, markCell, IsCopy, markBody, bodyFits, placed, FreeRun, NoVias, Passed, AllMarked}
-use Rattle.table.proofs.Digits.{has-none}
-use Rattle.table.proofs.Blocks.{kept-cells, kept-none, taken-none, outside-none, cells-none, cell-one, cell-kept, cell-blocks, cell-outside, room-spare}
+use Rattle.marks.specs.Blocks.{blockAt, cellsIn, Spare, Room}
+use Rattle.table.specs.Marks.{Blank, has, cellIn, markAt, markEntry, IsCopy, markBody, bodyFits, placed, FreeRun, NoVias, Passed, AllMarked}
+use Rattle.marks.proofs.Digits.{has-none}
+use Rattle.marks.proofs.Blocks.{kept-cells, kept-none, taken-none, outside-none, cells-none, cell-one, cell-kept, cell-blocks, cell-outside, room-spare}
 use Rattle.table.proofs.Marks.{owns-facts, split, marks-none, once-none, once-not, once-more, marked-more, distinct-none, bodies-more, single-more}
 use Rattle.table.proofs.Rule.{entry-least, outer-make}
 use Rattle.table.proofs.Parts.{no-entries, no-cells, no-single, all-parts}
@@ -84,18 +84,18 @@ module _ (m e b : ℕ) (t : List ℕ) where
 
       pub passed-more : entryOk m e b t n ≡ true → has (depthOf (word1 e t n)) (markAt seen (word1 e t n)) ≡ false → cellIn e t n < m → Room (n + 1) m seen
           → bodyFits (word1 e t n) (word2 e t n) used ≡ true → (IsCopy e t n → word2 e t n < length used)
-          → Passed m e b t (n + 1) (markCell (word1 e t n) seen) (markBody (word1 e t n) (word2 e t n) used)
+          → Passed m e b t (n + 1) (markEntry (word1 e t n) seen) (markBody (word1 e t n) (word2 e t n) used)
       passed-more here free inside room fits place =
           let spare = passed-spare inside room in
           record {
             right = λ i s. split n i s (λ q. rw q here) (λ near. p .right i near);
             once = once-more e t n seen (p .cells) free (p .once);
             single = single-more e t n used (p .copies) true l (λ y. p .single) (λ y. absurd (true≢ refl y)) .0 (rw fits);
-            cells = marked-more e t n seen (p .cells) free (markCell (word1 e t n) seen) (cell-one (word1 e t n) seen (p .kept) spare);
+            cells = marked-more e t n seen (p .cells) free (markEntry (word1 e t n) seen) (cell-one (depthOf (word1 e t n)) (cellIn e t n) (omega arith) seen (p .kept) spare);
             copies = bodies-more e t n used (p .copies) place;
-            kept = cell-kept (word1 e t n) seen (p .kept) spare;
-            few = omega (arith, cell-blocks (word1 e t n) seen (p .kept) spare, p .few);
-            outside = cell-outside (word1 e t n) seen (p .kept) spare m (omega (arith, inside)) (p .outside);
+            kept = cell-kept (depthOf (word1 e t n)) (cellIn e t n) (omega arith) seen (p .kept) spare;
+            few = omega (arith, cell-blocks (depthOf (word1 e t n)) (cellIn e t n) (omega arith) seen (p .kept) spare, p .few);
+            outside = cell-outside (depthOf (word1 e t n)) (cellIn e t n) (omega arith) seen (p .kept) spare m (omega (arith, inside)) (p .outside);
           }
 
       pub cell-taken : has (depthOf (word1 e t n)) (markAt seen (word1 e t n)) ≡ true → ruleOk m e b t ≡ false

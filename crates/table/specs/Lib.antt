@@ -2,6 +2,5 @@
 pub mod Entry
 pub mod Checks
 pub mod Rule
-pub mod Blocks
 pub mod Marks
 pub mod Changes

@@ -1,18 +1,19 @@
--- Marks made in one pass over the entries. Of cells they are read by `markOf` alone (Blocks.antt).
+-- Marks made in one pass over the entries. Of cells they are read by `markOf` alone (marks/specs/Blocks).
 -- A mark at k equal to `tag` says that some entry passed so far is wanted and has the key k.
-use Prim.Native.Nat.{ℕ, _+_, _*_, _/_, _%_, _^_, _<_, _≤_}
+use Prim.Native.Nat.{ℕ, _<_, _≤_}
 use mathlib.Core.Bool.{Bool, true, false, cond, not, _&&_, _||_}
 use mathlib.Core.Path.{_≡_}
 use mathlib.Core.List.{List}
 use lib.Dec.{ltb, leb, eqb}
-use lib.ListN.{length, getD, set, replicate}
-use Rattle.words.specs.Layout.{groupOf, slotsOf, maxSlots, maxBodies}
+use lib.ListN.{length, getD, set}
+use Rattle.words.specs.Layout.{slotsOf, maxSlots, maxBodies}
 use Rattle.words.specs.Scan.{all}
 use Rattle.words.specs.Journal.{pending}
 use Rattle.table.specs.Entry.{word1, word2, depthOf, viaOf, unusedOf, cellOf, ownsBody, parent}
 use Rattle.table.specs.Rule.{entryOk, parentOk}
-use Rattle.table.specs.Blocks.{taken, placeOf, Kept, Outside, withBlock, Room}
-pub use Rattle.table.specs.Blocks.{markOf}
+use Rattle.marks.specs.Blocks.{taken, Kept, Outside, Room, markCell}
+pub use Rattle.marks.specs.Blocks.{markOf, has, Blank}
+unfoldable pub use Rattle.marks.specs.Blocks.{zeros}
 
 module _ (Wanted : ℕ → Type 0) (key : ℕ → ℕ) (tag : ℕ) where
   pub record Marks (n : ℕ) (seen : List ℕ) : Type 0 where
@@ -23,22 +24,7 @@ module _ (Wanted : ℕ → Type 0) (key : ℕ → ℕ) (tag : ℕ) where
 abbrev pub Distinct : (ℕ → Type 0) → (ℕ → ℕ) → ℕ → Type 0
 Distinct Wanted key n = (i : ℕ) → i < n → (j : ℕ) → j < i → Wanted i → Wanted j → key j ≡ key i → ⊥
 
--- no mark is made yet
-abbrev pub Blank : List ℕ → Type 0
-Blank marks = (k : ℕ) → getD marks k 0 ≡ 0
-
-unfoldable pub zeros : ℕ → List ℕ
-zeros n = replicate n 0
-
--- ---- the cells: the mark of a cell is the set of the depths passed so far that have it, depth d as bit d - 1
-
--- does a mark have depth d? It has no depth 0, which free entries have
-abbrev pub has : ℕ → ℕ → Bool
-has d mark = eqb (2 * mark / 2 ^ d % 2) 1
-
--- a mark with one depth more
-abbrev pub withDepth : ℕ → ℕ → ℕ
-withDepth d mark = mark + 2 ^ d / 2
+-- ---- the cells: the mark of a cell is the set of the depths passed so far that have it
 
 abbrev pub cellIn : ℕ → List ℕ → ℕ → ℕ
 cellIn e t i = cellOf (word1 e t i)
@@ -47,11 +33,9 @@ cellIn e t i = cellOf (word1 e t i)
 abbrev pub markAt : List ℕ → ℕ → ℕ
 markAt seen w = markOf seen (cellOf w)
 
--- the marks after that entry: its cell's group has a block, and its mark has the entry's depth
-unfoldable pub markCell : ℕ → List ℕ → List ℕ
-markCell w seen =
-    let got = withBlock seen (groupOf (cellOf w)) in
-    set got (placeOf got (cellOf w)) (withDepth (depthOf w) (markAt seen w))
+-- the marks after that entry
+abbrev pub markEntry : ℕ → List ℕ → List ℕ
+markEntry w seen = markCell (depthOf w) (cellOf w) seen
 
 -- what the marks of all entries tell of an entry with first word w: it is no via parent entry, or its parent has its cell
 abbrev pub parentTold : ℕ → List ℕ → Bool

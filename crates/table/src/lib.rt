@@ -3,17 +3,16 @@
 // Question 4 passes over the entries once, with one mark for each cell, a bit for each depth that holds it, and one for each body, so that it
 // does not compare each entry with each; it passes over them again only to ask via parent entries for their parent. The caller lends the
 // room for marks and has the marks afterwards. While pairs are pending it looks at a copy in which they are in place.
-pub mod cell_marks;
 pub mod domains;
 pub mod fields;
 
-use cell_marks::mark_cell;
-use cell_marks::mark_of;
 use fields::below_kind;
 use fields::cell_of;
 use fields::depth_of;
 use fields::is_via;
 use fields::via_of;
+use marks::mark_cell;
+use marks::mark_of;
 use words::layout::BODIES_AT;
 use words::layout::CELLS_AT;
 use words::layout::LIVE_AT;
@@ -46,7 +45,7 @@ ghost use mathlib.Core.Path.{_≡_};
 ghost use mathlib.Core.Bool.{true, false, not};
 ghost use Prim.Native.Nat.{ℕ, _+_, _*_, _<_, _≤_, min};
 ghost use lib.ListN.{length, getD, take};
-ghost use Rattle.words.specs.Layout.{pairsAt, tableWords, maxSlots, maxBodies, maxCells, maxLive, handleAt};
+ghost use Rattle.words.specs.Layout.{pairsAt, tableWords, maxSlots, maxBodies, maxCells, maxLive, handleAt, groupOf};
 ghost use Rattle.words.specs.Scan.{all};
 ghost use Rattle.words.specs.Stores.{stores};
 ghost use Rattle.words.specs.Journal.{nameOk, namesOk, pairs, pairPlans, effective, pending};
@@ -54,8 +53,8 @@ ghost use Rattle.table.specs.Changes.{put, entryStores};
 ghost use Rattle.table.specs.Entry.{live, word1, word2, viaOf, depthOf, cellOf, parent};
 ghost use Rattle.table.specs.Checks.{lengthsOk, headerOk};
 ghost use Rattle.table.specs.Rule.{handleOk, headOk, kindOk, parentOk, pairsOk, ruleOk, tableOk};
-ghost use Rattle.table.specs.Blocks.{cellsIn, Room};
-ghost use Rattle.table.specs.Marks.{has, Marked, ViasMarkable, ViaInner, parentTold, placed, markBody, bodyFits};
+ghost use Rattle.marks.specs.Blocks.{cellsIn, Kept, Spare, Room};
+ghost use Rattle.table.specs.Marks.{has, markAt, markEntry, Marked, ViasMarkable, ViaInner, parentTold, placed, markBody, bodyFits};
 ghost use Rattle.table.specs.Marks.{zeros, Blank, FreeRun, EndsAt, Reaches, Reached, NoVias, Passed, AllMarked};
 
 // So many entry slots count as few: what a call needs for them is cleared in no time.
@@ -202,6 +201,16 @@ fn parents_ok(table: &[u32], slots: usize, seen: &[u8]) -> bool
     rest
 }
 
+// Marks the cell of an entry. False where the entry's depth has the cell already.
+fn mark_entry(seen: &mut [u8], word: u32) -> bool
+    requires { ⌜ (depthOf word ≤ maxLive) × Kept (now seen) × Spare (now seen) (groupOf (cellOf word)) ⌝ }
+    ensures { λ r. ⌜ (r ≡ not (has (depthOf word) (markAt (now (seen .entry)) word))) × (r ≡ true → now (seen .exit) ≡ markEntry word (now (seen .entry))) ⌝ }
+{
+    let depth = depth_of(word);
+    let cell = cell_of(word);
+    mark_cell(seen, depth, cell)
+}
+
 // ---- entries beside each other: the bodies
 
 // Is the second word of an entry in use right for its kind: 0 for via parent, which is never outermost, and for a copy a body that no other
@@ -332,7 +341,7 @@ fn pass_entry(
     if !place_ok(word, table[LIVE_AT], cells) {
         return false;
     }
-    if !mark_cell(seen, word) {
+    if !mark_entry(seen, word) {
         return false;
     }
     mark_body(used, word, second, bodies)

@@ -7,7 +7,7 @@ use Rattle.store.proofs.Raw.{raw-rule}
 use Rattle.store.proofs.Checks.{store-lengths}
 use Rattle.add.proofs.Asking.{range-facts, check-store, check-range, check-rest}
 use borrow.Author.Needs.{needs}
-use Rattle.table.proofs.Blocks.{kept-cells}
+use Rattle.marks.proofs.Blocks.{kept-cells}
 use Rattle.store.proofs.Checked.{checked-ends}
 use Rattle.add.proofs.add_check.Statement.{statement}
 use Rattle.add.proofs.add_check.Tie as tie

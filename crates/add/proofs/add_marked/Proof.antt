@@ -5,7 +5,7 @@ use Rattle.store.proofs.Checks.{store-lengths}
 use Rattle.add.proofs.Asking.{add-ready}
 use Rattle.add.proofs.Added.{add-refused, add-performed}
 use borrow.Author.Needs.{needs}
-use Rattle.table.proofs.Blocks.{kept-cells}
+use Rattle.marks.proofs.Blocks.{kept-cells}
 use Rattle.store.proofs.Checked.{checked-ends}
 use Rattle.add.proofs.add_marked.Statement.{statement}
 use Rattle.add.proofs.add_marked.Tie as tie

@@ -1,6 +1,6 @@
 -- `add::count_new` meets its contract. The loop's invariant: `new` counts the new cells among those passed. Assumes nothing.
 use borrow.Author.Needs.{needs}
-use Rattle.table.proofs.Blocks.{cells-small}
+use Rattle.marks.proofs.Blocks.{cells-small}
 use Prim.Native.Nat.{ℕ, _-_, _≤_}
 use mathlib.Core.Path.{_≡_, refl, ap, _∙_}
 use native.Mathlib.Omega.{arith}

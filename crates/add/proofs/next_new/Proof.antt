@@ -1,6 +1,6 @@
 -- `add::next_new` meets its contract. The loop's invariant: no cell from `at` on and before j is new. Assumes nothing.
 use borrow.Author.Needs.{needs}
-use Rattle.table.proofs.Blocks.{cells-small}
+use Rattle.marks.proofs.Blocks.{cells-small}
 use Prim.Native.Nat.{_-_, _≤_}
 use mathlib.Core.Path.{sym, _∙_}
 use native.Mathlib.Omega.{arith}

@@ -1,6 +1,6 @@
 -- `add::parent_holds` meets its contract. The loop's invariant: of every cell passed, the domain or its parent holds it. Assumes nothing.
 use borrow.Author.Needs.{needs}
-use Rattle.table.proofs.Blocks.{cells-small}
+use Rattle.marks.proofs.Blocks.{cells-small}
 use Prim.Native.Nat.{ℕ, _+_, _-_, _≤_, _<_}
 use mathlib.Core.Path.{_≡_, sym}
 use mathlib.Core.Bool.{true}

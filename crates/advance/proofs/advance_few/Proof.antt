@@ -1,6 +1,7 @@
 -- `advance::advance_few` meets its contract. Assumes nothing.
 use borrow.Author.Needs.{needs}
-use Rattle.table.proofs.Marks.{room-few, blank-zeros}
+use Rattle.marks.proofs.Blocks.{blank-zeros}
+use Rattle.table.proofs.Marks.{room-few}
 use Rattle.advance.proofs.advance_few.Statement.{statement}
 use Rattle.advance.proofs.advance_few.Tie as tie
 

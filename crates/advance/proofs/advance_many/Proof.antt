@@ -1,6 +1,7 @@
 -- `advance::advance_many` meets its contract. Assumes nothing.
 use borrow.Author.Needs.{needs}
-use Rattle.table.proofs.Marks.{room-many, blank-zeros}
+use Rattle.marks.proofs.Blocks.{blank-zeros}
+use Rattle.table.proofs.Marks.{room-many}
 use Rattle.advance.proofs.advance_many.Statement.{statement}
 use Rattle.advance.proofs.advance_many.Tie as tie
 

@@ -1,6 +1,7 @@
 -- `advance::advance_some` meets its contract. Assumes nothing.
 use borrow.Author.Needs.{needs}
-use Rattle.table.proofs.Marks.{room-some, blank-zeros}
+use Rattle.marks.proofs.Blocks.{blank-zeros}
+use Rattle.table.proofs.Marks.{room-some}
 use Rattle.advance.proofs.advance_some.Statement.{statement}
 use Rattle.advance.proofs.advance_some.Tie as tie
 

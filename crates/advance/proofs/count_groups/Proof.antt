@@ -7,7 +7,7 @@ use lib.ListN.{length, getD, length-set, set}
 use Rattle.words.specs.Layout.{groupAt}
 use Rattle.words.specs.Scan.{count}
 use Rattle.words.proofs.Nth.{count-mono}
-use Rattle.table.specs.Blocks.{blockOf, maxGroups}
+use Rattle.marks.specs.Blocks.{blockOf, maxGroups}
 use Rattle.changes.specs.Staged.{isSet}
 use Rattle.advance.specs.Notes.{byGroup, hasBit, Ends}
 use Rattle.advance.proofs.Bits.{count-empty, count-inside, ends-none, ends-empty, ends-inside}

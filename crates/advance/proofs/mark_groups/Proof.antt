@@ -10,9 +10,9 @@ use Rattle.words.specs.Layout.{groupOf}
 use Rattle.words.specs.Scan.{all}
 use Rattle.words.proofs.Scan.{all-next}
 use Rattle.table.specs.Entry.{word1, cellOf, parent}
-use Rattle.table.specs.Blocks.{blockOf, blockAt}
+use Rattle.marks.specs.Blocks.{blockOf, blockAt}
 use Rattle.table.specs.Marks.{has, markAt}
-use Rattle.table.proofs.Blocks.{cells-all}
+use Rattle.marks.proofs.Blocks.{cells-all}
 use Rattle.advance.specs.Advance.{turns}
 use Rattle.advance.specs.Notes.{byGroup, markTurning, TurnedBits}
 use Rattle.advance.proofs.Bits.{turned-none, turned-more}

@@ -4,7 +4,7 @@ use mathlib.Core.Path.{ap}
 use native.Mathlib.Omega.{arith}
 use borrow.Author.Needs.{needs}
 use Rattle.words.specs.Layout.{groupOf}
-use Rattle.table.specs.Blocks.{blockOf}
+use Rattle.marks.specs.Blocks.{blockOf}
 use Rattle.advance.proofs.mark_turning.Statement.{statement}
 use Rattle.advance.proofs.mark_turning.Tie as tie
 

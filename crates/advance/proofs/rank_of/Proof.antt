@@ -5,7 +5,7 @@ use native.Mathlib.Omega.{arith}
 use borrow.Author.Needs.{needs}
 use lib.ListN.{getD}
 use Rattle.words.specs.Layout.{groupOf}
-use Rattle.table.specs.Blocks.{blockOf, maxGroups}
+use Rattle.marks.specs.Blocks.{blockOf, maxGroups}
 use Rattle.advance.specs.Notes.{byGroup}
 use Rattle.advance.proofs.Bits.{rank-fits}
 use Rattle.advance.proofs.Blocks.{bit-cell, block-fits, rank-noted}

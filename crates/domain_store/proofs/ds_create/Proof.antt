@@ -6,7 +6,7 @@ use Rattle.domain_store.proofs.ds_create.Reads as reads
 use Rattle.domain_store.proofs.ds_create.Lts as lts
 use Rattle.domain_store.proofs.handle_of.Reads as handle-of-reads
 use Rattle.domain_store.proofs.tell.Reads as tell-reads
-use Rattle.store.proofs.create.Reads as create-reads
+use Rattle.begin.proofs.create.Reads as create-reads
 
 -- src/lib.rt:113:9
 create-requires : tie.Need-create-requires

@@ -5,7 +5,7 @@ use Rattle.domain_store.proofs.ds_make.Tie as tie
 use Rattle.domain_store.proofs.ds_make.Reads as reads
 use Rattle.domain_store.proofs.ds_make.Lts as lts
 use Rattle.domain_store.proofs.tell.Reads as tell-reads
-use Rattle.store.proofs.make.Reads as make-reads
+use Rattle.begin.proofs.make.Reads as make-reads
 
 -- src/lib.rt:79:9
 make-requires : tie.Need-make-requires

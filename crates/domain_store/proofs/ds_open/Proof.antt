@@ -5,7 +5,7 @@ use Rattle.domain_store.proofs.ds_open.Tie as tie
 use Rattle.domain_store.proofs.ds_open.Reads as reads
 use Rattle.domain_store.proofs.ds_open.Lts as lts
 use Rattle.domain_store.proofs.tell.Reads as tell-reads
-use Rattle.store.proofs.open.Reads as open-reads
+use Rattle.begin.proofs.open.Reads as open-reads
 
 -- src/lib.rt:95:9
 open-requires : tie.Need-open-requires

@@ -2,7 +2,7 @@
 use native.Mathlib.Omega.{arith}
 use lib.Pow.{pow-mono}
 use Prim.Native.Nat.{_^_, _≤_}
-use Rattle.table.proofs.Digits.{bit-small}
+use Rattle.marks.proofs.Digits.{bit-small}
 use borrow.Author.Needs.{needs}
 use Rattle.restore.proofs.inwards_of.Statement.{statement}
 use Rattle.restore.proofs.inwards_of.Tie as tie

@@ -11,7 +11,7 @@ use Rattle.words.specs.Layout.{cellsOf, bodiesOf}
 use Rattle.words.specs.Stores.{Store, store, stores, gather}
 use Rattle.words.proofs.Plans.{stores-none}
 use Rattle.table.specs.Rule.{ruleOk}
-use Rattle.table.proofs.Blocks.{cells-all}
+use Rattle.marks.proofs.Blocks.{cells-all}
 use Rattle.restore.specs.Parts.{backPlan}
 use Rattle.restore.proofs.Blocks.{block-length, block-turn}
 use Rattle.restore.proofs.Finding.{put-passed}

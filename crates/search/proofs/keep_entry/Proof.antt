@@ -1,7 +1,7 @@
 -- `search::keep_entry` meets its contract. Assumes nothing.
 use mathlib.Core.Path.{refl, sym, _∙_}
 use native.Mathlib.Omega.{arith}
-use Rattle.table.proofs.Blocks.{kept-cells}
+use Rattle.marks.proofs.Blocks.{kept-cells}
 use Rattle.search.proofs.Writable.{keeps-same, keeps-stored}
 use borrow.Author.Needs.{needs}
 use Rattle.search.proofs.keep_entry.Statement.{statement}

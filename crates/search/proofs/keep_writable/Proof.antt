@@ -5,7 +5,7 @@ use mathlib.Core.Path.{_≡_, refl, subst, _∙_}
 use native.Mathlib.Omega.{arith}
 use borrow.Author.Needs.{needs}
 use lib.ListN.{length}
-use Rattle.table.specs.Blocks.{Kept}
+use Rattle.marks.specs.Blocks.{Kept}
 use Rattle.search.proofs.Writable.{TakenOut, kept-none, take-fits, marked-there, kept-more, kept-free, kept-end}
 use Rattle.search.proofs.keep_writable.Statement.{statement}
 use Rattle.search.proofs.keep_writable.Tie as tie

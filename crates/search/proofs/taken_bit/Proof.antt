@@ -3,7 +3,7 @@ use Prim.Native.Nat.{_*_, _/_, _%_, _^_}
 use mathlib.Core.Path.{_≡_}
 use native.Mathlib.Omega.{arith}
 use borrow.Author.Needs.{needs}
-use Rattle.table.proofs.Digits.{bit-small}
+use Rattle.marks.proofs.Digits.{bit-small}
 use Rattle.search.proofs.Writable.{taken-bit, taken-small}
 use Rattle.search.proofs.taken_bit.Statement.{statement}
 use Rattle.search.proofs.taken_bit.Tie as tie

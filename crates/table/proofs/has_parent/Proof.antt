@@ -1,6 +1,6 @@
 -- `table::has_parent` meets its contract. Assumes nothing.
 use borrow.Author.Needs.{needs}
-use Rattle.table.proofs.Digits.{parent-digit}
+use Rattle.marks.proofs.Digits.{parent-digit}
 use Rattle.table.proofs.has_parent.Statement.{statement}
 use Rattle.table.proofs.has_parent.Tie as tie
 

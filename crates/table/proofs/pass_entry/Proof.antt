@@ -41,8 +41,8 @@ returns-2 c = let a = c .before .before .before .before .before .before .before 
     let off = rw (c .before .before .before .before .before .first-word .ensures) at (sym (c .before .place-ok .ensures) ∙ not-true _ (c .if2 .taken)) in
     ((λ r. absurd (true≢ r refl)), (λ r. entry-wrong (a .cells) (a .slots) (a .bodies) (a .table .now) (a .i) (c .before .before .before .before .before .before .before .before .before .pre .0 .0) (entry-parts (a .cells) (a .slots) (a .bodies) (a .table .now) (a .i) used-word ∙ rw off)))
 
-mark-cell-requires : tie.Need-mark-cell-requires
-mark-cell-requires c κs = let a = c .before .before .before .before .before .before .before .before .before .before .args in
+mark-entry-requires : tie.Need-mark-entry-requires
+mark-entry-requires c κs = let a = c .before .before .before .before .before .before .before .before .before .before .args in
     let start = c .before .before .before .before .before .before .before .before .before .before in
     let on = placed-facts (c .before .before .before .before .before .before .before .before .before .before .args .cells) (live (c .before .before .before .before .before .before .before .before .before .before .args .table .now)) (c .before .before .before .before .before .before .first-word .result) (sym (c .before .before .place-ok .ensures) ∙ not-false _ (c .before .if2 .left)) in
     let inside = rw (c .before .before .before .before .before .before .first-word .ensures) at (on .2) in
@@ -53,7 +53,7 @@ same-length c = search needs
 
 returns-3 : tie.Need-returns-3
 returns-3 c = let a = c .before .before .before .before .before .before .before .before .before .before .before .before .before .before .args in
-    let taken = rw (c .before .before .before .before .before .before .before .before .before .before .first-word .ensures) at (not-false (has (depthOf (c .before .before .before .before .before .before .before .before .before .before .first-word .result)) (markAt (a .seen .now) (c .before .before .before .before .before .before .before .before .before .before .first-word .result))) (sym (c .before .before .before .mark-cell .ensures .0) ∙ not-true _ (c .if3 .taken))) in (
+    let taken = rw (c .before .before .before .before .before .before .before .before .before .before .first-word .ensures) at (not-false (has (depthOf (c .before .before .before .before .before .before .before .before .before .before .first-word .result)) (markAt (a .seen .now) (c .before .before .before .before .before .before .before .before .before .before .first-word .result))) (sym (c .before .before .before .mark-entry .ensures .0) ∙ not-true _ (c .if3 .taken))) in (
       (λ r. absurd (true≢ r refl)),
       (λ r. cell-taken (a .cells) (a .slots) (a .bodies) (a .table .now) (a .i) (a .seen .now) (a .used .now) (c .before .before .before .before .before .before .before .before .before .before .before .before .before .before .pre .1) (c .before .before .before .before .before .before .before .before .before .before .before .before .before .before .pre .0 .0) taken),
     )
@@ -72,13 +72,13 @@ returns-4 c = let a = c .before .before .before .before .before .before .before 
     let used-word : word1 (a .slots) (a .table .now) (a .i) ≡ 0 → ⊥ = λ z. c .before .before .before .before .before .before .before .before .before .before .before .before .if1 .left (c .before .before .before .before .before .before .before .before .before .before .before .before .before .before .first-word .ensures ∙ z) in
     let on = rw (c .before .before .before .before .before .before .before .before .before .before .before .before .before .before .first-word .ensures) at (sym (c .before .before .before .before .before .before .before .before .before .before .place-ok .ensures) ∙ not-false _ (c .before .before .before .before .before .before .before .before .before .if2 .left)) in
     let fits = not-false _ (c .before .before .before .before .if3 .left) in
-    let free = rw (c .before .before .before .before .before .before .before .before .before .before .before .before .before .before .first-word .ensures) at (not-true (has (depthOf (c .before .before .before .before .before .before .before .before .before .before .before .before .before .before .first-word .result)) (markAt (a .seen .now) (c .before .before .before .before .before .before .before .before .before .before .before .before .before .before .first-word .result))) (sym (c .before .before .before .before .before .before .before .mark-cell .ensures .0) ∙ fits)) in
+    let free = rw (c .before .before .before .before .before .before .before .before .before .before .before .before .before .before .first-word .ensures) at (not-true (has (depthOf (c .before .before .before .before .before .before .before .before .before .before .before .before .before .before .first-word .result)) (markAt (a .seen .now) (c .before .before .before .before .before .before .before .before .before .before .before .before .before .before .first-word .result))) (sym (c .before .before .before .before .before .before .before .mark-entry .ensures .0) ∙ fits)) in
     let parts = entry-parts (a .cells) (a .slots) (a .bodies) (a .table .now) (a .i) used-word in (
       (λ r.
           let told = rw (c .before .before .before .before .before .before .before .before .before .before .before .before .before .before .first-word .ensures, c .before .before .before .before .before .before .before .before .before .before .before .before .before .second-word .ensures) at (c .before .before .mark-body .ensures .0 r) in
           let ok = parts ∙ and-join _ _ on (told .0) in
           let u = entry-used (a .cells) (a .slots) (a .bodies) (a .table .now) (a .i) ok used-word in
-          rw (c .before .before .before .before .before .before .before .mark-cell .ensures .1 fits, c .before .before .before .before .before .before .before .before .before .before .before .before .before .before .first-word .ensures, told .2)
+          rw (c .before .before .before .before .before .before .before .mark-entry .ensures .1 fits, c .before .before .before .before .before .before .before .before .before .before .before .before .before .before .first-word .ensures, told .2)
           (passed-more (a .cells) (a .slots) (a .bodies) (a .table .now) (a .i) (a .seen .now) (a .used .now) (c .before .before .before .before .before .before .before .before .before .before .before .before .before .before .before .before .before .before .pre .1) (c .before .before .before .before .before .before .before .before .before .before .before .before .before .before .before .before .before .before .pre .0 .0) ok free (u .cell) (c .before .before .before .before .before .before .before .before .before .before .before .before .before .before .before .before .before .before .pre .0 .5) (told .1) (λ copy. omega (arith, u .copy (owns-facts _ copy .1))))),
       (λ r.
           by-bool (kindOk (a .bodies) (word1 (a .slots) (a .table .now) (a .i)) (word2 (a .slots) (a .table .now) (a .i)))
@@ -96,7 +96,7 @@ pass-entry-spec =
     shared-slice-read-place-ok
     place-ok-requires
     returns-2
-    mark-cell-requires
+    mark-entry-requires
     same-length
     returns-3
     mark-body-requires

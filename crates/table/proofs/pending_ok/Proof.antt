@@ -6,7 +6,7 @@ use lib.ListN.{length, getD}
 use Rattle.words.specs.Layout.{pairsAt}
 use Rattle.words.specs.Stores.{stores}
 use Rattle.words.specs.Journal.{pairs}
-use Rattle.table.proofs.Marks.{zeros-length}
+use Rattle.marks.proofs.Blocks.{zeros-length}
 use Rattle.table.proofs.Agree.{rule-same}
 use Rattle.table.proofs.Pairs.{pairs-few, pairs-fine, effective-same}
 use borrow.Author.Needs.{needs}

@@ -1,0 +1,12 @@
+-- `marks::few_marks` meets its contract. Assumes nothing.
+use mathlib.Core.Path.{refl}
+use Rattle.marks.specs.Blocks.{zeros}
+use Rattle.marks.proofs.few_marks.Statement.{statement}
+use Rattle.marks.proofs.few_marks.Tie as tie
+
+returns : tie.Need-returns
+unfolding zeros
+returns c = refl
+
+pub few-marks-spec : {M : Type 1} → statement M
+few-marks-spec = tie.close (tie.spec returns)
