@@ -15,7 +15,7 @@ use Rattle.words.proofs.Scan.{by-bool, by-le, is-false, is-true, true≢, and-s
 use Rattle.words.proofs.Gather.{gather-ext}
 use Rattle.words.proofs.Nth.{count-below, nth-holds, nth-rank, nth-ext}
 use Rattle.table.specs.Entry.{live, word1, word2, depthOf, writableOf, cellOf, parent, findIn, holdsIn, ownsBody}
-use Rattle.table.specs.Marks.{Marks, Marked, FreeRun, IsCopy, cellIn, has, markAt}
+use Rattle.table.specs.Marks.{Marks, Marked, FreeRun, EndsAt, IsCopy, cellIn, has, markAt}
 use Rattle.table.proofs.Entry.{find-hit, holds-found}
 use Rattle.table.proofs.Rule.{Rule}
 use Rattle.table.proofs.Single.{only-one}
@@ -54,6 +54,10 @@ module _ (e : ℕ) (t : List ℕ) (top : ℕ) (within : top ≤ e) (free : FreeR
   free-stays : (n k : ℕ) → top ≤ k → k < e → turns n (word1 e t k) ≡ false
   free-stays n k l h = ap (turns n) (free k l h .0) ∙ none-turns n
 
+  -- so an entry that advances is in front of them
+  pub turns-front : (n i : ℕ) → i < e → turns n (word1 e t i) ≡ true → i < top
+  turns-front n i l y = by-le top i (λ far. absurd (true≢ y (free-stays n i far l))) (λ near. near)
+
   pub turning-front : (n : ℕ) → count top (λ i. turns n (word1 e t i)) ≡ count e (λ i. turns n (word1 e t i))
   turning-front n = count-front e t top within free (turns n) (none-turns n)
 
@@ -69,13 +73,13 @@ module _ (e : ℕ) (t : List ℕ) (top : ℕ) (within : top ≤ e) (free : FreeR
   pub turned-front : (n : ℕ) (groups : List ℕ) → TurnedBits e t n top groups → TurnedBits e t n e groups
   turned-front n groups m =
       record {
-        clear = λ c h j l u q. by-le top j (λ far. true≢ u (free-stays n j far l)) (λ near. m .clear c h j near u q);
+        clear = λ c h j l u q. m .clear c h j (turns-front n j l u) u q;
         found = λ c h. let f = m .found c h in (f .0, omega (arith, f .1), f .2, f .3);
       }
 
   pub listed-front : (n : ℕ) (f : ℕ → Bool) (places : List ℕ) → ListedSlots e t n f top places → ListedSlots e t n f e places
   listed-front n f places old =
-      record { place = λ i l z. by-le top i (λ far. absurd (true≢ z (free-stays n i far l))) (λ near. old .place i near z) }
+      record { place = λ i l z. old .place i (turns-front n i l z) z }
 
 -- ---- the questions, asked of the entries
 
@@ -140,9 +144,10 @@ module _ (m e b : ℕ) (t : List ℕ) (ok : Rule m e b t) where
       λ i. ask (leb (live t) 1 || covers-cells (holdsIn e t (parent (live t))) i) 15
       (ask (leb (copies e t + count-entries m e b t ok (live t) low (λ w. eqb (writableOf w) 1) i) b) 17 0)
 
-  -- as many cells advance as entries, and no more than there are
-  pub advances-few : 1 ≤ live t → count m (advances e t) ≤ e
-  advances-few low = omega (arith, count-entries m e b t ok (live t) low (λ w. eqb (writableOf w) 1), count-le e (λ i. turns (live t) (word1 e t i)))
+  -- as many cells advance as entries, and no more than are in front of the free ones at the end
+  pub advances-few : (top : ℕ) → EndsAt e t top → 1 ≤ live t → count m (advances e t) ≤ top
+  advances-few top ends low =
+      omega (arith, count-entries m e b t ok (live t) low (λ w. eqb (writableOf w) 1), turning-front e t top (ends .0) (ends .1) (live t), count-le top (λ i. turns (live t) (word1 e t i)))
 
   -- the cells whose bits are set are those that advance
   pub turned-advances : (groups : List ℕ) → TurnedBits e t (live t) e groups → (c : ℕ) → isSet groups c ≡ advances e t c

@@ -10,7 +10,7 @@ use Rattle.words.specs.Stores.{Store, stores, gather}
 use Rattle.words.specs.Cells.{cellPlan}
 use Rattle.words.specs.Journal.{journal}
 use Rattle.table.specs.Entry.{live}
-use Rattle.table.specs.Marks.{cellIn}
+use Rattle.table.specs.Marks.{EndsAt, cellIn}
 use Rattle.table.specs.Changes.{entryChanges}
 use Rattle.table.proofs.Rule.{Rule}
 use Rattle.search.specs.Free.{unmarked}
@@ -23,7 +23,7 @@ use Rattle.store.proofs.Raw.{raw-rule}
 use Rattle.advance.specs.Advance.{advances, advanceWords}
 use Rattle.advance.specs.Notes.{CellBits, Ready, performed, OwnBits, ListedSlots, InOrder, changeTo}
 use Rattle.advance.proofs.Listing.{plans-length}
-use Rattle.advance.proofs.Noting.{advances-few, bits-count, bits-inside, own-bits, in-order, listed-inside, room-unmarked, listed-bytes, change-all}
+use Rattle.advance.proofs.Noting.{turns-front, advances-few, bits-count, bits-inside, own-bits, in-order, listed-inside, room-unmarked, listed-bytes, change-all}
 use Rattle.advance.proofs.Advanced.{advance-performed}
 
 module _ (memory bodies t used : List ℕ) (ready : Ready (length memory) (length bodies) t used) where
@@ -39,9 +39,12 @@ module _ (memory bodies t used : List ℕ) (ready : Ready (length memory) (lengt
   ok : Rule (cellsOf (length memory)) (slotsOf (length t)) (bodiesOf (length bodies)) t
   ok = raw-rule memory bodies t (ready .stands)
 
-  -- as many entries advance as cells, and there is a free body for each
+  -- as many entries advance as cells, all of them in front of the free ones at the end, and there is a free body for each
+  pub ready-front : (top : ℕ) → EndsAt (slotsOf (length t)) t top → count (cellsOf (length memory)) (advances (slotsOf (length t)) t) ≤ top
+  ready-front top ends = advances-few m e b t ok top ends (ready .lives)
+
   pub ready-few : count (cellsOf (length memory)) (advances (slotsOf (length t)) t) ≤ slotsOf (length t)
-  ready-few = advances-few m e b t ok (ready .lives)
+  ready-few = ready-front e (omega arith, λ i low high. absurd (omega arith))
 
   pub ready-free : count (cellsOf (length memory)) (advances (slotsOf (length t)) t) ≤ count (bodiesOf (length bodies)) (unmarked used)
   ready-free = room-unmarked m e b t used ok (ready .room) (ready .marks)
@@ -64,6 +67,9 @@ module _ (memory bodies t used : List ℕ) (ready : Ready (length memory) (lengt
   module _ (n : ℕ) (places : List ℕ) (list : InOrder (slotsOf (length t)) t n places) where
     pub ready-cells : (r : ℕ) → r < n → cellAt (cellIn (slotsOf (length t)) t (getD places r 0)) + 64 ≤ length memory
     ready-cells r l = omega (arith, listed-inside m e b t ok n places list r l)
+
+    pub ready-low : (top : ℕ) → EndsAt (slotsOf (length t)) t top → (r : ℕ) → r < n → getD places r 0 < top
+    ready-low top ends r l = turns-front e t top (ends .0) (ends .1) (live t) (getD places r 0) (list .slot r l) (list .goes r l)
 
     pub ready-performed : (k steps : ℕ) (b′ words changed t′ : List ℕ) (hs : List Store) (r : Report) → n ≡ count (cellsOf (length memory)) (advances (slotsOf (length t)) t)
         → b′ ≡ stores (take k (gather n (λ r. cellPlan memory (cellIn (slotsOf (length t)) t (getD places r 0)) (nth (bodiesOf (length bodies)) (unmarked used) r)))) bodies

@@ -1,6 +1,6 @@
 -- What the parts of advance's code pass on to each other: which cells advance, as bits; the list of the entries that advance, in the order of
 -- their cells; and what is staged for them.
-use Prim.Native.Nat.{ℕ, _+_, _≤_, _<_}
+use Prim.Native.Nat.{ℕ, _+_, _*_, _≤_, _<_}
 use mathlib.Core.Bool.{Bool, true, false, cond, not, _||_}
 use mathlib.Core.Path.{_≡_}
 use mathlib.Core.List.{List}
@@ -112,6 +112,10 @@ pub record InOrder (e : ℕ) (t : List ℕ) (n : ℕ) (places : List ℕ) : Type
   pub place : (i : ℕ) → i < e → turns (innermost t) (word1 e t i) ≡ true → getD places (rankOf e t i) 0 ≡ i
 
 -- ---- what is staged
+
+-- there is room to stage changes of the first n entries of the list: a bit for each of them, and two words for every bit
+abbrev pub RoomForListed : ℕ → (places words bits : List ℕ) → Type 0
+RoomForListed n places words bits = ((r : ℕ) → r < n → getD places r 0 < groupAt (length bits)) × (2 * groupAt (length bits) ≤ length words)
 
 -- the change of entry i once the first r entries of the list are staged: of b bodies, each takes the lowest unmarked one that is left
 unfoldable pub changeTo : (e b : ℕ) → (t used : List ℕ) → (r i : ℕ) → Change

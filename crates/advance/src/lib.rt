@@ -62,11 +62,11 @@ ghost use Rattle.marks.specs.Blocks.{blockOf, blockAt, maxGroups, directoryEnd,
 ghost use Rattle.table.specs.Marks.{Blank, Marked, EndsAt, Reached, RoomForMarks, cellIn, has, markAt, zeros};
 ghost use Rattle.table.specs.Changes.{keep, put};
 ghost use Rattle.search.specs.Free.{copies, unmarked};
-ghost use Rattle.changes.specs.Staged.{Inside, Restaged, Stages};
+ghost use Rattle.changes.specs.Staged.{RoomFor, Inside, Restaged, Stages};
 ghost use Rattle.store.specs.Outcome.{buffers, report, Makes};
 ghost use Rattle.store.specs.Means.{Shows};
 ghost use Rattle.advance.specs.Advance.{advances, advanceCheck, advanceCall, advanceMeans, turns};
-ghost use Rattle.advance.specs.Notes.{entriesCheck, byGroup, hasBit, BlockBits, markTurning, TurnedBits, Ready, Told, performed, Ends, OwnBits, listSlot, ListedSlots, InOrder, changeTo};
+ghost use Rattle.advance.specs.Notes.{entriesCheck, byGroup, hasBit, BlockBits, markTurning, TurnedBits, Ready, Told, performed, Ends, OwnBits, listSlot, ListedSlots, InOrder, RoomForListed, changeTo};
 
 // ---- the questions: 0, or the number of the first no
 
@@ -297,7 +297,7 @@ fn copy_entry(
 )
     requires small { ⌜ (i < slots) × (slots ≤ maxSlots) × (pairsAt slots ≤ length (now table)) ⌝ }
     requires inside { ⌜ (cellAt (cellIn slots (now table) i) + cellSize ≤ length (now memory)) × (cellAt body + cellSize ≤ length (now bodies)) × (body < maxBodies) ⌝ }
-    requires room { ⌜ (2 * slots ≤ length (now words)) × (slots ≤ groupAt (length (now changed))) ⌝ }
+    requires room { ⌜ RoomFor (i + 1) (now words) (now changed) ⌝ }
     ensures copied { λ _. ⌜ now (bodies .exit)
         ≡ stores (take budget (cellPlan (now (memory .entry)) (cellIn slots (now (table .entry)) i) body)) (now (bodies .entry)) ⌝ }
     ensures staged { λ _. ⌜ Restaged (now (words .entry)) (now (changed .entry)) i (put (asCopy (word1 slots (now (table .entry)) i)) body)
@@ -325,7 +325,7 @@ fn copy_listed(
     requires small { ⌜ (slots ≤ maxSlots) × (pairsAt slots ≤ length (now table)) × (n ≤ slots) × (n ≤ length (now places)) ⌝ }
     requires free { ⌜ (bodiesOf (length (now bodies)) ≤ maxBodies) × (length (now used) ≡ maxBodies) × (n ≤ count (bodiesOf (length (now bodies))) (unmarked (now used))) ⌝ }
     requires listed { ⌜ InOrder slots (now table) n (now places) × ((r : ℕ) → r < n → cellAt (cellIn slots (now table) (getD (now places) r 0)) + cellSize ≤ length (now memory)) ⌝ }
-    requires room { ⌜ (2 * slots ≤ length (now words)) × (slots ≤ groupAt (length (now changed))) ⌝ }
+    requires room { ⌜ RoomForListed n (now places) (now words) (now changed) ⌝ }
     requires blank { ⌜ Stages 0 (λ _. keep) (now words) (now changed) ⌝ }
     ensures bytes { λ _. ⌜ now (bodies .exit)
         ≡ stores (take budget (gather n (λ r. cellPlan (now (memory .entry)) (cellIn slots (now (table .entry)) (getD (now (places .entry)) r 0))
@@ -361,7 +361,7 @@ fn store_listed(
     requires ready { ⌜ Ready (length (now memory)) (length (now bodies)) (now table) (now used) × (length (now used) ≡ maxBodies) ⌝ }
     requires listed { ⌜ InOrder (slotsOf (length (now table))) (now table) n (now places) × (n ≤ length (now places)) ⌝ }
     requires counted { ⌜ n ≡ count (cellsOf (length (now memory))) (advances (slotsOf (length (now table))) (now table)) ⌝ }
-    requires room { ⌜ (2 * slotsOf (length (now table)) ≤ length (now words)) × (slotsOf (length (now table)) ≤ groupAt (length (now changed))) ⌝ }
+    requires room { ⌜ RoomForListed n (now places) (now words) (now changed) ⌝ }
     requires blank { ⌜ Stages 0 (λ _. keep) (now words) (now changed) ⌝ }
     ensures { λ r. ⌜ Makes performed budget (buffers (now (memory .entry)) (now (bodies .entry)) (now (table .entry)))
         (report r) (buffers (now (memory .entry)) (now (bodies .exit)) (now (table .exit))) ⌝ }
@@ -404,8 +404,8 @@ fn advance_marked(
 ) -> Answer
     requires ready { ⌜ Ready (length (now memory)) (length (now bodies)) (now table) (now used) × (length (now used) ≡ maxBodies) ⌝ }
     requires told { ⌜ Told (now table) top (now seen) (now bits) ⌝ }
-    requires list { ⌜ (length (now ends) ≡ length (now bits)) × (slotsOf (length (now table)) ≤ length (now places)) ⌝ }
-    requires room { ⌜ (2 * slotsOf (length (now table)) ≤ length (now words)) × (slotsOf (length (now table)) ≤ groupAt (length (now changed))) ⌝ }
+    requires list { ⌜ (length (now ends) ≡ length (now bits)) × (top ≤ length (now places)) ⌝ }
+    requires room { ⌜ RoomFor top (now words) (now changed) ⌝ }
     requires blank { ⌜ Stages 0 (λ _. keep) (now words) (now changed) ⌝ }
     ensures { λ r. ⌜ Makes performed budget (buffers (now (memory .entry)) (now (bodies .entry)) (now (table .entry)))
         (report r) (buffers (now (memory .entry)) (now (bodies .exit)) (now (table .exit))) ⌝ }
@@ -466,8 +466,8 @@ fn many_places() -> [u16; 4096] {
     [0u16; 4096]
 }
 
-// What is needed only once no question refuses the call is made here, so that it can stand where question 4 had its copy of the table: for a table
-// of few slots, where clearing arrays for the most would take longer than all else.
+// What is needed only once no question refuses the call is made here, so that it can stand where question 4 had its copy of the table: for few
+// entries, where clearing arrays for the most would take longer than all else. No entry from `top` on is in use, so none of these is listed.
 fn store_few(
     memory: &[u8],
     bodies: &mut [u8],
@@ -481,7 +481,7 @@ fn store_few(
 ) -> Answer
     requires ready { ⌜ Ready (length (now memory)) (length (now bodies)) (now table) (now used) × (length (now used) ≡ maxBodies) ⌝ }
     requires told { ⌜ Told (now table) top (now seen) (now bits) ⌝ }
-    requires sized { ⌜ (length (now ends) ≡ length (now bits)) × (slotsOf (length (now table)) ≤ 256) ⌝ }
+    requires sized { ⌜ (length (now ends) ≡ length (now bits)) × (top ≤ 256) ⌝ }
     ensures { λ r. ⌜ Makes performed budget (buffers (now (memory .entry)) (now (bodies .entry)) (now (table .entry)))
         (report r) (buffers (now (memory .entry)) (now (bodies .exit)) (now (table .exit))) ⌝ }
 {
@@ -504,7 +504,7 @@ fn store_few(
     )
 }
 
-// The same for any table.
+// The same for as many entries as there can be.
 fn store_many(
     memory: &[u8],
     bodies: &mut [u8],
@@ -559,7 +559,7 @@ fn advance_stored(
     ensures { λ r. ⌜ Makes performed budget (buffers (now (memory .entry)) (now (bodies .entry)) (now (table .entry)))
         (report r) (buffers (now (memory .entry)) (now (bodies .exit)) (now (table .exit))) ⌝ }
 {
-    if slots_of(table.len()) <= FEW_SLOTS {
+    if top <= FEW_SLOTS {
         return store_few(memory, bodies, table, top, seen, used, bits, ends, budget);
     }
     store_many(memory, bodies, table, top, seen, used, bits, ends, budget)

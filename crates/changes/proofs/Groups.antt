@@ -1,10 +1,10 @@
 -- The pass over the set bits of one word, and over all words of bits. Assumes nothing.
-use Prim.Native.Nat.{ℕ, _+_, _-_, _*_, _≤_, _<_}
+use Prim.Native.Nat.{ℕ, _+_, _-_, _*_, _/_, _%_, _≤_, _<_, min}
 use mathlib.Core.Bool.{Bool, true, false}
 use mathlib.Core.List.{List, [], _++_, append-assoc, append-nil}
 use mathlib.Core.Path.{_≡_, refl, sym, ap, _∙_}
 use native.Mathlib.Omega.{arith}
-use lib.ListN.{length, getD, take, length-append}
+use lib.ListN.{length, getD, take, length-append, List·getD-eq-default}
 use Rattle.words.specs.Stores.{Store, stores, gather}
 use Rattle.words.specs.Journal.{pairPlans}
 use Rattle.words.proofs.Scan.{by-le, true≢, is-false}
@@ -112,15 +112,21 @@ module _ (e : ℕ) (words bits : List ℕ) (inside : Inside e bits) where
   pub group-inside : (k j : ℕ) → j < 64 → bitAt (getD bits k 0) j ≡ true → 64 * k + j < e
   group-inside k j l b = inside (64 * k + j) (set-at bits k j l ∙ b)
 
-  past-none : (i : ℕ) → e ≤ i → entryOut i ≡ []
+  unset-none : (i : ℕ) → isSet bits i ≡ false → entryOut i ≡ []
   unfolding staged
-  past-none i h =
-      let z : isSet bits i ≡ false = is-false (isSet bits i) (λ b. omega (arith, inside i b)) in
-      ap (λ (b : Bool). entryStores e i (entryOf b words i)) z
+  unset-none i z = ap (λ (b : Bool). entryStores e i (entryOf b words i)) z
 
-  -- from the last entry on nothing is added
-  pub all-passed : (n : ℕ) → e ≤ n → gather n entryOut ≡ gather e entryOut
-  all-passed n h = gather-skip entryOut e n h (λ i l b. past-none i l)
+  past-none : (i : ℕ) → e ≤ i → entryOut i ≡ []
+  past-none i h = unset-none i (is-false (isSet bits i) (λ b. omega (arith, inside i b)))
+
+  behind-none : (i : ℕ) → 64 * length bits ≤ i → entryOut i ≡ []
+  behind-none i h = unset-none i (bit-none (getD bits (i / 64) 0) (i % 64) (List·getD-eq-default bits 0 (omega arith)))
+
+  -- from the last entry on nothing is added, and nothing behind the last bit
+  pub all-passed : (n : ℕ) → min e (64 * length bits) ≤ n → gather n entryOut ≡ gather e entryOut
+  all-passed n h =
+      by-le e n (λ l. gather-skip entryOut e n l (λ i a b. past-none i a))
+      (λ l. sym (gather-skip entryOut n e (omega arith) (λ i a b. behind-none i (omega arith))))
 
   never-more : (n : ℕ) → length (gather n entryOut) ≤ 2 * e
   never-more n =

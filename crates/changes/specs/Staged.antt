@@ -6,7 +6,7 @@ use mathlib.Core.Path.{_≡_}
 use lib.Bits.{bitOr}
 use lib.Dec.{eqb, ltb}
 use lib.ListN.{length, getD, set, take}
-use Rattle.words.specs.Layout.{pairsAt, maxPairs, handleAt, maxLive, groupSize, groupOf, inGroup}
+use Rattle.words.specs.Layout.{pairsAt, maxPairs, handleAt, maxLive, groupSize, groupAt, groupOf, inGroup}
 use Rattle.words.specs.Stores.{Store, _≔_, stores, tab, gather}
 use Rattle.words.specs.Journal.{journal}
 use Rattle.table.specs.Changes.{Change, keep, put, isChanged, entryStores}
@@ -36,6 +36,10 @@ withBit b j w = cond b (bitOr w (2 ^ j)) w
 -- bit i of a run of 64-bit words, lowest bit of the first word first
 abbrev pub isSet : List ℕ → ℕ → Bool
 isSet bits i = bitAt (getD bits (groupOf i) 0) (inGroup i)
+
+-- there is room to stage changes of the first n entries: a bit for each of them, and two words for every bit
+abbrev pub RoomFor : ℕ → (words bits : List ℕ) → Type 0
+RoomFor n words bits = (n ≤ groupAt (length bits)) × (2 * groupAt (length bits) ≤ length words)
 
 -- every bit that is set is one of the first e
 abbrev pub Inside : ℕ → List ℕ → Type 0

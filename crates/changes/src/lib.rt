@@ -6,6 +6,7 @@ use table::write_entry;
 use words::finish_journal;
 use words::layout::GROUP_SIZE;
 use words::layout::pairs_at;
+use words::least;
 use words::remaining;
 use words::write_pair;
 ghost use mathlib.Core.Path.{_≡_};
@@ -165,7 +166,7 @@ fn write_group(
     words: &[u32],
     budget: usize,
 ) -> usize
-    requires small { ⌜ (slots ≤ maxSlots) × (base ≤ maxSlots) × (2 * slots ≤ length (now words)) ⌝ }
+    requires small { ⌜ (slots ≤ maxSlots) × (base ≤ maxSlots) × (2 * (base + groupSize) ≤ length (now words)) ⌝ }
     requires inside { ⌜ ((j : ℕ) → j < groupSize → bitAt bits j ≡ true → base + j < slots) ⌝ }
     requires room { ⌜ at + 2 * length (group slots base bits (now words)) ≤ length (now table) ⌝ }
     ensures counted { λ r. ⌜ r ≡ length (group slots base bits (now (words .entry))) ⌝ }
@@ -190,7 +191,8 @@ fn write_group(
     n
 }
 
-// Writes the pairs of all staged entries from index `at` on, and returns their number.
+// Writes the pairs of all staged entries from index `at` on, and returns their number. There may be fewer bits than slots: a call clears bits
+// and words for as many entries as it may change, and an entry behind them stays.
 fn write_entries(
     table: &mut [u32],
     slots: usize,
@@ -199,15 +201,16 @@ fn write_entries(
     changed: &[u64],
     budget: usize,
 ) -> usize
-    requires small { ⌜ (slots ≤ maxSlots) × (2 * slots ≤ length (now words)) × (slots ≤ groupAt (length (now changed))) ⌝ }
+    requires small { ⌜ (slots ≤ maxSlots) × (2 * groupAt (length (now changed)) ≤ length (now words)) ⌝ }
     requires inside { ⌜ Inside slots (now changed) ⌝ }
     requires room { ⌜ at + 4 * slots ≤ length (now table) ⌝ }
     ensures counted { λ r. ⌜ r ≡ length (entryChanges slots (staged (now (words .entry)) (now (changed .entry)))) ⌝ }
     ensures words { λ _. ⌜ now (table .exit) ≡ stores (take budget (pairPlans at (entryChanges slots (staged (now (words .entry)) (now (changed .entry)))))) (now (table .entry)) ⌝ }
 {
+    let end = least(slots, GROUP_SIZE * changed.len());
     let mut n: usize = 0;
     let mut k: usize = 0;
-    while GROUP_SIZE * k < slots {
+    while GROUP_SIZE * k < end {
         n += write_group(
             table,
             slots,
@@ -243,7 +246,7 @@ pub fn write_staged(
     changed: &[u64],
     budget: usize,
 ) -> usize
-    requires small { ⌜ (slots ≤ maxSlots) × (length (now table) ≡ tableWords slots) × (2 * slots ≤ length (now words)) × (slots ≤ groupAt (length (now changed))) ⌝ }
+    requires small { ⌜ (slots ≤ maxSlots) × (length (now table) ≡ tableWords slots) × (2 * groupAt (length (now changed)) ≤ length (now words)) ⌝ }
     requires heads { ⌜ HeadOk head ⌝ }
     requires inside { ⌜ Inside slots (now changed) ⌝ }
     ensures { λ r. ⌜ Journaled slots (headStores head ++ entryChanges slots (staged (now (words .entry)) (now (changed .entry)))) budget

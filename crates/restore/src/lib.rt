@@ -62,7 +62,7 @@ ghost use Rattle.table.specs.Entry.{live, word1, depthOf};
 ghost use Rattle.marks.specs.Blocks.{maxGroups, cellsIn, Kept, Enough};
 ghost use Rattle.table.specs.Marks.{Marked, EndsAt, Reached, AllMarked, RoomForMarks};
 ghost use Rattle.table.specs.Rule.{ruleOk};
-ghost use Rattle.changes.specs.Staged.{Turned, Stages, HeadOk, headStores, Journaled};
+ghost use Rattle.changes.specs.Staged.{RoomFor, Turned, Stages, HeadOk, headStores, Journaled};
 ghost use Rattle.store.specs.Outcome.{buffers, report, Makes};
 ghost use Rattle.store.specs.Means.{Shows};
 ghost use Rattle.restore.specs.Restore.{restoreCheck, restoreBytes, restoreChange, restoreWords, restoreCall, restoreMeans};
@@ -442,7 +442,7 @@ fn any_deeper(table: &[u32], slots: usize, depth: u32, from: usize, end: usize) 
 
 // One slot of the pass: an entry deeper than this depth is freed. Says whether it is.
 fn stage_turn(table: &[u32], slots: usize, depth: u32, words: &mut [u32], i: usize) -> bool
-    requires { ⌜ (i < slots) × (slots ≤ maxSlots) × (length (now table) ≡ tableWords slots) × (2 * slots ≤ length (now words)) ⌝ }
+    requires { ⌜ (i < slots) × (slots ≤ maxSlots) × (length (now table) ≡ tableWords slots) × (2 * i + 1 < length (now words)) ⌝ }
     ensures { λ r. ⌜ Turned (restoreChange slots (now (table .entry)) depth i) i (now (words .entry)) (now (words .exit)) r ⌝ }
 {
     if !is_inside(depth, depth_of(first_word(table, slots, i))) {
@@ -452,20 +452,21 @@ fn stage_turn(table: &[u32], slots: usize, depth: u32, words: &mut [u32], i: usi
     true
 }
 
-// 64 slots, or fewer at the end. Most groups have no entry that is freed, and are passed over.
+// 64 slots, or fewer before `top`. Most groups have no entry that is freed, and are passed over.
 fn stage_group(
     table: &[u32],
     slots: usize,
+    top: usize,
     depth: u32,
     words: &mut [u32],
     changed: &mut [u64],
     k: usize,
 )
-    requires { ⌜ (groupAt k < slots) × (slots ≤ maxSlots) × (length (now table) ≡ tableWords slots) × (2 * slots ≤ length (now words)) × (slots ≤ groupAt (length (now changed))) ⌝ }
+    requires { ⌜ (groupAt k < top) × (top ≤ slots) × (slots ≤ maxSlots) × (length (now table) ≡ tableWords slots) × RoomFor top (now words) (now changed) ⌝ }
     requires { ⌜ Stages (groupAt k) (restoreChange slots (now table) depth) (now words) (now changed) ⌝ }
-    ensures { λ _. ⌜ Stages (min slots (groupAt k + groupSize)) (restoreChange slots (now (table .entry)) depth) (now (words .exit)) (now (changed .exit)) ⌝ }
+    ensures { λ _. ⌜ Stages (min top (groupAt k + groupSize)) (restoreChange slots (now (table .entry)) depth) (now (words .exit)) (now (changed .exit)) ⌝ }
 {
-    let end = least(slots, GROUP_SIZE * k + GROUP_SIZE);
+    let end = least(top, GROUP_SIZE * k + GROUP_SIZE);
     if !any_deeper(table, slots, depth, GROUP_SIZE * k, end) {
         return;
     }
@@ -491,13 +492,13 @@ fn stage_freed(
     words: &mut [u32],
     changed: &mut [u64],
 )
-    requires { ⌜ (slots ≤ maxSlots) × (length (now table) ≡ tableWords slots) × (2 * slots ≤ length (now words)) × (slots ≤ groupAt (length (now changed))) ⌝ }
+    requires { ⌜ (slots ≤ maxSlots) × (length (now table) ≡ tableWords slots) × RoomFor top (now words) (now changed) ⌝ }
     requires { ⌜ EndsAt slots (now table) top × Stages 0 (restoreChange slots (now table) depth) (now words) (now changed) ⌝ }
     ensures { λ _. ⌜ Stages slots (restoreChange slots (now (table .entry)) depth) (now (words .exit)) (now (changed .exit)) ⌝ }
 {
     let mut k: usize = 0;
     while GROUP_SIZE * k < top {
-        stage_group(table, slots, depth, words, changed, k);
+        stage_group(table, slots, top, depth, words, changed, k);
         k += 1;
     }
 }
@@ -514,7 +515,7 @@ fn end_domains(
     budget: usize,
 ) -> usize
     requires { ⌜ (slots ≤ maxSlots) × (length (now table) ≡ tableWords slots) × (depth ≤ live) × (live ≤ maxLive)
-        × (2 * slots ≤ length (now words)) × (slots ≤ groupAt (length (now changed))) ⌝ }
+        × RoomFor top (now words) (now changed) ⌝ }
     requires { ⌜ EndsAt slots (now table) top × Stages 0 (restoreChange slots (now table) depth) (now words) (now changed) ⌝ }
     ensures { λ r. ⌜ Journaled slots (endingWords slots (now (table .entry)) depth live) budget (now (table .entry)) r (now (table .exit)) ⌝ }
 {
@@ -529,7 +530,7 @@ fn end_domains(
     )
 }
 
-// The same with arrays for a table of few slots.
+// The same with arrays for few entries, where `top` is so low.
 fn end_few(
     table: &mut [u32],
     slots: usize,
@@ -538,7 +539,7 @@ fn end_few(
     live: u32,
     budget: usize,
 ) -> usize
-    requires { ⌜ (slots ≤ 256) × (length (now table) ≡ tableWords slots) × EndsAt slots (now table) top × (depth ≤ live) × (live ≤ maxLive) ⌝ }
+    requires { ⌜ (top ≤ 256) × (slots ≤ maxSlots) × (length (now table) ≡ tableWords slots) × EndsAt slots (now table) top × (depth ≤ live) × (live ≤ maxLive) ⌝ }
     ensures { λ r. ⌜ Journaled slots (endingWords slots (now (table .entry)) depth live) budget (now (table .entry)) r (now (table .exit)) ⌝ }
 {
     let mut words = few_words();
@@ -555,7 +556,7 @@ fn end_few(
     )
 }
 
-// The same with arrays for any table.
+// The same with arrays for as many as there can be.
 fn end_many(
     table: &mut [u32],
     slots: usize,
@@ -582,7 +583,7 @@ fn end_many(
 }
 
 // Restore's part on the table, and its steps uncut. Where no domain ends, which is the usual case, nothing is staged, so the arrays for it are
-// made here and not beside the marks: that case clears none.
+// made here and not beside the marks: that case clears none. Only entries in front of `top` can be freed.
 fn restore_words(table: &mut [u32], top: usize, depth: u32, budget: usize) -> usize
     requires { ⌜ (slotsOf (length (now table)) ≤ maxSlots) × (length (now table) ≡ tableWords (slotsOf (length (now table))))
         × EndsAt (slotsOf (length (now table))) (now table) top × (depth ≤ live (now table)) × (live (now table) ≤ maxLive) ⌝ }
@@ -593,7 +594,7 @@ fn restore_words(table: &mut [u32], top: usize, depth: u32, budget: usize) -> us
         return 0;
     }
     let slots = slots_of(table.len());
-    if slots <= FEW_SLOTS {
+    if top <= FEW_SLOTS {
         return end_few(table, slots, top, depth, live, budget);
     }
     end_many(table, slots, top, depth, live, budget)

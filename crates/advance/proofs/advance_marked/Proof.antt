@@ -7,7 +7,7 @@ use lib.ListN.{length}
 use Rattle.words.specs.Layout.{cellsOf, groupAt}
 use Rattle.store.proofs.Checks.{store-lengths}
 use Rattle.advance.specs.Notes.{byGroup}
-use Rattle.advance.proofs.Performing.{ready-few, ready-own, ready-count, ready-inside, ready-order}
+use Rattle.advance.proofs.Performing.{ready-front, ready-own, ready-count, ready-inside, ready-order, ready-low}
 use Rattle.advance.proofs.advance_marked.Statement.{statement}
 use Rattle.advance.proofs.advance_marked.Tie as tie
 
@@ -32,7 +32,7 @@ list-slots-requires c κs = let a = c .before .before .before .before .before .b
     let told = c .before .before .before .before .before .before .before .before .before .before .before .before .before .before .before .before .pre .1 .0 in
     let list = c .before .before .before .before .before .before .before .before .before .before .before .before .before .before .before .before .pre .1 .1 .0 in
     let f = store-lengths _ _ (a .table .now) (ready .stands) in
-    let few = ready-few (a .memory .now) (a .bodies .now) (a .table .now) (a .used .now) ready in
+    let few = ready-front (a .memory .now) (a .bodies .now) (a .table .now) (a .used .now) ready (a .top) (told .ends) in
     let x = byGroup (a .seen .now) (a .bits .now) in
     let number = ready-count (a .memory .now) (a .bodies .now) (a .table .now) (a .used .now) ready x (told .cells) in
     let reach : cellsOf (length (a .memory .now)) ≤ groupAt (c .before .before .before .before .group-of .result) = omega (arith, c .before .before .before .before .group-of .ensures, c .before .before .before .before .before .cells-of .ensures) in
@@ -42,7 +42,7 @@ list-slots-requires c κs = let a = c .before .before .before .before .before .b
         (told .blocks, list .0),
         (
           (omega (arith, c .before .before .before .before .group-of .ensures, c .before .before .before .before .before .cells-of .ensures, f .cells-high), ready-inside (a .memory .now) (a .bodies .now) (a .table .now) (a .used .now) ready x (told .cells) (c .before .before .before .before .group-of .result) reach),
-          (omega (arith, number, few, f .slots-high, list .1), ready-own (a .memory .now) (a .bodies .now) (a .table .now) (a .used .now) ready x (told .cells)),
+          (omega (arith, number, few, f .slots-high, told .ends .0, list .1), ready-own (a .memory .now) (a .bodies .now) (a .table .now) (a .used .now) ready x (told .cells)),
         ),
       ),
     )
@@ -52,10 +52,12 @@ store-listed-requires c κs = let a = c .before .before .before .before .before 
     let ready = c .before .before .before .before .before .before .before .before .before .before .before .before .before .before .before .before .before .before .before .before .before .before .before .before .before .before .pre .0 .0 in
     let told = c .before .before .before .before .before .before .before .before .before .before .before .before .before .before .before .before .before .before .before .before .before .before .before .before .before .before .pre .1 .0 in
     let x = byGroup (a .seen .now) (a .bits .now) in
-    let few = ready-few (a .memory .now) (a .bodies .now) (a .table .now) (a .used .now) ready in
+    let few = ready-front (a .memory .now) (a .bodies .now) (a .table .now) (a .used .now) ready (a .top) (told .ends) in
     let number = c .before .before .before .before .before .before .before .before .before .list-slots .ensures .0 ∙ ready-count (a .memory .now) (a .bodies .now) (a .table .now) (a .used .now) ready x (told .cells) in
     let list = ready-order (a .memory .now) (a .bodies .now) (a .table .now) (a .used .now) ready x (told .cells) _ _ number (rw (c .before .before .before .before .before .before .before .before .before .before .before .before .before .slots-of .ensures) at (c .before .before .before .before .before .before .before .before .before .list-slots .ensures .1)) in
-    (c .before .before .before .before .before .before .before .before .before .before .before .before .before .before .before .before .before .before .before .before .before .before .before .before .before .before .pre .0, ((list, omega (arith, number, few, c .before .before .before .before .before .before .before .before .before .before .before .before .before .before .before .before .before .before .before .before .before .before .before .before .before .before .pre .1 .1 .0 .1, c .before .before .before .before .before .before .before .before .before .list-slots .kept .1 .1 .1 .1 .1 .1 .1 .0)), (number, (c .before .before .before .before .before .before .before .before .before .before .before .before .before .before .before .before .before .before .before .before .before .before .before .before .before .before .pre .1 .1 .1 .0, c .before .before .before .before .before .before .before .before .before .before .before .before .before .before .before .before .before .before .before .before .before .before .before .before .before .before .pre .1 .1 .1 .1))))
+    let low = ready-low (a .memory .now) (a .bodies .now) (a .table .now) (a .used .now) ready _ _ list (a .top) (told .ends) in
+    let room = c .before .before .before .before .before .before .before .before .before .before .before .before .before .before .before .before .before .before .before .before .before .before .before .before .before .before .pre .1 .1 .1 .0 in
+    (c .before .before .before .before .before .before .before .before .before .before .before .before .before .before .before .before .before .before .before .before .before .before .before .before .before .before .pre .0, ((list, omega (arith, number, few, c .before .before .before .before .before .before .before .before .before .before .before .before .before .before .before .before .before .before .before .before .before .before .before .before .before .before .pre .1 .1 .0 .1, c .before .before .before .before .before .before .before .before .before .list-slots .kept .1 .1 .1 .1 .1 .1 .1 .0)), (number, ((λ r l. omega (arith, low r l, room .0), room .1), c .before .before .before .before .before .before .before .before .before .before .before .before .before .before .before .before .before .before .before .before .before .before .before .before .before .before .pre .1 .1 .1 .1))))
 
 same-length : tie.Need-same-length
 same-length c = search needs

@@ -1,14 +1,10 @@
 -- `advance::advance_stored` meets its contract. Assumes nothing.
-use native.Mathlib.Omega.{arith}
 use borrow.Author.Needs.{needs}
 use Rattle.advance.proofs.advance_stored.Statement.{statement}
 use Rattle.advance.proofs.advance_stored.Tie as tie
 
-slots-of-requires : tie.Need-slots-of-requires
-slots-of-requires c κs = search needs
-
 store-few-requires : tie.Need-store-few-requires
-store-few-requires c κs = (c .before .before .before .before .before .before .before .before .before .before .before .before .pre .0, (c .before .before .before .before .before .before .before .before .before .before .before .before .pre .1 .0, (c .before .before .before .before .before .before .before .before .before .before .before .before .pre .1 .1, omega (arith, c .before .before .before .if1 .taken, c .before .before .before .before .slots-of .ensures))))
+store-few-requires c κs = (c .before .before .before .before .before .before .before .before .before .before .before .pre .0, (c .before .before .before .before .before .before .before .before .before .before .before .pre .1 .0, (c .before .before .before .before .before .before .before .before .before .before .before .pre .1 .1, c .before .before .before .if1 .taken)))
 
 same-length : tie.Need-same-length
 same-length c = search needs
@@ -23,7 +19,7 @@ returns : tie.Need-returns
 returns c = search needs
 
 store-many-requires : tie.Need-store-many-requires
-store-many-requires c κs = c .before .before .before .before .before .before .before .before .before .before .before .before .pre
+store-many-requires c κs = search needs
 
 same-length-4 : tie.Need-same-length-4
 same-length-4 c = search needs
@@ -41,7 +37,6 @@ pub advance-stored-spec : {M : Type 1} → statement M
 advance-stored-spec =
     tie.close
     (tie.spec
-    slots-of-requires
     store-few-requires
     same-length
     same-length-2

@@ -75,7 +75,7 @@ copy-entry-requires c κs =
     let low = unmarked-below (a .used .now) (bodiesOf (length (a .bodies .now))) (s .at) (s .r) (s .inv .1) (s .inv .2) (omega (arith, here, c .before .before .before .before .before .before .before .before .before .before .before .before .before .before .before .before .pre .1 .0 .2)) in
     let list = c .before .before .before .before .before .before .before .before .before .before .before .before .before .before .before .before .pre .1 .1 .0 in (
       (list .0 .slot (s .r) here, c .before .before .before .before .before .before .before .before .before .before .before .before .before .before .before .before .pre .0 .0, c .before .before .before .before .before .before .before .before .before .before .before .before .before .before .before .before .pre .0 .1),
-      ((list .1 (s .r) here, omega (arith, low, body, s .inv .3), omega (arith, low, body, c .before .before .before .before .before .before .before .before .before .before .before .before .before .before .before .before .pre .1 .0 .0)), (omega (arith, s .inv .4, c .before .before .before .before .before .before .before .before .before .before .before .before .before .before .before .before .pre .1 .1 .1 .0), omega (arith, s .inv .5, c .before .before .before .before .before .before .before .before .before .before .before .before .before .before .before .before .pre .1 .1 .1 .0))),
+      ((list .1 (s .r) here, omega (arith, low, body, s .inv .3), omega (arith, low, body, c .before .before .before .before .before .before .before .before .before .before .before .before .before .before .before .before .pre .1 .0 .0)), (omega (arith, s .inv .5, c .before .before .before .before .before .before .before .before .before .before .before .before .before .before .before .before .pre .1 .1 .1 .0 .0 (s .r) here), omega (arith, s .inv .4, s .inv .5, c .before .before .before .before .before .before .before .before .before .before .before .before .before .before .before .before .pre .1 .1 .1 .0 .1))),
     )
 
 add-at : tie.Need-add-at Inv-loop μ-loop

@@ -43,7 +43,7 @@ write-staged-requires c κs =
     let f = store-lengths _ _ (a .table .now) (c .before .before .before .before .before .before .before .before .before .before .before .before .before .before .before .before .before .before .before .before .before .before .before .before .pre .0 .0 .stands) in
     let words = c .before .before .before .before .before .before .before .before .before .before .before .copy-listed .kept .1 .1 .1 .1 .1 .1 .1 .0 in
     let changed = c .before .before .before .before .before .before .before .before .before .before .before .copy-listed .kept .1 .1 .1 .1 .1 .1 .1 .1 .0 in
-    ((omega (arith, q, f .slots-high), rw q (f .table-exact), omega (arith, q, words, c .before .before .before .before .before .before .before .before .before .before .before .before .before .before .before .before .before .before .before .before .before .before .before .before .pre .1 .1 .1 .0), omega (arith, q, changed, c .before .before .before .before .before .before .before .before .before .before .before .before .before .before .before .before .before .before .before .before .before .before .before .before .pre .1 .1 .1 .0)), (c .before .before .no-head .ensures .0, stages-inside (c .before .before .before .before .before .before .before .before .before .before .before .copy-listed .ensures .1)))
+    ((omega (arith, q, f .slots-high), rw q (f .table-exact), omega (arith, words, changed, c .before .before .before .before .before .before .before .before .before .before .before .before .before .before .before .before .before .before .before .before .before .before .before .before .pre .1 .1 .1 .0 .1)), (c .before .before .no-head .ensures .0, stages-inside (c .before .before .before .before .before .before .before .before .before .before .before .copy-listed .ensures .1)))
 
 mul-answer-of : tie.Need-mul-answer-of
 mul-answer-of c =

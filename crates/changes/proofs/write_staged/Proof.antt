@@ -40,7 +40,7 @@ remaining-requires c κs = search needs
 
 -- src/lib.rt:256:9
 write-entries-requires : tie.Need-write-entries-requires
-write-entries-requires c κs = ((c .before .before .before .before .before .before .before .before .before .before .pre .0 .0, c .before .before .before .before .before .before .before .before .before .before .pre .0 .2, c .before .before .before .before .before .before .before .before .before .before .pre .0 .3), (c .before .before .before .before .before .before .before .before .before .before .pre .1 .1, omega (arith, c .before .before .before .before .before .before .before .before .before .before .pre .1 .0 .few, c .before .before .before .before .before .before .pairs-at .ensures, c .before .before .before .before .write-head .kept .0)))
+write-entries-requires c κs = ((c .before .before .before .before .before .before .before .before .before .before .pre .0 .0, c .before .before .before .before .before .before .before .before .before .before .pre .0 .2), (c .before .before .before .before .before .before .before .before .before .before .pre .1 .1, omega (arith, c .before .before .before .before .before .before .before .before .before .before .pre .1 .0 .few, c .before .before .before .before .before .before .pairs-at .ensures, c .before .before .before .before .write-head .kept .0)))
 
 -- src/lib.rt:264:31
 add-finish-journal : tie.Need-add-finish-journal

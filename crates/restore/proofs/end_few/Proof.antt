@@ -17,7 +17,7 @@ slice-aggregate-end-domains-2 : tie.Need-slice-aggregate-end-domains-2
 slice-aggregate-end-domains-2 c = search needs
 
 end-domains-requires : tie.Need-end-domains-requires
-end-domains-requires c κs = (search needs, (c .before .before .before .before .before .before .pre .2, stages-start 4 (c .before .before .before .few-bits .ensures)))
+end-domains-requires c κs = (search needs, (c .before .before .before .before .before .before .pre .3, stages-start 4 (c .before .before .before .few-bits .ensures)))
 
 same-length : tie.Need-same-length
 same-length c = search needs

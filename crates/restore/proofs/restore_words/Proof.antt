@@ -14,7 +14,7 @@ slots-of-requires : tie.Need-slots-of-requires
 slots-of-requires c κs = search needs
 
 end-few-requires : tie.Need-end-few-requires
-end-few-requires c κs = (search needs, search needs, rw (c .before .before .slots-of .ensures) (c .before .before .before .before .before .before .pre .2), search needs, search needs)
+end-few-requires c κs = (search needs, search needs, search needs, rw (c .before .before .slots-of .ensures) (c .before .before .before .before .before .before .pre .2), search needs, search needs)
 
 same-length : tie.Need-same-length
 same-length c = search needs

@@ -12,7 +12,7 @@ use Rattle.restore.proofs.stage_freed.Statement.{statement}
 use Rattle.restore.proofs.stage_freed.Tie as tie
 
 abbrev Inv-loop : tie.InvT-loop
-Inv-loop table slots top depth words₀ changed₀ k₀ words changed k = (64 * k ≤ top + 63) × (length words ≡ length words₀) × (length changed ≡ length changed₀) × Stages (min slots (64 * k)) (restoreChange slots table depth) words changed
+Inv-loop table slots top depth words₀ changed₀ k₀ words changed k = (64 * k ≤ top + 63) × (length words ≡ length words₀) × (length changed ≡ length changed₀) × Stages (min top (64 * k)) (restoreChange slots table depth) words changed
 
 abbrev μ-loop : tie.MeasureT-loop
 μ-loop table slots top depth words₀ changed₀ k₀ words changed k = top + 64 - 64 * k
@@ -27,7 +27,7 @@ stage-group-requires : tie.Need-stage-group-requires Inv-loop μ-loop
 stage-group-requires c κs =
     let p = c .before .before .before .before .before .before .before .pre in
     let s = c .before .before .before .loop in
-    ((omega (arith, p .1 .0 .0), p .0 .0, p .0 .1, omega (arith, p .0 .2, s .inv .1), omega (arith, p .0 .3, s .inv .2)), stages-to (64 * s .k) (s .inv .3) (omega (arith, p .1 .0 .0)))
+    ((c .before .before .loop-test .taken, p .1 .0 .0, p .0 .0, p .0 .1, (omega (arith, p .0 .2 .0, s .inv .2), omega (arith, p .0 .2 .1, s .inv .1, s .inv .2))), stages-to (64 * s .k) (s .inv .3) (omega arith))
 
 add-k : tie.Need-add-k Inv-loop μ-loop
 add-k c = search needs
@@ -36,7 +36,7 @@ loop-less : tie.Need-loop-less Inv-loop μ-loop
 loop-less c = search needs
 
 loop-again : tie.Need-loop-again Inv-loop μ-loop
-loop-again c = (search needs, c .before .before .before .before .stage-group .kept .1 .1 .1 .0 ∙ c .before .before .before .before .before .before .before .before .loop .inv .1, c .before .before .before .before .stage-group .kept .1 .1 .1 .1 .0 ∙ c .before .before .before .before .before .before .before .before .loop .inv .2, stages-to _ (c .before .before .before .before .stage-group .ensures) (search needs))
+loop-again c = (search needs, c .before .before .before .before .stage-group .kept .1 .1 .1 .1 .0 ∙ c .before .before .before .before .before .before .before .before .loop .inv .1, c .before .before .before .before .stage-group .kept .1 .1 .1 .1 .1 .0 ∙ c .before .before .before .before .before .before .before .before .loop .inv .2, stages-to _ (c .before .before .before .before .stage-group .ensures) (search needs))
 
 same-length : tie.Need-same-length Inv-loop μ-loop
 same-length c = search needs

@@ -13,10 +13,10 @@ use Rattle.restore.proofs.stage_group.Statement.{statement}
 use Rattle.restore.proofs.stage_group.Tie as tie
 
 abbrev Inv-loop : tie.InvT-loop
-Inv-loop table slots depth words₀ changed k end bits₀ i₀ words bits i = (64 * k ≤ i) × (i ≤ end) × (length words ≡ length words₀) × Gathers k i (restoreChange slots table depth) words changed bits
+Inv-loop table slots top depth words₀ changed k end bits₀ i₀ words bits i = (64 * k ≤ i) × (i ≤ end) × (length words ≡ length words₀) × Gathers k i (restoreChange slots table depth) words changed bits
 
 abbrev μ-loop : tie.MeasureT-loop
-μ-loop table slots depth words₀ changed k end bits₀ i₀ words bits i = end - i
+μ-loop table slots top depth words₀ changed k end bits₀ i₀ words bits i = end - i
 
 mul-least : tie.Need-mul-least Inv-loop μ-loop
 mul-least c = search needs
