@@ -1,4 +1,5 @@
--- Entries that the walk passes over: where no label rises, entries in use keep their words, and so do all once every new cell is taken.
+-- Entries that the walk passes over: where no label rises, entries in use keep their words, and so do all once every new cell is taken. Those
+-- that it comes to lie before the end of what may change.
 -- Assumes nothing.
 use Prim.Native.Nat.{ℕ, zero, suc, _+_, _-_, _≤_, _<_}
 use mathlib.Core.Bool.{Bool, true, false, not, _||_}
@@ -7,21 +8,21 @@ use mathlib.Core.Path.{_≡_, refl, sym, ap, _∙_}
 use native.Mathlib.Nat.{not-suc-le-zero}
 use native.Mathlib.Numerals.{add-one}
 use native.Mathlib.Omega.{arith}
-use borrow.Author.Tests.{eqb-true, eqb-false, not-true}
+use borrow.Author.Tests.{eq-eqb, eqb-true, eqb-false, not-true}
 use lib.Dec.{eqb}
 use Rattle.words.specs.Scan.{count}
-use Rattle.words.proofs.Scan.{by-bool, by-le, is-true, is-false, count-not}
+use Rattle.words.proofs.Scan.{by-bool, by-le, is-true, is-false, count-le, count-not}
 use Rattle.words.proofs.Nth.{count-below}
 use Rattle.table.specs.Entry.{live, word1, word2, cellOf}
-use Rattle.table.specs.Marks.{markOf, has, Marked}
+use Rattle.table.specs.Marks.{markOf, has, Marked, EndsAt}
 use Rattle.table.specs.Changes.{keep}
 use Rattle.search.specs.Free.{slotFree}
-use Rattle.search.proofs.From.{from-ge}
+use Rattle.search.proofs.From.{from-ge, count-stop}
 use Rattle.changes.proofs.Staging.{stages-skip}
 use Rattle.add.specs.Add.{rises}
 use Rattle.add.specs.declared.Cursors.{Cursors}
 use Rattle.add.specs.declared.Range.{Range}
-use Rattle.add.specs.Walking.{unheld, newIn, nextUnheld, listChange, Stands, Walked, Skips}
+use Rattle.add.specs.Walking.{unheld, newIn, nextUnheld, listChange, Stands, Walked, endOf, Skips}
 use Rattle.add.proofs.Asking.{or-right}
 use Rattle.model.proofs.Ranges.{range-both}
 use Rattle.add.proofs.Choices.{rises-facts, rises-free, raise-no}
@@ -98,6 +99,20 @@ module _ (held used : List ℕ) (e b : ℕ) (t : List ℕ) (r : Range) where
       where
         never : {x : ℕ} → i ≤ x → x < suc n → i ≡ suc n → ⊥
         never l u z = omega arith
+
+    -- where the walk stands lies before the end: until the range is through, at most as many free slots are passed as cells of the range, and from
+    -- `top` on every slot is free
+    pub walk-ends : {top i : ℕ} → EndsAt e t top → Stands held used e b t r i c → (r .count ≤ c .at → i < top) → i < e → i < endOf e r top
+    walk-ends {top} {i} ends s over h =
+        by-le (r .count) (c .at)
+        (λ y. omega (arith, over y))
+        (λ y.
+        by-le top i
+        (λ l.
+        let free : count i (λ x. not (slotFree e t x)) ≡ count top (λ x. not (slotFree e t x)) =
+        count-stop i top (λ x. not (slotFree e t x)) l (λ x a b. ap not (eq-eqb (word1 e t x) 0 (ends .1 x a (omega arith) .0))) in
+        omega (arith, s .slots y, s .cells, free, count-not i (slotFree e t), count-le top (λ x. not (slotFree e t x)), count-le (c .at) (unheld held (live t) (r .first))))
+        (λ l. omega arith))
 
     pub walk-skip : Marked e t e held → 1 ≤ live t → (still taken : Bool) → still ≡ (eqb (r .label) 0 || eqb (newIn held (live t) r) (r .count))
         → (taken ≡ true → r .count ≤ c .at) → {i n : ℕ} {words bits : List ℕ} → Skips e t still taken i n

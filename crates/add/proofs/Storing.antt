@@ -98,6 +98,7 @@ module _ (memory bodies t : List ℕ) (range : Range) (r : Ready memory bodies t
         marks = m .cells;
         walk = walkable known many;
         bodies = none;
+        some = r .some;
         ends = ends;
       }
 

@@ -116,7 +116,7 @@ module _ (b : ℕ) (memory held used : List ℕ) (d base n : ℕ) where
 module _ (held used : List ℕ) (e b : ℕ) (t : List ℕ) (r : Range) where
   pub stands-start : (start : ℕ) → (r .kind ≡ 0 → NoneBelow used b start) → Stands held used e b t r 0 (record { at = 0; from = start })
   unfolding count
-  stands-start start h = record { cell = omega arith; cells = omega arith; body = λ z. h z .within; bodies = λ z. h z .none ∙ omega arith }
+  stands-start start h = record { cell = omega arith; cells = omega arith; slots = λ l. omega arith; body = λ z. h z .within; bodies = λ z. h z .none ∙ omega arith }
 
   module _ (i : ℕ) (c : Cursors) (s : Stands held used e b t r i c) where
     abbrev rank : ℕ
@@ -131,7 +131,7 @@ module _ (held used : List ℕ) (e b : ℕ) (t : List ℕ) (r : Range) where
       pub kept-stands : Stands held used e b t r (i + 1) c
       kept-stands =
           let same : count (i + 1) (slotFree e t) ≡ rank = count-more i (slotFree e t) ∙ rw in-use in
-          record { cell = s .cell; cells = rw same (s .cells); body = s .body; bodies = λ z. rw same (s .bodies z) }
+          record { cell = s .cell; cells = rw same (s .cells); slots = λ l. omega (arith, s .slots l); body = s .body; bodies = λ z. rw same (s .bodies z) }
 
     -- a free slot, where the next new cell is the j-th of the range
     module _ (free : slotFree e t i ≡ true) (j : ℕ) (found : j ≡ nextUnheld held (live t) (r .first) (r .count) (c .at)) where
@@ -152,6 +152,7 @@ module _ (held used : List ℕ) (e b : ℕ) (t : List ℕ) (r : Range) where
             record {
               cell = omega arith;
               cells = ap (λ (x : ℕ). count x (unheld held (live t) (r .first))) q ∙ omega (arith, rank-next, all-taken);
+              slots = λ l. omega arith;
               body = s .body;
               bodies = λ z. omega (arith, s .bodies z, rank-next, all-taken);
             }
@@ -189,6 +190,7 @@ module _ (held used : List ℕ) (e b : ℕ) (t : List ℕ) (r : Range) where
             record {
               cell = omega (arith, more);
               cells = rw found (cell-passed held (live t) (r .first) (r .count) (c .at) rank (s .cell) cells-here ranked ∙ sym step);
+              slots = λ l. omega (arith, rank-next, ranked);
               body = λ z. rw (body, eq-eqb (r .kind) 0 z) (omega (arith, unmarked-below used b (c .from) rank (s .body z) (s .bodies z ∙ here) (omega (arith, room z, ranked))));
               bodies = λ z. rw (body, eq-eqb (r .kind) 0 z) (unmarked-passed used b (c .from) rank (s .body z) (s .bodies z ∙ here) (omega (arith, room z, ranked)) ∙ sym step);
             }

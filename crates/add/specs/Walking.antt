@@ -131,10 +131,12 @@ pub record Walkable (held used : List ℕ) (e b : ℕ) (t : List ℕ) (r : Range
   pub places : b ≤ maxBodies
   pub enough : r .kind ≡ 0 → newIn held (innermost t) r ≤ count b (unmarked used)
 
--- i entries are passed: as many cells and bodies are used as free slots are passed, while there are new cells
+-- i entries are passed: as many cells and bodies are used as free slots are passed, while there are new cells; and no more free slots than there
+-- are new cells until the range is through
 pub record Stands (held used : List ℕ) (e b : ℕ) (t : List ℕ) (r : Range) (i : ℕ) (c : Cursors) : Type 0 where
   pub cell : c .at ≤ r .count
   pub cells : count (c .at) (unheld held (innermost t) (r .first)) ≡ min (count i (slotFree e t)) (newIn held (innermost t) r)
+  pub slots : c .at < r .count → count i (slotFree e t) ≤ newIn held (innermost t) r
   pub body : r .kind ≡ 0 → c .from ≤ b
   pub bodies : r .kind ≡ 0 → count (c .from) (unmarked used) ≡ min (count i (slotFree e t)) (newIn held (innermost t) r)
 
@@ -150,7 +152,12 @@ pub record Stageable (held used : List ℕ) (e b : ℕ) (t : List ℕ) (r : Rang
   pub marks : Marked e t e held
   pub walk : Walkable held used e b t r
   pub bodies : r .kind ≡ 0 → NoneBelow used b start
+  pub some : 1 ≤ r .count
   pub ends : EndsAt e t top
+
+-- no entry from here on changes: those from `top` on are free, and the lowest free slots are taken, at most one for each cell
+abbrev pub endOf : ℕ → Range → (top : ℕ) → ℕ
+endOf e r top = min e (top + r .count)
 
 -- the words of a range
 abbrev pub rangeWords : List ℕ → List ℕ → (e b : ℕ) → List ℕ → Range → List Store

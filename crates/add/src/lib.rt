@@ -4,8 +4,8 @@
 // the call goes on with them. Via parent is compared with notes of where the entries stand, which go before anything is staged. Then the range is
 // walked once for the bytes, and the entries once to stage those that are taken and those whose label rises. Where no label can rise that walk
 // goes from one free slot to the next, and ends with the last new cell; else it ends behind the last entry in use, if no new cell is left. What
-// is staged is written at the end. The arrays for it are made after the questions, by the number of slots, and the marks before, by how many
-// blocks of cells the entries may need.
+// is staged is written at the end. The arrays for it are made after the questions, by how far entries may change, and the marks before, by how
+// many blocks of cells the entries may need.
 use changes::few_bits;
 use changes::few_words;
 use changes::many_bits;
@@ -50,6 +50,7 @@ use words::layout::CELL_SIZE;
 use words::layout::LIVE_AT;
 use words::layout::cells_of;
 use words::layout::slots_of;
+use words::least;
 use words::remaining;
 use words::same_cell;
 use words::wide;
@@ -59,7 +60,7 @@ ghost use mathlib.Core.List.{[]};
 ghost use Prim.Native.Nat.{ℕ, _+_, _-_, _*_, _<_, _≤_};
 ghost use lib.ListN.{length, take};
 ghost use lib.Dec.{eqb};
-ghost use Rattle.words.specs.Layout.{cellAt, cellsOf, bodiesOf, slotsOf, pairsAt, handleAt, maxLive, maxSlots, maxCells, maxBodies, cellSize, groupAt};
+ghost use Rattle.words.specs.Layout.{cellAt, cellsOf, bodiesOf, slotsOf, pairsAt, handleAt, maxLive, maxSlots, maxCells, maxBodies, cellSize};
 ghost use Rattle.words.specs.Scan.{all, count};
 ghost use Rattle.words.specs.Cells.{cellBytes, sameCell, cellPlan};
 ghost use Rattle.words.specs.Stores.{stores};
@@ -69,7 +70,7 @@ ghost use Rattle.marks.specs.Blocks.{cellsIn, Enough};
 ghost use Rattle.table.specs.Marks.{CellsOnce, EndsAt, Reached, RoomForMarks, Marked, AllMarked};
 ghost use Rattle.search.specs.Search.{valueIn};
 ghost use Rattle.search.specs.Free.{unmarked, unmarkedFrom};
-ghost use Rattle.changes.specs.Staged.{Stages, Journaled};
+ghost use Rattle.changes.specs.Staged.{RoomFor, Stages, Journaled};
 ghost use Rattle.model.specs.Answer.{stepsOf};
 ghost use Rattle.store.specs.Checks.{storeCheck, lent};
 ghost use Rattle.store.specs.Outcome.{buffers, report, Makes};
@@ -77,7 +78,7 @@ ghost use Rattle.store.specs.Means.{Shows};
 ghost use Rattle.add.specs.Add.{addCheck, addCall, addMeans, rises, raiseChange};
 ghost use Rattle.add.specs.Walking.{lacks, newIn, nextUnheld, rangeCheck, parentCheck, roomCheck, heldCheck, backed, alike, Source, Comparable, copyBytes};
 ghost use Rattle.add.specs.Walking.{bodyBeyond, listChange, NoneBelow, StagesOn, Walkable, Walked, Stageable, Skips, Ready, bytesOfRange, wordsOf, callOf};
-ghost use Rattle.add.specs.Walking.{rangeWords};
+ghost use Rattle.add.specs.Walking.{rangeWords, endOf};
 
 // What an add names: `count` cells from `first` on, to be held as copies (kind 0) or via parent (kind 1), read-only (label 0) or read-write
 // (label 1).
@@ -598,7 +599,7 @@ fn raise_entry(
     changed: &mut [u64],
 )
     requires { ⌜ (i < slots) × (slots ≤ maxSlots) × (pairsAt slots ≤ length (now table)) × (range .first + range .count ≤ maxCells) ⌝ }
-    requires { ⌜ (2 * slots ≤ length (now words)) × (slots ≤ groupAt (length (now changed))) ⌝ }
+    requires { ⌜ RoomFor (i + 1) (now words) (now changed) ⌝ }
     ensures { λ _. ⌜ StagesOn i (raiseChange depth (range .first) (range .count) (range .label) (word1 slots (now (table .entry)) i) (word2 slots (now (table .entry)) i))
         (now (words .entry)) (now (changed .entry)) (now (words .exit)) (now (changed .exit)) ⌝ }
 {
@@ -624,7 +625,7 @@ fn pass_entry(
     words: &mut [u32],
     changed: &mut [u64],
 ) -> Cursors
-    requires { ⌜ (i < slots) × (2 * slots ≤ length (now words)) × (slots ≤ groupAt (length (now changed))) ⌝ }
+    requires { ⌜ (i < slots) × RoomFor (i + 1) (now words) (now changed) ⌝ }
     requires { ⌜ Walkable (now held) (now used) slots bodies (now table) range ⌝ }
     requires { ⌜ Walked (now held) (now used) slots bodies (now table) range i walk (now words) (now changed) ⌝ }
     ensures { λ r. ⌜ Walked (now (held .entry)) (now (used .entry)) slots bodies (now (table .entry)) range (i + 1) r
@@ -671,7 +672,8 @@ fn next_change(
     taken: bool,
 ) -> usize
     requires { ⌜ (slots ≤ maxSlots) × (pairsAt slots ≤ length (now table)) × (from ≤ slots) × EndsAt slots (now table) top ⌝ }
-    ensures { λ r. ⌜ Skips slots (now (table .entry)) still taken from r ⌝ }
+    ensures skips { λ r. ⌜ Skips slots (now (table .entry)) still taken from r ⌝ }
+    ensures ends { λ r. ⌜ (taken ≡ true → r < slots → r < top) ⌝ }
 {
     if taken & (still | (top <= from)) {
         return slots;
@@ -702,7 +704,7 @@ fn stage_range(
     words: &mut [u32],
     changed: &mut [u64],
 )
-    requires small { ⌜ (2 * slots ≤ length (now words)) × (slots ≤ groupAt (length (now changed))) ⌝ }
+    requires room { ⌜ RoomFor (endOf slots range top) (now words) (now changed) ⌝ }
     requires able { ⌜ Stageable (now held) (now used) slots bodies (now table) range start top ⌝ }
     requires blank { ⌜ Stages 0 (listChange (now held) (now used) slots bodies (now table) range) (now words) (now changed) ⌝ }
     ensures { λ _. ⌜ Stages slots (listChange (now (held .entry)) (now (used .entry)) slots bodies (now (table .entry)) range)
@@ -743,7 +745,7 @@ fn write_range(
     changed: &mut [u64],
     budget: usize,
 ) -> usize
-    requires small { ⌜ (2 * slots ≤ length (now words)) × (slots ≤ groupAt (length (now changed))) ⌝ }
+    requires room { ⌜ RoomFor (endOf slots range top) (now words) (now changed) ⌝ }
     requires able { ⌜ Stageable (now held) (now used) slots bodies (now table) range start top ⌝ }
     requires blank { ⌜ Stages 0 (listChange (now held) (now used) slots bodies (now table) range) (now words) (now changed) ⌝ }
     ensures { λ r. ⌜ Journaled slots (rangeWords (now (held .entry)) (now (used .entry)) slots bodies (now (table .entry)) range) budget
@@ -764,7 +766,7 @@ fn write_range(
     write_staged(table, slots, no_head(), words, changed, budget)
 }
 
-// The same with arrays for a table of few slots.
+// The same with arrays for few entries, where none behind them may change.
 fn write_few(
     table: &mut [u32],
     slots: usize,
@@ -776,7 +778,7 @@ fn write_few(
     start: usize,
     budget: usize,
 ) -> usize
-    requires { ⌜ (slots ≤ 256) × Stageable (now held) (now used) slots bodies (now table) range start top ⌝ }
+    requires { ⌜ (endOf slots range top ≤ 256) × Stageable (now held) (now used) slots bodies (now table) range start top ⌝ }
     ensures { λ r. ⌜ Journaled slots (rangeWords (now (held .entry)) (now (used .entry)) slots bodies (now (table .entry)) range) budget
         (now (table .entry)) r (now (table .exit)) ⌝ }
 {
@@ -847,7 +849,9 @@ fn add_words(
         (now (table .entry)) r (now (table .exit)) ⌝ }
 {
     let slots = slots_of(table.len());
-    if slots <= FEW_SLOTS {
+    // No entry from here on changes: those from `top` on are free, and the range takes the lowest free slots, at most one for each cell.
+    let end = least(slots, top + range.count);
+    if end <= FEW_SLOTS {
         return write_few(table, slots, top, held, used, places, range, start, budget);
     }
     write_many(table, slots, top, held, used, places, range, start, budget)

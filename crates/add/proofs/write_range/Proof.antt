@@ -13,7 +13,7 @@ no-head-requires c κs = search needs
 write-staged-requires : tie.Need-write-staged-requires
 write-staged-requires c κs =
     let p = c .before .before .before .before .before .before .before .before .before .before .before .before .before .before .before .before .before .pre in
-    ((p .1 .0 .walk .slots, p .1 .0 .exact, search needs, search needs), (c .before .before .no-head .ensures .0, stages-inside (c .before .before .before .before .before .before .before .before .stage-range .ensures)))
+    ((p .1 .0 .walk .slots, p .1 .0 .exact, search needs), (c .before .before .no-head .ensures .0, stages-inside (c .before .before .before .before .before .before .before .before .stage-range .ensures)))
 
 same-length : tie.Need-same-length
 same-length c = search needs
