@@ -4,7 +4,7 @@ use mathlib.Core.Bool.{Bool, true, false, cond, not, _&&_, _||_}
 use mathlib.Core.List.{List}
 use mathlib.Core.Path.{_≡_, _∙_}
 use native.Mathlib.Omega.{arith}
-use borrow.Author.Tests.{ne-eqb, eqb-true, leb-true}
+use borrow.Author.Tests.{eq-eqb, ne-eqb, eqb-true, leb-true, lt-leb}
 use lib.Dec.{leb, eqb}
 use Rattle.words.proofs.Scan.{by-bool, and-split, and-join, is-false, true≢}
 use Rattle.table.specs.Entry.{word1, word2, depthOf, cellOf, writableOf, parent, outward, writable, writesIn, parentHas}
@@ -69,6 +69,20 @@ module _ (d w v : ℕ) (inner outer : Bool) (low : 1 ≤ d) where
       let s = and-split (leb 2 d) (eqb (depthOf w) (parent d) && (eqb (writableOf w) 0 && inner)) h in
       let r = and-split (eqb (depthOf w) (parent d)) (eqb (writableOf w) 0 && inner) (s .1) in
       eqb-true (writableOf w) 0 (and-split (eqb (writableOf w) 0) inner (r .1) .0)
+
+-- ---- the outermost domain: its entries are freed, and no others change
+
+module _ (e : ℕ) (t : List ℕ) (d i : ℕ) (few : d < 2) where
+  alone : leb 2 d ≡ false
+  alone = lt-leb 2 d few
+
+  pub change-other : (depthOf (word1 e t i) ≡ d → ⊥) → commitChange e t d i ≡ keep
+  unfolding commitChange
+  change-other n = rw (ne-eqb (depthOf (word1 e t i)) d n, alone)
+
+  pub change-freed : depthOf (word1 e t i) ≡ d → commitChange e t d i ≡ put 0 0
+  unfolding commitChange
+  change-freed q = rw (eq-eqb (depthOf (word1 e t i)) d q, alone)
 
 -- ---- entry i, by the marks of all cells
 

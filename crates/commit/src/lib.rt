@@ -3,7 +3,8 @@
 //
 // The questions leave a mark for each cell, the set of the depths that hold it. One pass over the entries has the marks tell of the innermost
 // depth which cells it holds read-write, and another stages each entry's change by them, so that no entry is compared with another. Both end
-// with the group of the last entry in use, or before. What is staged is then written.
+// with the last entry in use, or before. What is staged is then written. The outermost domain has nobody to move its cells to: its entries are
+// freed, and nothing is asked of the marks.
 use changes::Head;
 use changes::few_bits;
 use changes::few_words;
@@ -55,7 +56,7 @@ ghost use Rattle.words.specs.Layout.{cellsOf, pairsAt, slotsOf, tableWords, max
 ghost use Rattle.table.specs.Entry.{depthOf, writableOf, parent, outward, writable};
 ghost use Rattle.marks.specs.Blocks.{cellsIn, Kept, Enough};
 ghost use Rattle.table.specs.Marks.{has, Marked, CellsOnce, EndsAt, Reached, RoomForMarks, AllMarked};
-ghost use Rattle.changes.specs.Staged.{Turned, Stages, HeadOk, headStores, Journaled};
+ghost use Rattle.changes.specs.Staged.{RoomFor, Turned, Stages, HeadOk, headStores, Journaled};
 ghost use Rattle.store.specs.Outcome.{buffers, report, Makes};
 ghost use Rattle.store.specs.Means.{Shows};
 ghost use Rattle.commit.specs.Commit.{raises, commitCheck, commitChange, commitCall, commitMeans};
@@ -106,30 +107,30 @@ fn commit_head(live: u32) -> Head
     with_word(one, handle_at(wide(parent_of(live))) as u32, 0)
 }
 
-// Can an entry change, by its first word alone? It can if it is innermost, or its parent's and read-only. Most are neither.
+// Can an entry change, by its first word alone, where the innermost domain has a parent? It can if it is innermost, or its parent's and
+// read-only. Most are neither.
 fn is_concerned(word: u32, live: u32) -> bool
-    requires { ⌜ 1 ≤ live ⌝ }
+    requires { ⌜ 2 ≤ live ⌝ }
     ensures { λ r. ⌜ r ≡ concerned live word ⌝ }
 {
     let depth = depth_of(word);
-    (depth == live) | (is_inner(live) & ((depth == parent_of(live)) & (writable_of(word) == 0)))
+    (depth == live) | ((depth == parent_of(live)) & (writable_of(word) == 0))
 }
 
-// Does an innermost entry move out: is there a parent, and does it lack the cell?
+// Does an innermost entry move out: does the parent lack the cell?
 fn moves_out(word: u32, live: u32, mark: u8) -> bool
-    requires { ⌜ (1 ≤ live) × (live ≤ maxLive) ⌝ }
+    requires { ⌜ (2 ≤ live) × (live ≤ maxLive) ⌝ }
     ensures { λ r. ⌜ r ≡ moves live word (has (parent live) mark) ⌝ }
 {
-    (depth_of(word) == live) & (is_inner(live) & !has_depth(mark, parent_of(live)))
+    (depth_of(word) == live) & !has_depth(mark, parent_of(live))
 }
 
 // Does an entry of the parent become read-write: is it read-only, and does the innermost domain hold its cell read-write?
 fn is_raised(word: u32, live: u32, mark: u8) -> bool
-    requires { ⌜ (1 ≤ live) × (live ≤ maxLive) ⌝ }
+    requires { ⌜ (2 ≤ live) × (live ≤ maxLive) ⌝ }
     ensures { λ r. ⌜ r ≡ raises live word (has live mark) ⌝ }
 {
-    is_inner(live)
-        & ((depth_of(word) == parent_of(live)) & ((writable_of(word) == 0) & has_depth(mark, live)))
+    (depth_of(word) == parent_of(live)) & ((writable_of(word) == 0) & has_depth(mark, live))
 }
 
 // The first word of an entry that changes: one depth further out, or read-write, or 0 where it is freed.
@@ -156,8 +157,21 @@ fn body_if(kept: bool, second: u32) -> u32
     0
 }
 
-// Stages entry i, if it changes: one of the innermost domain does, and one of its parent that is raised. Tells whether it does.
-fn commit_entry(
+// Stages entry i, if it changes, where the innermost domain has no parent: its entries are freed, and the others stay. Tells whether it does.
+fn free_entry(table: &[u32], slots: usize, live: u32, words: &mut [u32], i: usize) -> bool
+    requires small { ⌜ (i < slots) × (slots ≤ maxSlots) × (pairsAt slots ≤ length (now table)) × (2 * i + 1 < length (now words)) ⌝ }
+    requires outermost { ⌜ live < 2 ⌝ }
+    ensures { λ r. ⌜ Turned (commitChange slots (now (table .entry)) live i) i (now (words .entry)) (now (words .exit)) r ⌝ }
+{
+    if depth_of(first_word(table, slots, i)) != live {
+        return false;
+    }
+    stage_words(words, i, 0, 0);
+    true
+}
+
+// The same where it has one: its entries change, and those of the parent that are raised.
+fn merge_entry(
     table: &[u32],
     slots: usize,
     live: u32,
@@ -165,7 +179,7 @@ fn commit_entry(
     words: &mut [u32],
     i: usize,
 ) -> bool
-    requires small { ⌜ (i < slots) × (slots ≤ maxSlots) × (pairsAt slots ≤ length (now table)) × (1 ≤ live) × (live ≤ maxLive) × (2 * slots ≤ length (now words)) ⌝ }
+    requires small { ⌜ (i < slots) × (slots ≤ maxSlots) × (pairsAt slots ≤ length (now table)) × (2 ≤ live) × (live ≤ maxLive) × (2 * i + 1 < length (now words)) ⌝ }
     requires told { ⌜ (maxCells ≤ cellsIn (now seen)) × TellsBoth slots (now table) live (now seen) ⌝ }
     ensures { λ r. ⌜ Turned (commitChange slots (now (table .entry)) live i) i (now (words .entry)) (now (words .exit)) r ⌝ }
 {
@@ -185,23 +199,43 @@ fn commit_entry(
     true
 }
 
-// The same for the entries of group k. Their bits are stored at once.
+// Stages entry i, if it changes, and tells whether it does. No mark is read where there is no parent.
+fn commit_entry(
+    table: &[u32],
+    slots: usize,
+    live: u32,
+    seen: &[u8],
+    words: &mut [u32],
+    i: usize,
+) -> bool
+    requires small { ⌜ (i < slots) × (slots ≤ maxSlots) × (pairsAt slots ≤ length (now table)) × (1 ≤ live) × (live ≤ maxLive) × (2 * i + 1 < length (now words)) ⌝ }
+    requires told { ⌜ (maxCells ≤ cellsIn (now seen)) × TellsBoth slots (now table) live (now seen) ⌝ }
+    ensures { λ r. ⌜ Turned (commitChange slots (now (table .entry)) live i) i (now (words .entry)) (now (words .exit)) r ⌝ }
+{
+    if is_inner(live) {
+        return merge_entry(table, slots, live, seen, words, i);
+    }
+    free_entry(table, slots, live, words, i)
+}
+
+// The same for the entries of group k below `top`. Their bits are stored at once.
 fn commit_group(
     table: &[u32],
     slots: usize,
+    top: usize,
     live: u32,
     seen: &[u8],
     words: &mut [u32],
     changed: &mut [u64],
     k: usize,
 )
-    requires small { ⌜ (groupAt k < slots) × (slots ≤ maxSlots) × (pairsAt slots ≤ length (now table)) × (1 ≤ live) × (live ≤ maxLive) ⌝ }
-    requires room { ⌜ (2 * slots ≤ length (now words)) × (slots ≤ groupAt (length (now changed))) ⌝ }
+    requires small { ⌜ (groupAt k < top) × (top ≤ slots) × (slots ≤ maxSlots) × (pairsAt slots ≤ length (now table)) × (1 ≤ live) × (live ≤ maxLive) ⌝ }
+    requires room { ⌜ RoomFor top (now words) (now changed) ⌝ }
     requires told { ⌜ (maxCells ≤ cellsIn (now seen)) × TellsBoth slots (now table) live (now seen) ⌝ }
     requires before { ⌜ Stages (groupAt k) (commitChange slots (now table) live) (now words) (now changed) ⌝ }
-    ensures { λ _. ⌜ Stages (min slots (groupAt k + groupSize)) (commitChange slots (now (table .entry)) live) (now (words .exit)) (now (changed .exit)) ⌝ }
+    ensures { λ _. ⌜ Stages (min top (groupAt k + groupSize)) (commitChange slots (now (table .entry)) live) (now (words .exit)) (now (changed .exit)) ⌝ }
 {
-    let end = least(slots, GROUP_SIZE * k + GROUP_SIZE);
+    let end = least(top, GROUP_SIZE * k + GROUP_SIZE);
     let mut bits: u64 = 0;
     let mut i = GROUP_SIZE * k;
     while i < end {
@@ -215,7 +249,7 @@ fn commit_group(
     changed[k] = bits;
 }
 
-// Stages all entries that change. Those from `top` on are free, and no group of them is passed.
+// Stages all entries that change. Those from `top` on are free, so that none of them is passed and none needs room.
 fn commit_entries(
     table: &[u32],
     slots: usize,
@@ -227,14 +261,14 @@ fn commit_entries(
 )
     requires small { ⌜ (slots ≤ maxSlots) × (pairsAt slots ≤ length (now table)) × (1 ≤ live) × (live ≤ maxLive) ⌝ }
     requires ends { ⌜ EndsAt slots (now table) top ⌝ }
-    requires room { ⌜ (2 * slots ≤ length (now words)) × (slots ≤ groupAt (length (now changed))) ⌝ }
+    requires room { ⌜ RoomFor top (now words) (now changed) ⌝ }
     requires told { ⌜ (maxCells ≤ cellsIn (now seen)) × TellsBoth slots (now table) live (now seen) ⌝ }
     requires before { ⌜ Stages 0 (commitChange slots (now table) live) (now words) (now changed) ⌝ }
     ensures { λ _. ⌜ Stages slots (commitChange slots (now (table .entry)) live) (now (words .exit)) (now (changed .exit)) ⌝ }
 {
     let mut k: usize = 0;
     while GROUP_SIZE * k < top {
-        commit_group(table, slots, live, seen, words, changed, k);
+        commit_group(table, slots, top, live, seen, words, changed, k);
         k += 1;
     }
 }
@@ -252,7 +286,7 @@ fn end_domain(
 ) -> usize
     requires small { ⌜ (slots ≤ maxSlots) × (length (now table) ≡ tableWords slots) × (1 ≤ live) × (live ≤ maxLive) ⌝ }
     requires ends { ⌜ EndsAt slots (now table) top ⌝ }
-    requires room { ⌜ (2 * slots ≤ length (now words)) × (slots ≤ groupAt (length (now changed))) ⌝ }
+    requires room { ⌜ RoomFor top (now words) (now changed) ⌝ }
     requires told { ⌜ (maxCells ≤ cellsIn (now seen)) × TellsBoth slots (now table) live (now seen) ⌝ }
     requires before { ⌜ Stages 0 (commitChange slots (now table) live) (now words) (now changed) ⌝ }
     ensures { λ r. ⌜ Journaled slots (endingWords slots (now (table .entry)) live) budget (now (table .entry)) r (now (table .exit)) ⌝ }
@@ -261,7 +295,7 @@ fn end_domain(
     write_staged(table, slots, commit_head(live), words, changed, budget)
 }
 
-// The same with arrays for a table of few slots.
+// The same with arrays for few entries.
 fn end_few(
     table: &mut [u32],
     slots: usize,
@@ -270,7 +304,7 @@ fn end_few(
     seen: &[u8],
     budget: usize,
 ) -> usize
-    requires small { ⌜ (slots ≤ 256) × (length (now table) ≡ tableWords slots) × (1 ≤ live) × (live ≤ maxLive) ⌝ }
+    requires small { ⌜ (top ≤ 256) × (slots ≤ maxSlots) × (length (now table) ≡ tableWords slots) × (1 ≤ live) × (live ≤ maxLive) ⌝ }
     requires ends { ⌜ EndsAt slots (now table) top ⌝ }
     requires told { ⌜ (maxCells ≤ cellsIn (now seen)) × TellsBoth slots (now table) live (now seen) ⌝ }
     ensures { λ r. ⌜ Journaled slots (endingWords slots (now (table .entry)) live) budget (now (table .entry)) r (now (table .exit)) ⌝ }
@@ -317,8 +351,8 @@ fn end_many(
     )
 }
 
-// The same for any table, in arrays chosen by its slots alone. They are made here and not beside the marks, so that a call that is refused
-// clears none, and a large memory does not make the arrays of a small table large.
+// The same for any table, in arrays chosen by how far its entries in use reach, so that a large table of few entries clears no more than a
+// small one. They are made here and not beside the marks, so that a call that is refused clears none, and a large memory makes them no larger.
 fn commit_words(
     table: &mut [u32],
     slots: usize,
@@ -332,7 +366,7 @@ fn commit_words(
     requires told { ⌜ (maxCells ≤ cellsIn (now seen)) × TellsBoth slots (now table) live (now seen) ⌝ }
     ensures { λ r. ⌜ Journaled slots (endingWords slots (now (table .entry)) live) budget (now (table .entry)) r (now (table .exit)) ⌝ }
 {
-    if slots <= FEW_SLOTS {
+    if top <= FEW_SLOTS {
         return end_few(table, slots, top, live, seen, budget);
     }
     end_many(table, slots, top, live, seen, budget)

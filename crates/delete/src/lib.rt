@@ -1,7 +1,8 @@
 // Delete: frees the named cells of the named domain.
 //
 // The questions come first, in one function that only reads. Then one pass over the entries stages those that are freed, and what is staged
-// is written. No body is stored: a free body means nothing. Each pass ends with the group of the last entry in use, or before.
+// is written. No body is stored: a free body means nothing. Each pass ends with the last entry in use, or before, and what is staged has room
+// for no more.
 use changes::few_bits;
 use changes::few_words;
 use changes::many_bits;
@@ -47,7 +48,7 @@ ghost use Rattle.table.specs.Entry.{word1};
 ghost use Rattle.marks.specs.Blocks.{markOf, cellsIn, Enough};
 ghost use Rattle.table.specs.Marks.{has, EndsAt, Reached, RoomForMarks};
 ghost use Rattle.table.specs.Changes.{keep, entryChanges};
-ghost use Rattle.changes.specs.Staged.{Turned, Stages, Journaled};
+ghost use Rattle.changes.specs.Staged.{RoomFor, Turned, Stages, Journaled};
 ghost use Rattle.store.specs.Outcome.{buffers, report, Makes};
 ghost use Rattle.store.specs.Means.{Shows};
 ghost use Rattle.delete.specs.Delete.{deleteCheck, deleteChange, deleteCall, deleteMeans};
@@ -251,7 +252,7 @@ fn free_entry(
     words: &mut [u32],
     i: usize,
 ) -> bool
-    requires { ⌜ (i < slots) × (slots ≤ maxSlots) × (pairsAt slots ≤ length (now table)) × (first + count ≤ maxCells) × (2 * slots ≤ length (now words)) ⌝ }
+    requires { ⌜ (i < slots) × (slots ≤ maxSlots) × (pairsAt slots ≤ length (now table)) × (first + count ≤ maxCells) × (2 * i + 1 < length (now words)) ⌝ }
     ensures { λ r. ⌜ Turned (deleteChange slots (now (table .entry)) depth first count i) i (now (words .entry)) (now (words .exit)) r ⌝ }
 {
     if !in_cells(first_word(table, slots, i), depth, first, count) {
@@ -283,10 +284,11 @@ fn none_freed(
     none
 }
 
-// Stages those entries of group k that are freed. Their bits are stored at once. Most groups have none, and are passed over.
+// Stages those entries of group k below `top` that are freed. Their bits are stored at once. Most groups have none, and are passed over.
 fn free_group(
     table: &[u32],
     slots: usize,
+    top: usize,
     depth: u32,
     first: u32,
     count: u32,
@@ -294,12 +296,12 @@ fn free_group(
     changed: &mut [u64],
     k: usize,
 )
-    requires small { ⌜ (groupAt k < slots) × (slots ≤ maxSlots) × (pairsAt slots ≤ length (now table)) × (first + count ≤ maxCells) ⌝ }
-    requires room { ⌜ (2 * slots ≤ length (now words)) × (slots ≤ groupAt (length (now changed))) ⌝ }
+    requires small { ⌜ (groupAt k < top) × (top ≤ slots) × (slots ≤ maxSlots) × (pairsAt slots ≤ length (now table)) × (first + count ≤ maxCells) ⌝ }
+    requires room { ⌜ RoomFor top (now words) (now changed) ⌝ }
     requires before { ⌜ Stages (groupAt k) (deleteChange slots (now table) depth first count) (now words) (now changed) ⌝ }
-    ensures { λ _. ⌜ Stages (min slots (groupAt k + groupSize)) (deleteChange slots (now (table .entry)) depth first count) (now (words .exit)) (now (changed .exit)) ⌝ }
+    ensures { λ _. ⌜ Stages (min top (groupAt k + groupSize)) (deleteChange slots (now (table .entry)) depth first count) (now (words .exit)) (now (changed .exit)) ⌝ }
 {
-    let end = least(slots, GROUP_SIZE * k + GROUP_SIZE);
+    let end = least(top, GROUP_SIZE * k + GROUP_SIZE);
     if none_freed(table, slots, depth, first, count, GROUP_SIZE * k, end) {
         return;
     }
@@ -313,7 +315,7 @@ fn free_group(
     changed[k] = bits;
 }
 
-// Stages all entries that are freed. Those from `top` on are free already, and no group of them is passed.
+// Stages all entries that are freed. Those from `top` on are free already, so that none of them is passed and none needs room.
 fn free_entries(
     table: &[u32],
     slots: usize,
@@ -326,13 +328,13 @@ fn free_entries(
 )
     requires small { ⌜ (slots ≤ maxSlots) × (pairsAt slots ≤ length (now table)) × (first + count ≤ maxCells) ⌝ }
     requires ends { ⌜ EndsAt slots (now table) top × (1 ≤ depth) ⌝ }
-    requires room { ⌜ (2 * slots ≤ length (now words)) × (slots ≤ groupAt (length (now changed))) ⌝ }
+    requires room { ⌜ RoomFor top (now words) (now changed) ⌝ }
     requires before { ⌜ Stages 0 (deleteChange slots (now table) depth first count) (now words) (now changed) ⌝ }
     ensures { λ _. ⌜ Stages slots (deleteChange slots (now (table .entry)) depth first count) (now (words .exit)) (now (changed .exit)) ⌝ }
 {
     let mut k: usize = 0;
     while GROUP_SIZE * k < top {
-        free_group(table, slots, depth, first, count, words, changed, k);
+        free_group(table, slots, top, depth, first, count, words, changed, k);
         k += 1;
     }
 }
@@ -353,7 +355,7 @@ fn free_staged(
 ) -> usize
     requires small { ⌜ (slots ≤ maxSlots) × (length (now table) ≡ tableWords slots) × (first + count ≤ maxCells) ⌝ }
     requires ends { ⌜ EndsAt slots (now table) top × (1 ≤ depth) ⌝ }
-    requires room { ⌜ (2 * slots ≤ length (now words)) × (slots ≤ groupAt (length (now changed))) ⌝ }
+    requires room { ⌜ RoomFor top (now words) (now changed) ⌝ }
     requires before { ⌜ Stages 0 (deleteChange slots (now table) depth first count) (now words) (now changed) ⌝ }
     ensures { λ r. ⌜ Journaled slots (entryChanges slots (deleteChange slots (now (table .entry)) depth first count)) budget (now (table .entry)) r (now (table .exit)) ⌝ }
 {
@@ -361,7 +363,7 @@ fn free_staged(
     write_staged(table, slots, no_head(), words, changed, budget)
 }
 
-// The same with arrays for a table of few slots.
+// The same with arrays for few entries.
 fn free_few(
     table: &mut [u32],
     slots: usize,
@@ -371,7 +373,7 @@ fn free_few(
     count: u32,
     budget: usize,
 ) -> usize
-    requires small { ⌜ (slots ≤ 256) × (length (now table) ≡ tableWords slots) × (first + count ≤ maxCells) ⌝ }
+    requires small { ⌜ (top ≤ 256) × (slots ≤ maxSlots) × (length (now table) ≡ tableWords slots) × (first + count ≤ maxCells) ⌝ }
     requires ends { ⌜ EndsAt slots (now table) top × (1 ≤ depth) ⌝ }
     ensures { λ r. ⌜ Journaled slots (entryChanges slots (deleteChange slots (now (table .entry)) depth first count)) budget (now (table .entry)) r (now (table .exit)) ⌝ }
 {
@@ -419,7 +421,8 @@ fn free_many(
     )
 }
 
-// Frees the cells, and gives the steps uncut. The arrays are as the table needs them, whatever the marks were.
+// Frees the cells, and gives the steps uncut. The arrays are chosen by how far the entries in use reach, whatever the marks were, so that a
+// large table of few entries clears no more than a small one.
 fn free_cells(
     table: &mut [u32],
     slots: usize,
@@ -433,7 +436,7 @@ fn free_cells(
     requires ends { ⌜ EndsAt slots (now table) top × (1 ≤ depth) ⌝ }
     ensures { λ r. ⌜ Journaled slots (entryChanges slots (deleteChange slots (now (table .entry)) depth first count)) budget (now (table .entry)) r (now (table .exit)) ⌝ }
 {
-    if slots <= FEW_SLOTS {
+    if top <= FEW_SLOTS {
         return free_few(table, slots, top, depth, first, count, budget);
     }
     free_many(table, slots, top, depth, first, count, budget)

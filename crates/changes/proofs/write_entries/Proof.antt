@@ -12,11 +12,6 @@ use Rattle.changes.proofs.Groups.{group-inside, all-passed, group-count
 use borrow.Author.Needs.{needs}
 use Rattle.changes.proofs.write_entries.Statement.{statement}
 use Rattle.changes.proofs.write_entries.Tie as tie
-use Rattle.changes.proofs.write_entries.Reads as reads
-use Rattle.changes.proofs.write_entries.Lts as lts
-use Rattle.changes.proofs.write_group.Reads as write-group-reads
-use Rattle.words.proofs.least.Reads as least-reads
-use Rattle.words.proofs.remaining.Reads as remaining-reads
 
 abbrev Inv-loop : tie.InvT-loop
 Inv-loop table₀ slots at words changed budget end n₀ k₀ table n k = (64 * k ≤ end + 63) × (length table ≡ length table₀) × (n ≡ length (gather (64 * k) (λ i. entryStores slots i (staged words changed i)))) × (table ≡ stores (take budget (pairPlans at (gather (64 * k) (λ i. entryStores slots i (staged words changed i))))) table₀)

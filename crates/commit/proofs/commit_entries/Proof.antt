@@ -13,7 +13,7 @@ use Rattle.commit.proofs.commit_entries.Statement.{statement}
 use Rattle.commit.proofs.commit_entries.Tie as tie
 
 abbrev Inv-loop : tie.InvT-loop
-Inv-loop table slots top live seen words₀ changed₀ k₀ words changed k = (64 * k ≤ top + 63) × (length words ≡ length words₀) × (length changed ≡ length changed₀) × Stages (min slots (64 * k)) (commitChange slots table live) words changed
+Inv-loop table slots top live seen words₀ changed₀ k₀ words changed k = (64 * k ≤ top + 63) × (length words ≡ length words₀) × (length changed ≡ length changed₀) × Stages (min top (64 * k)) (commitChange slots table live) words changed
 
 abbrev μ-loop : tie.MeasureT-loop
 μ-loop table slots top live seen words₀ changed₀ k₀ words changed k = top + 64 - 64 * k
@@ -34,7 +34,7 @@ loop-less : tie.Need-loop-less Inv-loop μ-loop
 loop-less c = search needs
 
 loop-again : tie.Need-loop-again Inv-loop μ-loop
-loop-again c = (search needs, c .before .before .before .before .commit-group .kept .1 .1 .1 .1 .0 ∙ c .before .before .before .before .before .before .before .before .loop .inv .1, c .before .before .before .before .commit-group .kept .1 .1 .1 .1 .1 .0 ∙ c .before .before .before .before .before .before .before .before .loop .inv .2, stages-to _ (c .before .before .before .before .commit-group .ensures) (search needs))
+loop-again c = (search needs, c .before .before .before .before .commit-group .kept .1 .1 .1 .1 .1 .0 ∙ c .before .before .before .before .before .before .before .before .loop .inv .1, c .before .before .before .before .commit-group .kept .1 .1 .1 .1 .1 .1 .0 ∙ c .before .before .before .before .before .before .before .before .loop .inv .2, stages-to _ (c .before .before .before .before .commit-group .ensures) (search needs))
 
 same-length : tie.Need-same-length Inv-loop μ-loop
 same-length c = search needs

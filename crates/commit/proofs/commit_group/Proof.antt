@@ -10,10 +10,10 @@ use Rattle.commit.proofs.commit_group.Statement.{statement}
 use Rattle.commit.proofs.commit_group.Tie as tie
 
 abbrev Inv-loop : tie.InvT-loop
-Inv-loop table slots live seen words₀ changed k end bits₀ i₀ words bits i = (64 * k ≤ i) × (i ≤ end) × (length words ≡ length words₀) × Gathers k i (commitChange slots table live) words changed bits
+Inv-loop table slots top live seen words₀ changed k end bits₀ i₀ words bits i = (64 * k ≤ i) × (i ≤ end) × (length words ≡ length words₀) × Gathers k i (commitChange slots table live) words changed bits
 
 abbrev μ-loop : tie.MeasureT-loop
-μ-loop table slots live seen words₀ changed k end bits₀ i₀ words bits i = end - i
+μ-loop table slots top live seen words₀ changed k end bits₀ i₀ words bits i = end - i
 
 mul-least : tie.Need-mul-least Inv-loop μ-loop
 mul-least c = search needs

@@ -1,10 +1,8 @@
 -- `is_raised` meets its contract. Assumes nothing.
+use borrow.Author.Tests.{le-leb}
 use borrow.Author.Needs.{needs}
 use Rattle.commit.proofs.is_raised.Statement.{statement}
 use Rattle.commit.proofs.is_raised.Tie as tie
-
-is-inner-requires : tie.Need-is-inner-requires
-is-inner-requires c κs = search needs
 
 depth-of-requires : tie.Need-depth-of-requires
 depth-of-requires c κs = search needs
@@ -19,15 +17,9 @@ has-depth-requires : tie.Need-has-depth-requires
 has-depth-requires c κs = search needs
 
 returns : tie.Need-returns
-returns c = rw (c .before .before .before .before .is-inner .ensures, c .before .before .before .depth-of .ensures, c .before .before .parent-of .ensures, c .before .writable-of .ensures, c .has-depth .ensures)
+returns c = rw (le-leb 2 _ (c .before .before .before .before .pre .0), c .before .before .before .depth-of .ensures, c .before .before .parent-of .ensures, c .before .writable-of .ensures, c .has-depth .ensures)
 
 pub is-raised-spec : {M : Type 1} → statement M
 is-raised-spec =
     tie.close
-    (tie.spec
-    is-inner-requires
-    depth-of-requires
-    parent-of-requires
-    writable-of-requires
-    has-depth-requires
-    returns)
+    (tie.spec depth-of-requires parent-of-requires writable-of-requires has-depth-requires returns)

@@ -12,10 +12,10 @@ use Rattle.delete.proofs.free_group.Statement.{statement}
 use Rattle.delete.proofs.free_group.Tie as tie
 
 abbrev Inv-loop : tie.InvT-loop
-Inv-loop table slots depth first count words₀ changed k end bits₀ i₀ words bits i = (64 * k ≤ i) × (i ≤ end) × (length words ≡ length words₀) × Gathers k i (deleteChange slots table depth first count) words changed bits
+Inv-loop table slots top depth first count words₀ changed k end bits₀ i₀ words bits i = (64 * k ≤ i) × (i ≤ end) × (length words ≡ length words₀) × Gathers k i (deleteChange slots table depth first count) words changed bits
 
 abbrev μ-loop : tie.MeasureT-loop
-μ-loop table slots depth first count words₀ changed k end bits₀ i₀ words bits i = end - i
+μ-loop table slots top depth first count words₀ changed k end bits₀ i₀ words bits i = end - i
 
 mul-least : tie.Need-mul-least Inv-loop μ-loop
 mul-least c = search needs
