@@ -1,6 +1,6 @@
 -- Laws of the questions asked of the entries, and of the list by which the code settles which body each cell gets. Assumes nothing.
-use Prim.Native.Nat.{ℕ, zero, suc, _+_, _≤_, _<_}
-use mathlib.Core.Bool.{Bool, true, false, cond, not, _&&_, _||_}
+use Prim.Native.Nat.{ℕ, _+_, _≤_, _<_}
+use mathlib.Core.Bool.{Bool, true, false, cond, not, _||_}
 use mathlib.Core.List.{List, []}
 use mathlib.Core.Path.{_≡_, refl, sym, ap, subst, _∙_}
 use native.Mathlib.Omega.{arith}
@@ -11,7 +11,7 @@ use Rattle.words.specs.Layout.{maxCells, slotsOf}
 use Rattle.words.specs.Scan.{all, count, nth}
 use Rattle.words.specs.Stores.{gather}
 use Rattle.words.specs.Cells.{cellPlan}
-use Rattle.words.proofs.Scan.{by-bool, by-le, is-false, is-true, true≢, and-split, and-join, all-at, all-make, all-ext, count-ext, count-le}
+use Rattle.words.proofs.Scan.{by-bool, by-le, is-false, is-true, true≢, and-split, and-join, all-at, all-make, all-ext, all-stop, count-ext, count-le}
 use Rattle.words.proofs.Gather.{gather-ext}
 use Rattle.words.proofs.Nth.{count-below, nth-holds, nth-rank, nth-ext}
 use Rattle.table.specs.Entry.{live, word1, word2, depthOf, writableOf, cellOf, parent, findIn, holdsIn, ownsBody}
@@ -33,19 +33,6 @@ use Rattle.advance.proofs.Choosing.{enough}
 use Rattle.advance.proofs.Listing.{gather-listed}
 
 -- ---- free entries, at which no pass need look
-
--- a test that every free entry passes
-all-stop : (n from : ℕ) (f : ℕ → Bool) → from ≤ n → ((k : ℕ) → from ≤ k → k < n → f k ≡ true) → all from f ≡ all n f
-unfolding all
-all-stop zero from f l h = let z : from ≡ 0 = omega arith in ap (λ (x : ℕ). all x f) z
-all-stop (suc n) from f l h =
-    by-le from n
-    (λ q. all-stop n from f q (λ k a b. h k a (omega arith)) ∙ all-left (all n f) (f n) (h n q (omega arith)))
-    (λ q. let z : from ≡ suc n = omega arith in ap (λ (x : ℕ). all x f) z)
-  where
-    all-left : (x y : Bool) → y ≡ true → x ≡ (x && y)
-    all-left true y q = sym q
-    all-left false y q = refl
 
 module _ (e : ℕ) (t : List ℕ) (top : ℕ) (within : top ≤ e) (free : FreeRun e t top e) where
   none-turns : (n : ℕ) → turns n 0 ≡ false

@@ -6,9 +6,9 @@ use mathlib.Core.Path.{_≡_, sym, _∙_}
 use native.Mathlib.Omega.{arith}
 use borrow.Author.Tests.{eqb-true, eqb-false}
 use lib.Dec.{eqb}
-use Rattle.words.proofs.Scan.{by-bool, by-le, not-lt}
+use Rattle.words.proofs.Scan.{by-bool, by-le, is-false, not-lt}
 use Rattle.table.specs.Entry.{word1, depthOf, cellOf, findIn}
-use Rattle.table.specs.Marks.{CellsOnce}
+use Rattle.table.specs.Marks.{CellsOnce, EndsAt}
 use Rattle.table.proofs.Entry.{find-some, find-hit, names-both}
 use Rattle.search.specs.Search.{IsKey, namedBy, Unnamed}
 use Rattle.search.proofs.Keys.{found-by-key}
@@ -32,9 +32,17 @@ module _ (e : ℕ) (t : List ℕ) (once : CellsOnce e t e) (d c key : ℕ) (low 
       let f = find-hit e t d c (omega (arith, le, l)) in
       same-entry (findIn e t d c) i (omega (arith, le, l)) l (f .0) (f .1) di ci
 
-  -- none is named from the start to the end, nor from the front to the start
-  pub found-nowhere : (start n k : ℕ) → e ≤ n → start ≤ k → Unnamed e t key start n → Unnamed e t key 0 k → findIn e t d c ≡ e
-  found-nowhere start n k past met behind front =
+  -- a free entry has depth 0, which no key has
+  unnamed-free : (top : ℕ) → EndsAt e t top → Unnamed e t key top e
+  unnamed-free top ends k far l =
+      is-false (namedBy key (word1 e t k))
+      (λ h. absurd (omega (arith, names-both e t (depthOf key) (cellOf key) (word1 e t k) h .0, is .depth, low, ends .1 k far l .0)))
+
+  -- none is named from the start to the last in use, nor from the front to the start
+  pub found-nowhere : (top start n k : ℕ) → EndsAt e t top → top ≤ n → start ≤ k → Unnamed e t key start n → Unnamed e t key 0 k → findIn e t d c ≡ e
+  found-nowhere top start n k ends past met behind front =
       found-by-key e t d c key is e (omega arith)
-      (λ j a b. by-le start j (λ far. behind j far (omega (arith, b, past))) (λ near. front j a (omega (arith, near, met))))
+      (λ j a b.
+      by-le top j (λ far. unnamed-free top ends j far b)
+      (λ used. by-le start j (λ far. behind j far (omega (arith, used, past))) (λ near. front j a (omega (arith, near, met)))))
       (λ l. absurd (not-lt e e l (omega arith)))

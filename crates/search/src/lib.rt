@@ -76,12 +76,18 @@ fn four_named(table: &[u32], slots: usize, key: u32, i: usize) -> bool
     (a | b) | (c | d)
 }
 
-// How far the entries from `from` on and before `end` can be passed over, eight at a time, since none of them is named. A search of a long
-// table spends nearly all its time here.
+// How far the entries from `from` on and before `end` can be passed over, since none of them is named. The first is asked alone, since a place to
+// begin at is mostly right; then eight at a time: a search of a long table spends nearly all its time here.
 fn pass_over(table: &[u32], slots: usize, key: u32, from: usize, end: usize) -> usize
     requires { ⌜ (from ≤ end) × (end ≤ slots) × (slots ≤ maxSlots) × (pairsAt slots ≤ length (now table)) × Bare key ⌝ }
     ensures { λ r. ⌜ (from ≤ r) × (r ≤ end) × Unnamed slots (now (table .entry)) key from r ⌝ }
 {
+    if from == end {
+        return end;
+    }
+    if is_named(first_word(table, slots, from), key) {
+        return from;
+    }
     let mut i = from;
     while i + 8 <= end {
         if four_named(table, slots, key, i) | four_named(table, slots, key, i + 4) {
@@ -92,11 +98,11 @@ fn pass_over(table: &[u32], slots: usize, key: u32, from: usize, end: usize) -> 
     i
 }
 
-// Where a search begins: at the slot asked for, or at the first where the table has no such slot.
-fn start_at(slots: usize, begin: usize) -> usize
-    ensures { λ r. ⌜ r ≤ slots ⌝ }
+// Where a search of the slots before `top` begins: at the slot asked for, or at the first where that is none of them.
+fn start_at(top: usize, begin: usize) -> usize
+    ensures { λ r. ⌜ r ≤ top ⌝ }
 {
-    if begin < slots {
+    if begin < top {
         return begin;
     }
     0
@@ -104,19 +110,26 @@ fn start_at(slots: usize, begin: usize) -> usize
 
 // The entry of this depth and cell, or `slots` where there is none. A depth or a cell that no word can hold has none. The search begins at slot
 // `begin`, which may be any number, and goes on from the front: no depth has a cell twice, so that it finds the same entry wherever it begins,
-// and a good place only saves time.
-pub fn find_entry(table: &[u32], slots: usize, depth: u32, cell: u32, begin: usize) -> usize
-    requires { ⌜ (slots ≤ maxSlots) × (pairsAt slots ≤ length (now table)) × (1 ≤ depth) ⌝ }
+// and a good place only saves time. The entries from `top` on are free, so that it ends there.
+pub fn find_entry(
+    table: &[u32],
+    slots: usize,
+    top: usize,
+    depth: u32,
+    cell: u32,
+    begin: usize,
+) -> usize
+    requires { ⌜ (slots ≤ maxSlots) × (pairsAt slots ≤ length (now table)) × EndsAt slots (now table) top × (1 ≤ depth) ⌝ }
     requires { ⌜ CellsOnce slots (now table) slots ⌝ }
     ensures { λ r. ⌜ r ≡ findIn slots (now (table .entry)) depth cell ⌝ }
 {
     if (16 <= depth) | (65536 <= cell) {
         return slots;
     }
-    let start = start_at(slots, begin);
+    let start = start_at(top, begin);
     let key = key_of(depth, cell);
-    let mut i = pass_over(table, slots, key, start, slots);
-    while i < slots {
+    let mut i = pass_over(table, slots, key, start, top);
+    while i < top {
         if is_named(first_word(table, slots, i), key) {
             return i;
         }
@@ -133,9 +146,16 @@ pub fn find_entry(table: &[u32], slots: usize, depth: u32, cell: u32, begin: usi
 }
 
 // The first holder of a cell from this depth to the innermost. At each depth the search begins at slot `begin`, which may be any number, and
-// goes on from the front.
-pub fn find_holder(table: &[u32], slots: usize, from: u32, cell: u32, begin: usize) -> Holder
-    requires { ⌜ (slots ≤ maxSlots) × (pairsAt slots ≤ length (now table)) × (live (now table) ≤ maxLive) × (1 ≤ from) ⌝ }
+// goes on from the front; it ends at `top`, since the entries from there on are free.
+pub fn find_holder(
+    table: &[u32],
+    slots: usize,
+    top: usize,
+    from: u32,
+    cell: u32,
+    begin: usize,
+) -> Holder
+    requires { ⌜ (slots ≤ maxSlots) × (pairsAt slots ≤ length (now table)) × EndsAt slots (now table) top × (live (now table) ≤ maxLive) × (1 ≤ from) ⌝ }
     requires { ⌜ CellsOnce slots (now table) slots ⌝ }
     ensures { λ r. ⌜ r ≡ holderIn slots (now (table .entry)) from cell ⌝ }
 {
@@ -143,15 +163,15 @@ pub fn find_holder(table: &[u32], slots: usize, from: u32, cell: u32, begin: usi
         return Holder::Nobody;
     }
     let live = table[LIVE_AT];
-    let start = start_at(slots, begin);
+    let start = start_at(top, begin);
     let mut depth = from;
     'search: loop {
         if live < depth {
             break 'search Holder::Nobody;
         }
         let key = key_of(depth, cell);
-        let mut i = pass_over(table, slots, key, start, slots);
-        while i < slots {
+        let mut i = pass_over(table, slots, key, start, top);
+        while i < top {
             if is_named(first_word(table, slots, i), key) {
                 break 'search Holder::At(depth, i);
             }
@@ -173,19 +193,20 @@ pub fn find_holder(table: &[u32], slots: usize, from: u32, cell: u32, begin: usi
 pub fn find_source(
     table: &[u32],
     slots: usize,
+    top: usize,
     depth: u32,
     cell: u32,
     last: &[u16],
     before: &[u16],
 ) -> usize
-    requires { ⌜ (slots ≤ maxSlots) × (pairsAt slots ≤ length (now table)) ⌝ }
+    requires { ⌜ (slots ≤ maxSlots) × (pairsAt slots ≤ length (now table)) × EndsAt slots (now table) top ⌝ }
     requires { ⌜ CellsOnce slots (now table) slots ⌝ }
     ensures { λ r. ⌜ r ≡ sourceIn slots (now (table .entry)) depth cell ⌝ }
 {
     let mut d = depth;
     while 0 < d {
         let begin = noted(table, slots, last, before, d, cell);
-        let i = find_entry(table, slots, d, cell, begin);
+        let i = find_entry(table, slots, top, d, cell, begin);
         if slots <= i {
             return slots;
         }
@@ -201,24 +222,25 @@ pub fn find_source(
 pub fn find_value(
     table: &[u32],
     slots: usize,
+    top: usize,
     from: u32,
     cell: u32,
     last: &[u16],
     before: &[u16],
 ) -> Held
-    requires { ⌜ (slots ≤ maxSlots) × (pairsAt slots ≤ length (now table)) × (live (now table) ≤ maxLive) × (1 ≤ from) ⌝ }
+    requires { ⌜ (slots ≤ maxSlots) × (pairsAt slots ≤ length (now table)) × EndsAt slots (now table) top × (live (now table) ≤ maxLive) × (1 ≤ from) ⌝ }
     requires { ⌜ CellsOnce slots (now table) slots × HasSource slots (now table) from cell ⌝ }
     ensures { λ r. ⌜ r ≡ valueFrom slots (now (table .entry)) from cell ⌝ }
 {
     let begin = noted(table, slots, last, before, from, cell);
-    match find_holder(table, slots, from, cell, begin) {
+    match find_holder(table, slots, top, from, cell, begin) {
         Holder::Nobody => Held::Nowhere,
         Holder::At(depth, entry) => {
             if !is_via(first_word(table, slots, entry)) {
                 return Held::InBody(depth, second_word(table, slots, entry));
             }
             // a via parent entry has no body of its own: the copy further out has
-            let source = find_source(table, slots, parent_of(depth), cell, last, before);
+            let source = find_source(table, slots, top, parent_of(depth), cell, last, before);
             Held::InBody(depth, second_word(table, slots, source))
         }
     }

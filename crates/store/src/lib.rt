@@ -172,10 +172,11 @@ fn ask_many(memory: usize, bodies: usize, table: &[u32], top: usize, opening: bo
     store_check(memory, bodies, table, top, &mut seen, &mut used)
 }
 
-fn ask_plain(memory: usize, bodies: usize, table: &[u32], opening: bool) -> u32
+// Chooses the marks by how many entries there are to pass, before any question.
+fn ask_plain(memory: usize, bodies: usize, table: &[u32], top: usize, opening: bool) -> u32
+    requires { ⌜ Reached (now table) top ⌝ }
     ensures { λ r. ⌜ r ≡ cond opening (openCheck (lent memory bodies (now (table .entry)))) (storeCheck (lent memory bodies (now (table .entry)))) ⌝ }
 {
-    let top = reach_of(table);
     let blocks = blocks_wanted(top, cells_of(memory));
     if blocks <= FEW_BLOCKS {
         return ask_few(memory, bodies, table, top, opening);
@@ -190,14 +191,22 @@ fn ask_plain(memory: usize, bodies: usize, table: &[u32], opening: bool) -> u32
 pub fn open_check(memory: usize, bodies: usize, table: &[u32]) -> u32
     ensures { λ r. ⌜ r ≡ openCheck (lent memory bodies (now (table .entry))) ⌝ }
 {
-    ask_plain(memory, bodies, table, true)
+    ask_plain(memory, bodies, table, reach_of(table), true)
 }
 
 // Those put to a call that needs no marks.
-pub fn plain_check(memory: usize, bodies: usize, table: &[u32]) -> u32
+fn plain_check(memory: usize, bodies: usize, table: &[u32]) -> u32
     ensures { λ r. ⌜ r ≡ storeCheck (lent memory bodies (now (table .entry))) ⌝ }
 {
-    ask_plain(memory, bodies, table, false)
+    reached_check(memory, bodies, table, reach_of(table))
+}
+
+// The same of a caller that has asked how many entries there are to pass, and goes on with it.
+pub fn reached_check(memory: usize, bodies: usize, table: &[u32], top: usize) -> u32
+    requires { ⌜ Reached (now table) top ⌝ }
+    ensures { λ r. ⌜ r ≡ storeCheck (lent memory bodies (now (table .entry))) ⌝ }
+{
+    ask_plain(memory, bodies, table, top, false)
 }
 
 // Questions 5 and 6, in a table that passed those before: 0, or the number of the first no.

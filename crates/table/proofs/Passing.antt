@@ -5,16 +5,16 @@ use mathlib.Core.List.{List}
 use mathlib.Core.Path.{_≡_, refl}
 use native.Mathlib.Nat.{not-suc-le-zero}
 use native.Mathlib.Omega.{arith}
-use borrow.Author.Tests.{eq-eqb, ne-eqb, leb-true, ltb-true}
+use borrow.Author.Tests.{eq-eqb, ne-eqb, eqb-true, leb-true, ltb-true}
 use lib.ListN.{length}
 use lib.Dec.{ltb, leb, eqb}
 use Rattle.words.specs.Layout.{maxCells, groupOf}
 use Rattle.words.specs.Scan.{all}
-use Rattle.words.proofs.Scan.{and-split, by-le, all-make, all-not, all-ext, true≢}
+use Rattle.words.proofs.Scan.{and-split, by-le, all-make, all-not, all-ext, all-stop, true≢}
 use Rattle.table.specs.Entry.{live, word1, word2, depthOf, viaOf, unusedOf, cellOf}
 use Rattle.table.specs.Rule.{headOk, kindOk, entryOk, parentOk, ruleOk}
 use Rattle.marks.specs.Blocks.{blockAt, cellsIn, Spare, Room}
-use Rattle.table.specs.Marks.{Blank, has, cellIn, markAt, markEntry, IsCopy, markBody, bodyFits, placed, FreeRun, NoVias, Passed, AllMarked}
+use Rattle.table.specs.Marks.{Blank, has, cellIn, markAt, markEntry, IsCopy, markBody, bodyFits, placed, FreeRun, EndsAt, NoVias, Passed, AllMarked}
 use Rattle.marks.proofs.Digits.{has-none}
 use Rattle.marks.proofs.Blocks.{kept-cells, kept-none, taken-none, outside-none, cells-none, cell-one, cell-kept, cell-blocks, cell-outside, room-spare}
 use Rattle.table.proofs.Marks.{owns-facts, split, marks-none, once-none, once-not, once-more, marked-more, distinct-none, bodies-more, single-more}
@@ -136,7 +136,11 @@ module _ (m e b : ℕ) (t : List ℕ) where
     pub pass-alone : (vias : ℕ) → NoVias e t e vias → vias ≡ 0 → ruleOk m e b t ≡ true
     pass-alone vias alone none = pass-right (all-make e (parentOk e t) (λ i l. outer-make 0 e 0 t i (λ v. absurd (v (alone none i l)))))
 
--- ---- via parent entries counted
+-- ---- via parent entries asked and counted: a free entry is none
+pub parents-stop : (e : ℕ) (t : List ℕ) (top : ℕ) → EndsAt e t top → all top (parentOk e t) ≡ all e (parentOk e t)
+parents-stop e t top ends =
+    all-stop e top (parentOk e t) (ends .0) (λ i low l. outer-make 0 e 0 t i (λ v. absurd (v (omega (arith, ends .1 i low l .0)))))
+
 pub vias-free : (e : ℕ) (t : List ℕ) (n k vias : ℕ) → n ≤ k → FreeRun e t n k → NoVias e t n vias → NoVias e t k vias
 vias-free e t n k vias low free so-far none i l = by-le n i (λ far. omega (arith, free i far l .0)) (λ near. so-far none i near)
 
@@ -148,3 +152,19 @@ vias-more e t n vias so-far none i l =
 pub rule-least : (m e b : ℕ) (t : List ℕ) → ruleOk (min m maxCells) e b t ≡ ruleOk m e b t
 unfolding ruleOk
 rule-least m e b t = rw (all-ext e (entryOk (min m maxCells) e b t) (entryOk m e b t) (λ i l. entry-least m e b t i))
+
+-- ---- runs of free entries
+
+-- one more of them, by the test of the code
+pub run-more : (e : ℕ) (t : List ℕ) (n k : ℕ) (free : Bool) → (free ≡ true → FreeRun e t n (n + k))
+    → (free && (eqb (word1 e t (n + k)) 0 && eqb (word2 e t (n + k)) 0)) ≡ true → FreeRun e t n (n + (k + 1))
+run-more e t n k free so-far h i low l =
+    let both = and-split free _ h in
+    let here = and-split (eqb (word1 e t (n + k)) 0) _ (both .1) in
+    by-le (n + k) i
+    (λ far. let q : i ≡ n + k = omega arith in rw q (eqb-true _ _ (here .0), eqb-true _ _ (here .1)))
+    (λ near. so-far (both .0) i low near)
+
+-- a run in front of the end of the table
+pub ends-before : (e : ℕ) (t : List ℕ) (n k : ℕ) → k ≤ n → EndsAt e t n → FreeRun e t k n → EndsAt e t k
+ends-before e t n k low ends run = (omega (arith, ends .0), λ i l h. by-le n i (λ far. ends .1 i far h) (λ near. run i l near))

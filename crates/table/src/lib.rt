@@ -185,15 +185,15 @@ fn parent_marked(seen: &[u8], word: u32) -> bool
     has_parent(mark_of(seen, cell_of(word)), depth_of(word))
 }
 
-// Does every via parent entry rest on its parent?
-fn parents_ok(table: &[u32], slots: usize, seen: &[u8]) -> bool
-    requires { ⌜ (slots ≤ maxSlots) × (pairsAt slots ≤ length (now table)) ⌝ }
+// Does every via parent entry rest on its parent? The entries from `top` on are free.
+fn parents_ok(table: &[u32], slots: usize, top: usize, seen: &[u8]) -> bool
+    requires { ⌜ (slots ≤ maxSlots) × (pairsAt slots ≤ length (now table)) × EndsAt slots (now table) top ⌝ }
     requires { ⌜ ViasMarkable slots (now table) (cellsIn (now seen)) × Marked slots (now table) slots (now seen) × ViaInner slots (now table) ⌝ }
     ensures { λ r. ⌜ r ≡ all slots (parentOk slots (now (table .entry))) ⌝ }
 {
     let mut rest = true;
     let mut i: usize = 0;
-    while i < slots {
+    while i < top {
         let word = first_word(table, slots, i);
         rest = rest & parent_marked(seen, word);
         i += 1;
@@ -283,13 +283,43 @@ fn next_entry(table: &[u32], slots: usize, top: usize, from: usize) -> usize
     past_free(table, slots, top, from)
 }
 
-// A number of entries behind which all are free. Entries are taken from the front and most tables have room to spare: every pass over the
-// entries ends there. Four are asked at once, so that the number may be three too large.
-fn last_in_use(table: &[u32], slots: usize) -> usize
+// Are the entries from i on, sixteen of them, free? All are asked, with no branch, so that the compiler can ask many words at once.
+fn sixteen_free(table: &[u32], slots: usize, i: usize) -> bool
+    requires { ⌜ (i + 16 ≤ slots) × (slots ≤ maxSlots) × (pairsAt slots ≤ length (now table)) ⌝ }
+    ensures { λ r. ⌜ (r ≡ true → FreeRun slots (now (table .entry)) i (i + 16)) ⌝ }
+{
+    let mut free = true;
+    let mut k: usize = 0;
+    while k < 16 {
+        free = free
+            & ((first_word(table, slots, i + k) == 0) & (second_word(table, slots, i + k) == 0));
+        k += 1;
+    }
+    free
+}
+
+// A number of entries behind which all are free, found by sixteens.
+fn end_by_sixteens(table: &[u32], slots: usize) -> usize
     requires { ⌜ (slots ≤ maxSlots) × (pairsAt slots ≤ length (now table)) ⌝ }
     ensures { λ r. ⌜ EndsAt slots (now (table .entry)) r ⌝ }
 {
     let mut n = slots;
+    while 16 <= n {
+        if !sixteen_free(table, slots, n - 16) {
+            return n;
+        }
+        n -= 16;
+    }
+    n
+}
+
+// A number of entries behind which all are free. Entries are taken from the front and most tables have room to spare: every pass over the
+// entries ends there. Four are asked at once, so that the number may be three too large; the room to spare is passed over by sixteens.
+fn last_in_use(table: &[u32], slots: usize) -> usize
+    requires { ⌜ (slots ≤ maxSlots) × (pairsAt slots ≤ length (now table)) ⌝ }
+    ensures { λ r. ⌜ EndsAt slots (now (table .entry)) r ⌝ }
+{
+    let mut n = end_by_sixteens(table, slots);
     while 4 <= n {
         if !four_free(table, slots, n - 4) {
             return n;
@@ -418,7 +448,7 @@ fn rule_ok(
     if pass.vias == 0 {
         return true;
     }
-    parents_ok(table, slots, seen)
+    parents_ok(table, slots, top, seen)
 }
 
 // ---- pending pairs

@@ -79,6 +79,19 @@ pub all-next : (j : ℕ) (f : ℕ → Bool) → (all j f && f j) ≡ all (j + 1)
 unfolding all
 all-next j f = rw add-one
 
+-- what holds from a place on need not be asked there
+pub all-stop : (n from : ℕ) (f : ℕ → Bool) → from ≤ n → ((k : ℕ) → from ≤ k → k < n → f k ≡ true) → all from f ≡ all n f
+unfolding all
+all-stop zero from f l h = let z : from ≡ 0 = omega arith in ap (λ (x : ℕ). all x f) z
+all-stop (suc n) from f l h =
+    by-le from n
+    (λ q. all-stop n from f q (λ k a b. h k a (omega arith)) ∙ all-left (all n f) (f n) (h n q (omega arith)))
+    (λ q. let z : from ≡ suc n = omega arith in ap (λ (x : ℕ). all x f) z)
+  where
+    all-left : (x y : Bool) → y ≡ true → x ≡ (x && y)
+    all-left true y q = sym q
+    all-left false y q = refl
+
 -- ---- first
 
 pub first-at : (n : ℕ) (f : ℕ → Bool) (k : ℕ) → k ≤ n → ((j : ℕ) → j < k → f j ≡ false) → (k < n → f k ≡ true) → first n f ≡ k

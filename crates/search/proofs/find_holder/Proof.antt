@@ -13,22 +13,22 @@ use Rattle.search.proofs.find_holder.Statement.{statement}
 use Rattle.search.proofs.find_holder.Tie as tie
 
 abbrev Inv-loop : tie.InvT-loop
-Inv-loop table slots from cell begin live start depth key i₀ i = (start ≤ i) × (i ≤ slots) × Unnamed slots table key start i
+Inv-loop table slots top from cell begin live start depth key i₀ i = (start ≤ i) × (i ≤ top) × Unnamed slots table key start i
 
 abbrev μ-loop : tie.MeasureT-loop
-μ-loop table slots from cell begin live start depth key i₀ i = slots - i
+μ-loop table slots top from cell begin live start depth key i₀ i = top - i
 
 abbrev Inv-loop2 : tie.InvT-loop2
-Inv-loop2 table slots from cell begin live start depth key i j₀ j = (j ≤ start) × Unnamed slots table key 0 j
+Inv-loop2 table slots top from cell begin live start depth key i j₀ j = (j ≤ start) × Unnamed slots table key 0 j
 
 abbrev μ-loop2 : tie.MeasureT-loop2
-μ-loop2 table slots from cell begin live start depth key i j₀ j = start - j
+μ-loop2 table slots top from cell begin live start depth key i j₀ j = start - j
 
 abbrev Inv-search : tie.InvT-search
-Inv-search table slots from cell begin live start depth₀ depth = (from ≤ depth) × Lacking slots table from cell (depth - from)
+Inv-search table slots top from cell begin live start depth₀ depth = (from ≤ depth) × Lacking slots table from cell (depth - from)
 
 abbrev μ-search : tie.MeasureT-search
-μ-search table slots from cell begin live start depth₀ depth = live + 1 - depth
+μ-search table slots top from cell begin live start depth₀ depth = live + 1 - depth
 
 returns : tie.Need-returns Inv-loop μ-loop Inv-loop2 μ-loop2 Inv-search μ-search
 returns c = sym (holder-none _ _ _ _ (λ d. none-wide _ _ d _ (c .if1 .taken)))
@@ -49,14 +49,14 @@ key-of-requires c κs = search needs
 
 pass-over-requires :
     tie.Need-pass-over-requires Inv-loop μ-loop Inv-loop2 μ-loop2 Inv-search μ-search
-pass-over-requires c κs = let p = c .before .before .before .before .before .before .before .pre in (c .before .before .before .start-at .ensures, omega arith, p .0 .0, p .0 .1, c .key-of .ensures .bare)
+pass-over-requires c κs = let p = c .before .before .before .before .before .before .before .pre in (c .before .before .before .start-at .ensures, p .0 .2 .0, p .0 .0, p .0 .1, c .key-of .ensures .bare)
 
 loop-holds : tie.Need-loop-holds Inv-loop μ-loop Inv-loop2 μ-loop2 Inv-search μ-search
 loop-holds c = c .pass-over .ensures
 
 first-word-requires :
     tie.Need-first-word-requires Inv-loop μ-loop Inv-loop2 μ-loop2 Inv-search μ-search
-first-word-requires c κs = search needs
+first-word-requires c κs = (omega (arith, c .loop-test .taken, c .before .before .before .before .before .before .before .before .before .before .pre .0 .2 .0), c .before .before .before .before .before .before .before .before .before .before .pre .0 .0, c .before .before .before .before .before .before .before .before .before .before .pre .0 .1)
 
 is-named-requires :
     tie.Need-is-named-requires Inv-loop μ-loop Inv-loop2 μ-loop2 Inv-search μ-search
@@ -73,14 +73,14 @@ loop-again c = let turn = c .before .before .before .before .loop in (omega (ari
 
 pass-over-requires-2 :
     tie.Need-pass-over-requires-2 Inv-loop μ-loop Inv-loop2 μ-loop2 Inv-search μ-search
-pass-over-requires-2 c κs = let p = c .before .before .before .before .before .before .before .before .before .before .pre in (omega arith, c .before .before .before .before .before .before .start-at .ensures, p .0 .0, p .0 .1, c .before .before .before .key-of .ensures .bare)
+pass-over-requires-2 c κs = let p = c .before .before .before .before .before .before .before .before .before .before .pre in (omega arith, omega (arith, c .before .before .before .before .before .before .start-at .ensures, p .0 .2 .0), p .0 .0, p .0 .1, c .before .before .before .key-of .ensures .bare)
 
 loop2-holds : tie.Need-loop2-holds Inv-loop μ-loop Inv-loop2 μ-loop2 Inv-search μ-search
 loop2-holds c = (c .pass-over2 .ensures .1, c .pass-over2 .ensures .2)
 
 first-word-requires-2 :
     tie.Need-first-word-requires-2 Inv-loop μ-loop Inv-loop2 μ-loop2 Inv-search μ-search
-first-word-requires-2 c κs = (omega (arith, c .loop2-test .taken, c .before .before .before .before .before .before .before .before .before .start-at .ensures), c .before .before .before .before .before .before .before .before .before .before .before .before .before .pre .0 .0, c .before .before .before .before .before .before .before .before .before .before .before .before .before .pre .0 .1)
+first-word-requires-2 c κs = (omega (arith, c .loop2-test .taken, c .before .before .before .before .before .before .before .before .before .start-at .ensures, c .before .before .before .before .before .before .before .before .before .before .before .before .before .pre .0 .2 .0), c .before .before .before .before .before .before .before .before .before .before .before .before .before .pre .0 .0, c .before .before .before .before .before .before .before .before .before .before .before .before .before .pre .0 .1)
 
 is-named-requires-2 :
     tie.Need-is-named-requires-2 Inv-loop μ-loop Inv-loop2 μ-loop2 Inv-search μ-search
@@ -108,7 +108,7 @@ search-again c =
     let turn = c .before .before .before .before .before .before .before .before .search in (
       omega (arith, turn .inv .0),
       lacking-more (a .slots) (a .table .now) (a .from) (a .cell) (turn .depth) (turn .inv .0) (turn .inv .1)
-          (found-nowhere (a .slots) (a .table .now) (p .1) (turn .depth) (a .cell) _ (omega (arith, turn .inv .0, p .0 .3)) (c .before .before .before .before .before .before .key-of .ensures) (c .before .before .before .before .before .before .before .before .before .start-at .result) (c .before .before .before .before .loop .i) (c .before .loop2 .j) (c .before .before .before .loop-test .left) (c .loop2-test .left) (c .before .before .before .before .loop .inv .2) (c .before .loop2 .inv .1)),
+          (found-nowhere (a .slots) (a .table .now) (p .1) (turn .depth) (a .cell) _ (omega (arith, turn .inv .0, p .0 .4)) (c .before .before .before .before .before .before .key-of .ensures) (a .top) (c .before .before .before .before .before .before .before .before .before .start-at .result) (c .before .before .before .before .loop .i) (c .before .loop2 .j) (p .0 .2) (c .before .before .before .loop-test .left) (c .loop2-test .left) (c .before .before .before .before .loop .inv .2) (c .before .loop2 .inv .1)),
     )
 
 returns-2 : tie.Need-returns-2 Inv-loop μ-loop Inv-loop2 μ-loop2 Inv-search μ-search
@@ -120,11 +120,12 @@ returns-3 c =
     let p = c .before .before .before .before .before .before .before .before .before .before .before .before .before .pre in
     let turn = c .before .before .before .before .before .before .before .before .search in
     let here = c .before .before .before .before .loop in
+    let inside : here .i < a .slots = omega (arith, c .before .before .before .loop-test .taken, p .0 .2 .0) in
     sym
     (holder-at (a .slots) (a .table .now) (a .from) (a .cell) (turn .depth) (here .i) (turn .inv .0) (c .before .before .before .before .before .before .before .if2 .left) (turn .inv .1)
-    (found-anywhere (a .slots) (a .table .now) (p .1) (turn .depth) (a .cell) _ (omega (arith, turn .inv .0, p .0 .3)) (c .before .before .before .before .before .before .key-of .ensures) (here .i) (c .before .before .before .loop-test .taken)
+    (found-anywhere (a .slots) (a .table .now) (p .1) (turn .depth) (a .cell) _ (omega (arith, turn .inv .0, p .0 .4)) (c .before .before .before .before .before .before .key-of .ensures) (here .i) inside
     (ap (namedBy _) (sym (c .before .before .first-word .ensures)) ∙ sym (c .before .is-named .ensures) ∙ c .if3 .taken))
-    (c .before .before .before .loop-test .taken))
+    inside)
 
 returns-4 : tie.Need-returns-4 Inv-loop μ-loop Inv-loop2 μ-loop2 Inv-search μ-search
 returns-4 c =
@@ -132,10 +133,10 @@ returns-4 c =
     let p = c .before .before .before .before .before .before .before .before .before .before .before .before .before .before .before .before .pre in
     let turn = c .before .before .before .before .before .before .before .before .before .before .before .search in
     let here = c .before .before .before .before .loop2 in
-    let inside : here .j < a .slots = omega (arith, c .before .before .before .loop2-test .taken, c .before .before .before .before .before .before .before .before .before .before .before .before .start-at .ensures) in
+    let inside : here .j < a .slots = omega (arith, c .before .before .before .loop2-test .taken, c .before .before .before .before .before .before .before .before .before .before .before .before .start-at .ensures, p .0 .2 .0) in
     sym
     (holder-at (a .slots) (a .table .now) (a .from) (a .cell) (turn .depth) (here .j) (turn .inv .0) (c .before .before .before .before .before .before .before .before .before .before .if2 .left) (turn .inv .1)
-    (found-anywhere (a .slots) (a .table .now) (p .1) (turn .depth) (a .cell) _ (omega (arith, turn .inv .0, p .0 .3)) (c .before .before .before .before .before .before .before .before .before .key-of .ensures) (here .j) inside
+    (found-anywhere (a .slots) (a .table .now) (p .1) (turn .depth) (a .cell) _ (omega (arith, turn .inv .0, p .0 .4)) (c .before .before .before .before .before .before .before .before .before .key-of .ensures) (here .j) inside
     (ap (namedBy _) (sym (c .before .before .first-word2 .ensures)) ∙ sym (c .before .is-named2 .ensures) ∙ c .if4 .taken))
     inside)
 

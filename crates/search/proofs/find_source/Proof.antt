@@ -10,10 +10,10 @@ use Rattle.search.proofs.find_source.Statement.{statement}
 use Rattle.search.proofs.find_source.Tie as tie
 
 abbrev Inv-loop : tie.InvT-loop
-Inv-loop table slots depth cell last before d₀ d = sourceIn slots table depth cell ≡ sourceIn slots table d cell
+Inv-loop table slots top depth cell last before d₀ d = sourceIn slots table depth cell ≡ sourceIn slots table d cell
 
 abbrev μ-loop : tie.MeasureT-loop
-μ-loop table slots depth cell last before d₀ d = d
+μ-loop table slots top depth cell last before d₀ d = d
 
 loop-holds : tie.Need-loop-holds Inv-loop μ-loop
 loop-holds c = search needs

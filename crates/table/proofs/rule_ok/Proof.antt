@@ -54,7 +54,7 @@ parents-ok-requires c κs = let a = c .before .before .before .before .before .b
     let passed = c .before .before .before .before .before .before .before .before .before .pass-entries .ensures .0 (not-false _ (c .before .before .before .if2 .left)) in
     let head = sym (c .before .before .before .before .before .before .before .before .before .before .before .before .before .before .head-ok .ensures) ∙ not-false _ (c .before .before .before .before .before .before .before .before .before .before .before .before .before .if1 .left) in
     let entries = pass-entries (c .before .before .before .before .before .before .before .before .before .before .before .before .cells-word .result) (a .slots) (a .bodies) (a .table .now) _ _ (passed .0) head in
-    ((search needs, search needs), (entries-markable (c .before .before .before .before .before .before .before .before .before .before .before .before .cells-word .result) (a .slots) (a .bodies) (a .table .now) entries _ (rw (passed-cells _ _ _ _ _ _ _ (passed .0)) (omega (arith, c .before .before .before .before .before .before .before .before .before .before .before .before .cells-word .ensures))), passed .0 .cells, entries-inner (c .before .before .before .before .before .before .before .before .before .before .before .before .cells-word .result) (a .slots) (a .bodies) (a .table .now) entries))
+    ((search needs, search needs, c .before .before .before .before .before .before .before .before .before .before .before .before .before .before .before .before .before .before .pre .0 .3), (entries-markable (c .before .before .before .before .before .before .before .before .before .before .before .before .cells-word .result) (a .slots) (a .bodies) (a .table .now) entries _ (rw (passed-cells _ _ _ _ _ _ _ (passed .0)) (omega (arith, c .before .before .before .before .before .before .before .before .before .before .before .before .cells-word .ensures))), passed .0 .cells, entries-inner (c .before .before .before .before .before .before .before .before .before .before .before .before .cells-word .result) (a .slots) (a .bodies) (a .table .now) entries))
 
 same-length-5 : tie.Need-same-length-5
 same-length-5 c = search needs
