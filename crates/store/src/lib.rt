@@ -195,7 +195,7 @@ pub fn open_check(memory: usize, bodies: usize, table: &[u32]) -> u32
 }
 
 // Those put to a call that needs no marks.
-fn plain_check(memory: usize, bodies: usize, table: &[u32]) -> u32
+pub fn plain_check(memory: usize, bodies: usize, table: &[u32]) -> u32
     ensures { λ r. ⌜ r ≡ storeCheck (lent memory bodies (now (table .entry))) ⌝ }
 {
     reached_check(memory, bodies, table, reach_of(table))
