@@ -82,10 +82,12 @@ pub record Source (e : ℕ) (t bodies : List ℕ) (d c : ℕ) : Type 0 where
   pub slot : sourceIn e t d c < e
   pub fits : cellAt (word2 e t (sourceIn e t d c)) + cellSize ≤ length bodies
 
--- what comparing a range with the values of depth d's parent asks: the parent holds every cell of it that depth d lacks
-pub record Comparable (memory bodies : List ℕ) (e : ℕ) (t held : List ℕ) (d : ℕ) (r : Range) : Type 0 where
+-- what comparing a range with the values of depth d's parent asks: the entries from the top-th on are free, and the parent holds every cell of the
+-- range that depth d lacks
+pub record Comparable (memory bodies : List ℕ) (e : ℕ) (t : List ℕ) (top : ℕ) (held : List ℕ) (d : ℕ) (r : Range) : Type 0 where
   pub slots : e ≤ maxSlots
   pub long : pairsAt e ≤ length t
+  pub ends : EndsAt e t top
   pub deep : live t ≤ maxLive
   pub inner : 1 ≤ d
   pub among : d ≤ live t

@@ -161,17 +161,18 @@ fn same_value(
     bodies: &[u8],
     table: &[u32],
     slots: usize,
+    top: usize,
     last: &[u16],
     before: &[u16],
     depth: u32,
     cell: usize,
 ) -> bool
     requires { ⌜ (slots ≤ maxSlots) × (pairsAt slots ≤ length (now table)) × (depth ≤ live (now table)) × (live (now table) ≤ maxLive)
-        × CellsOnce slots (now table) slots ⌝ }
+        × CellsOnce slots (now table) slots × EndsAt slots (now table) top ⌝ }
     requires { ⌜ (cell < maxCells) × (cellAt cell + cellSize ≤ length (now memory)) × Source slots (now table) (now bodies) depth cell ⌝ }
     ensures { λ r. ⌜ r ≡ sameCell (valueIn slots (now (table .entry)) (now (bodies .entry)) depth cell) (cellBytes (now (memory .entry)) cell) ⌝ }
 {
-    match find_value(table, slots, depth, cell as u32, last, before) {
+    match find_value(table, slots, top, depth, cell as u32, last, before) {
         Held::Nowhere => false,
         Held::InBody(_, body) => same_cell(bodies, wide(body), memory, cell),
     }
@@ -183,6 +184,7 @@ fn cell_agrees(
     bodies: &[u8],
     table: &[u32],
     slots: usize,
+    top: usize,
     last: &[u16],
     before: &[u16],
     held: &[u8],
@@ -190,7 +192,7 @@ fn cell_agrees(
     cell: usize,
 ) -> bool
     requires { ⌜ (slots ≤ maxSlots) × (pairsAt slots ≤ length (now table)) × (1 ≤ depth) × (depth ≤ live (now table)) × (live (now table) ≤ maxLive)
-        × CellsOnce slots (now table) slots ⌝ }
+        × CellsOnce slots (now table) slots × EndsAt slots (now table) top ⌝ }
     requires { ⌜ (cell < maxCells) × (cellAt cell + cellSize ≤ length (now memory)) × (cell < cellsIn (now held)) ⌝ }
     requires { ⌜ (lacks (now held) depth cell ≡ true → Source slots (now table) (now bodies) (parent depth) cell) ⌝ }
     ensures { λ r. ⌜ r ≡ alike (now (memory .entry)) (now (bodies .entry)) slots (now (table .entry)) (now (held .entry)) depth cell ⌝ }
@@ -203,6 +205,7 @@ fn cell_agrees(
         bodies,
         table,
         slots,
+        top,
         last,
         before,
         parent_of(depth),
@@ -216,13 +219,14 @@ fn parent_agrees(
     bodies: &[u8],
     table: &[u32],
     slots: usize,
+    top: usize,
     last: &[u16],
     before: &[u16],
     held: &[u8],
     depth: u32,
     range: Range,
 ) -> bool
-    requires { ⌜ Comparable (now memory) (now bodies) slots (now table) (now held) depth range ⌝ }
+    requires { ⌜ Comparable (now memory) (now bodies) slots (now table) top (now held) depth range ⌝ }
     ensures { λ r. ⌜ r ≡ all (range .count) (λ j.
         alike (now (memory .entry)) (now (bodies .entry)) slots (now (table .entry)) (now (held .entry)) depth (range .first + j)) ⌝ }
 {
@@ -234,6 +238,7 @@ fn parent_agrees(
             bodies,
             table,
             slots,
+            top,
             last,
             before,
             held,
@@ -253,11 +258,12 @@ fn agrees_plain(
     bodies: &[u8],
     table: &[u32],
     slots: usize,
+    top: usize,
     held: &[u8],
     depth: u32,
     range: Range,
 ) -> bool
-    requires { ⌜ Comparable (now memory) (now bodies) slots (now table) (now held) depth range ⌝ }
+    requires { ⌜ Comparable (now memory) (now bodies) slots (now table) top (now held) depth range ⌝ }
     ensures { λ r. ⌜ r ≡ all (range .count) (λ j.
         alike (now (memory .entry)) (now (bodies .entry)) slots (now (table .entry)) (now (held .entry)) depth (range .first + j)) ⌝ }
 {
@@ -267,6 +273,7 @@ fn agrees_plain(
         bodies,
         table,
         slots,
+        top,
         &notes,
         &notes,
         held,
@@ -286,7 +293,7 @@ fn agrees_few(
     depth: u32,
     range: Range,
 ) -> bool
-    requires { ⌜ (top ≤ slots) × Comparable (now memory) (now bodies) slots (now table) (now held) depth range ⌝ }
+    requires { ⌜ Comparable (now memory) (now bodies) slots (now table) top (now held) depth range ⌝ }
     ensures { λ r. ⌜ r ≡ all (range .count) (λ j.
         alike (now (memory .entry)) (now (bodies .entry)) slots (now (table .entry)) (now (held .entry)) depth (range .first + j)) ⌝ }
 {
@@ -298,6 +305,7 @@ fn agrees_few(
         bodies,
         table,
         slots,
+        top,
         &last,
         &before,
         held,
@@ -317,7 +325,7 @@ fn agrees_many(
     depth: u32,
     range: Range,
 ) -> bool
-    requires { ⌜ (top ≤ slots) × Comparable (now memory) (now bodies) slots (now table) (now held) depth range ⌝ }
+    requires { ⌜ Comparable (now memory) (now bodies) slots (now table) top (now held) depth range ⌝ }
     ensures { λ r. ⌜ r ≡ all (range .count) (λ j.
         alike (now (memory .entry)) (now (bodies .entry)) slots (now (table .entry)) (now (held .entry)) depth (range .first + j)) ⌝ }
 {
@@ -329,6 +337,7 @@ fn agrees_many(
         bodies,
         table,
         slots,
+        top,
         &last,
         &before,
         held,
@@ -352,12 +361,12 @@ fn range_agrees(
     depth: u32,
     range: Range,
 ) -> bool
-    requires { ⌜ (top ≤ slots) × Comparable (now memory) (now bodies) slots (now table) (now held) depth range ⌝ }
+    requires { ⌜ Comparable (now memory) (now bodies) slots (now table) top (now held) depth range ⌝ }
     ensures { λ r. ⌜ r ≡ all (range .count) (λ j.
         alike (now (memory .entry)) (now (bodies .entry)) slots (now (table .entry)) (now (held .entry)) depth (range .first + j)) ⌝ }
 {
     if range.count < NOTED_CELLS {
-        return agrees_plain(memory, bodies, table, slots, held, depth, range);
+        return agrees_plain(memory, bodies, table, slots, top, held, depth, range);
     }
     if top <= FEW_SLOTS {
         return agrees_few(memory, bodies, table, slots, top, held, depth, range);

@@ -11,7 +11,7 @@ use Rattle.words.specs.Layout.{cellAt, cellsOf, bodiesOf, slotsOf, pairsAt, max
 use Rattle.words.specs.Cells.{cellBytes}
 use Rattle.words.proofs.Scan.{by-bool}
 use Rattle.table.specs.Entry.{live}
-use Rattle.table.specs.Marks.{CellsOnce}
+use Rattle.table.specs.Marks.{CellsOnce, EndsAt, Reached}
 use Rattle.search.specs.Search.{heldFrom, bodyFrom, HasSource, valueFrom}
 use Rattle.search.specs.Domain.{depthNamed}
 use Rattle.search.specs.declared.Held.{Held}
@@ -26,7 +26,7 @@ use Rattle.store.specs.State.{stateOf}
 use Rattle.store.proofs.Checks.{ask-yes, ask-rest, orElse-both, store-lengths}
 use Rattle.store.proofs.Means.{by-check}
 use Rattle.store.proofs.Raw.{raw-named, check-rule, live-within}
-use Rattle.store.proofs.Checked.{checked-once}
+use Rattle.store.proofs.Checked.{checked-once, checked-ends}
 use Rattle.store.proofs.Outermost.{store-bytes}
 use Rattle.look.specs.Look.{lookCheck, placeShown, placeIn, placedBy, lookPlace, placeReport, placePart, placeWithin, shownAt, orLookRefused, lookMeans}
 use Rattle.look.specs.declared.Place.{Place}
@@ -98,11 +98,13 @@ module _ (memory bodies : ℕ) (t : List ℕ) (h c : ℕ) (p : Accepted memory b
   found-body = from-fits (cellsOf memory) (slotsOf (length t)) (bodiesOf bodies) t (check-rule memory bodies t (p .store)) (depthNamed t h) c (p .live)
 
 -- what `find_place` asks, by the numbers that the code has
-pub place-requires : (memory bodies : ℕ) (t : List ℕ) (h c slots d : ℕ) → Accepted memory bodies t h c → slots ≡ slotsOf (length t) → d ≡ depthNamed t h
-    → ((slots ≤ maxSlots) × (pairsAt slots ≤ length t) × (live t ≤ maxLive) × (1 ≤ d)) × (CellsOnce slots t slots × HasSource slots t d c)
-place-requires memory bodies t h c slots d p q r =
+pub place-requires : (memory bodies : ℕ) (t : List ℕ) (h c slots top d : ℕ) → Accepted memory bodies t h c → slots ≡ slotsOf (length t) → Reached t top → d ≡ depthNamed t h
+    → ((slots ≤ maxSlots) × (pairsAt slots ≤ length t) × EndsAt slots t top × (live t ≤ maxLive) × (1 ≤ d)) × (CellsOnce slots t slots × HasSource slots t d c)
+place-requires memory bodies t h c slots top d p q reached r =
     rw (q, r)
-    (let room = store-room memory bodies t (p .store) in ((room .0, room .1, live-within memory bodies t (p .store), p .live), (checked-once memory bodies t (p .store), found-slot memory bodies t h c p)))
+    (let room = store-room memory bodies t (p .store) in
+    let ends = checked-ends memory bodies t (p .store) top reached in
+    ((room .0, room .1, ends, live-within memory bodies t (p .store), p .live), (checked-once memory bodies t (p .store), found-slot memory bodies t h c p)))
 
 module _ (h c : ℕ) (b : Buffers) where
   pub look-refused : (q : ℕ) → q ≡ lookCheck (lentOf b) h c → (q ≡ 0 → ⊥) → Refused q ≡ lookPlace h c b

@@ -4,8 +4,9 @@ use search::find_domain;
 use search::find_value;
 use search::notes::no_notes;
 use store::Answer;
-use store::plain_check;
 use store::range_ok;
+use store::reached_check;
+use table::reach_of;
 use words::layout::CELL_SIZE;
 use words::layout::cell_at;
 use words::layout::cells_of;
@@ -17,7 +18,7 @@ ghost use lib.ListN.{length};
 ghost use Rattle.store.specs.Checks.{lent};
 ghost use Rattle.words.specs.Layout.{pairsAt, maxSlots, maxLive};
 ghost use Rattle.table.specs.Entry.{live};
-ghost use Rattle.table.specs.Marks.{CellsOnce};
+ghost use Rattle.table.specs.Marks.{CellsOnce, EndsAt, Reached};
 ghost use Rattle.search.specs.Search.{HasSource};
 ghost use Rattle.store.specs.Outcome.{buffers, report};
 ghost use Rattle.look.specs.Look.{lookCheck, placeIn, lookPlace, placePart, placeWithin, shownAt, lookMeans};
@@ -29,11 +30,19 @@ pub enum Place {
     Bodies(usize),
 }
 
-// The questions put to look: 0, or the number of the first no.
-fn look_check(memory: usize, bodies: usize, table: &[u32], handle: u32, cell: u32) -> u32
+// The questions put to look: 0, or the number of the first no. `top` is how many entries there are to pass.
+fn look_check(
+    memory: usize,
+    bodies: usize,
+    table: &[u32],
+    top: usize,
+    handle: u32,
+    cell: u32,
+) -> u32
+    requires { ⌜ Reached (now table) top ⌝ }
     ensures { λ r. ⌜ r ≡ lookCheck (lent memory bodies (now (table .entry))) handle cell ⌝ }
 {
-    let no = plain_check(memory, bodies, table);
+    let no = reached_check(memory, bodies, table, top);
     if no != 0 {
         return no;
     }
@@ -46,15 +55,15 @@ fn look_check(memory: usize, bodies: usize, table: &[u32], handle: u32, cell: u3
     0
 }
 
-// The place of a cell's bytes in a table that passed the questions.
-fn find_place(table: &[u32], slots: usize, depth: u32, cell: u32) -> Place
-    requires { ⌜ (slots ≤ maxSlots) × (pairsAt slots ≤ length (now table)) × (live (now table) ≤ maxLive) × (1 ≤ depth) ⌝ }
+// The place of a cell's bytes in a table that passed the questions. The entries from `top` on are free.
+fn find_place(table: &[u32], slots: usize, top: usize, depth: u32, cell: u32) -> Place
+    requires { ⌜ (slots ≤ maxSlots) × (pairsAt slots ≤ length (now table)) × EndsAt slots (now table) top × (live (now table) ≤ maxLive) × (1 ≤ depth) ⌝ }
     requires { ⌜ CellsOnce slots (now table) slots × HasSource slots (now table) depth cell ⌝ }
     ensures { λ r. ⌜ r ≡ placeIn slots (now (table .entry)) depth cell ⌝ }
 {
     // one search alone: notes would take longer to make
     let notes = no_notes();
-    match find_value(table, slots, depth, cell, &notes, &notes) {
+    match find_value(table, slots, top, depth, cell, &notes, &notes) {
         Held::Nowhere => Place::Memory(cell_at(wide(cell))),
         Held::InBody(_, body) => Place::Bodies(cell_at(wide(body))),
     }
@@ -67,13 +76,16 @@ pub fn look_place(memory: &[u8], bodies: &[u8], table: &[u32], handle: u32, cell
         ≡ lookMeans handle cell (buffers (now (memory .entry)) (now (bodies .entry)) (now (table .entry))) ⌝ }
     ensures within { λ r. ⌜ placeWithin r (buffers (now (memory .entry)) (now (bodies .entry)) (now (table .entry))) ⌝ }
 {
-    let no = look_check(memory.len(), bodies.len(), table, handle, cell);
+    // asked once, for the questions and for the search
+    let top = reach_of(table);
+    let no = look_check(memory.len(), bodies.len(), table, top, handle, cell);
     if no != 0 {
         return Place::Refused(no);
     }
     find_place(
         table,
         slots_of(table.len()),
+        top,
         find_domain(table, handle),
         cell,
     )
@@ -83,7 +95,14 @@ pub fn look_place(memory: &[u8], bodies: &[u8], table: &[u32], handle: u32, cell
 pub fn look_answer(memory: &[u8], bodies: &[u8], table: &[u32], handle: u32, cell: u32) -> Answer
     ensures { λ r. ⌜ report r ≡ lookMeans handle cell (buffers (now (memory .entry)) (now (bodies .entry)) (now (table .entry))) .report ⌝ }
 {
-    let no = look_check(memory.len(), bodies.len(), table, handle, cell);
+    let no = look_check(
+        memory.len(),
+        bodies.len(),
+        table,
+        reach_of(table),
+        handle,
+        cell,
+    );
     if no != 0 {
         return Answer::Refused(no);
     }

@@ -164,6 +164,7 @@ fn put_held(
     bodies: &[u8],
     table: &[u32],
     slots: usize,
+    top: usize,
     depth: u32,
     cell: usize,
     held: u8,
@@ -172,7 +173,7 @@ fn put_held(
     budget: usize,
 ) -> usize
     requires { ⌜ (slots ≤ maxSlots) × (pairsAt slots ≤ length (now table)) × (1 ≤ depth) × (cell < maxCells) × (cellAt cell + cellSize ≤ length (now memory)) ⌝ }
-    requires { ⌜ (ruleOk (cellsOf (length (now memory))) slots (bodiesOf (length (now bodies))) (now table) ≡ true) × Holders slots (now table) depth cell held ⌝ }
+    requires { ⌜ (ruleOk (cellsOf (length (now memory))) slots (bodiesOf (length (now bodies))) (now table) ≡ true) × Holders slots (now table) depth cell held × EndsAt slots (now table) top ⌝ }
     ensures made { λ r. ⌜ r ≡ length (backPlan slots (now (table .entry)) depth (now (bodies .entry)) cell) ⌝ }
     ensures few { λ r. ⌜ r ≤ cellSize ⌝ }
     ensures bytes { λ _. ⌜ now (memory .exit) ≡ stores (take budget (backPlan slots (now (table .entry)) depth (now (bodies .entry)) cell)) (now (memory .entry)) ⌝ }
@@ -180,7 +181,15 @@ fn put_held(
     if held == 0 {
         return 0;
     }
-    match find_value(table, slots, first_depth(held), cell as u32, last, before) {
+    match find_value(
+        table,
+        slots,
+        top,
+        first_depth(held),
+        cell as u32,
+        last,
+        before,
+    ) {
         Held::Nowhere => 0,
         Held::InBody(_, body) => {
             let at = cell_at(wide(body));
@@ -196,6 +205,7 @@ fn put_run(
     bodies: &[u8],
     table: &[u32],
     slots: usize,
+    top: usize,
     depth: u32,
     seen: &[u8],
     mask: u8,
@@ -207,7 +217,7 @@ fn put_run(
 ) -> usize
     requires { ⌜ (slots ≤ maxSlots) × (pairsAt slots ≤ length (now table)) × (1 ≤ depth) × (cellsOf (length (now memory)) ≤ maxCells)
         × (n ≤ runSize) × (from + n ≤ cellsIn (now seen)) × (from + n ≤ cellsOf (length (now memory))) ⌝ }
-    requires { ⌜ (ruleOk (cellsOf (length (now memory))) slots (bodiesOf (length (now bodies))) (now table) ≡ true) × Tells slots (now table) depth mask (now seen) ⌝ }
+    requires { ⌜ (ruleOk (cellsOf (length (now memory))) slots (bodiesOf (length (now bodies))) (now table) ≡ true) × Tells slots (now table) depth mask (now seen) × EndsAt slots (now table) top ⌝ }
     ensures made { λ r. ⌜ r ≡ length (groupPlan slots (now (table .entry)) depth (now (bodies .entry)) from n) ⌝ }
     ensures few { λ r. ⌜ r ≤ cellSize * n ⌝ }
     ensures bytes { λ _. ⌜ now (memory .exit) ≡ stores (take budget (groupPlan slots (now (table .entry)) depth (now (bodies .entry)) from n)) (now (memory .entry)) ⌝ }
@@ -221,6 +231,7 @@ fn put_run(
             bodies,
             table,
             slots,
+            top,
             depth,
             cell,
             mark_of(seen, cell) & mask,
@@ -239,6 +250,7 @@ fn put_back(
     bodies: &[u8],
     table: &[u32],
     slots: usize,
+    top: usize,
     depth: u32,
     seen: &[u8],
     mask: u8,
@@ -247,7 +259,7 @@ fn put_back(
     budget: usize,
 ) -> usize
     requires { ⌜ (slots ≤ maxSlots) × (pairsAt slots ≤ length (now table)) × (1 ≤ depth) × (cellsOf (length (now memory)) ≤ maxCells) × Kept (now seen) ⌝ }
-    requires { ⌜ (ruleOk (cellsOf (length (now memory))) slots (bodiesOf (length (now bodies))) (now table) ≡ true) × Tells slots (now table) depth mask (now seen) ⌝ }
+    requires { ⌜ (ruleOk (cellsOf (length (now memory))) slots (bodiesOf (length (now bodies))) (now table) ≡ true) × Tells slots (now table) depth mask (now seen) × EndsAt slots (now table) top ⌝ }
     ensures made { λ r. ⌜ r ≡ length (gather (cellsOf (length (now (memory .entry)))) (backPlan slots (now (table .entry)) depth (now (bodies .entry)))) ⌝ }
     ensures few { λ r. ⌜ r ≤ cellSize * maxCells ⌝ }
     ensures bytes { λ _. ⌜ now (memory .exit)
@@ -264,6 +276,7 @@ fn put_back(
             bodies,
             table,
             slots,
+            top,
             depth,
             seen,
             mask,
@@ -290,7 +303,7 @@ fn memory_noted(
     before: &mut [u16],
     budget: usize,
 ) -> usize
-    requires { ⌜ (slotsOf (length (now table)) ≤ maxSlots) × (pairsAt (slotsOf (length (now table))) ≤ length (now table)) × (top ≤ slotsOf (length (now table)))
+    requires { ⌜ (slotsOf (length (now table)) ≤ maxSlots) × (pairsAt (slotsOf (length (now table))) ≤ length (now table)) × EndsAt (slotsOf (length (now table))) (now table) top
         × (1 ≤ depth) × (depth ≤ maxLive) × (cellsOf (length (now memory)) ≤ maxCells) × Kept (now seen) ⌝ }
     requires { ⌜ (ruleOk (cellsOf (length (now memory))) (slotsOf (length (now table))) (bodiesOf (length (now bodies))) (now table) ≡ true)
         × Marked (slotsOf (length (now table))) (now table) (slotsOf (length (now table))) (now seen) ⌝ }
@@ -307,6 +320,7 @@ fn memory_noted(
         bodies,
         table,
         slots,
+        top,
         depth,
         seen,
         mask,
@@ -326,7 +340,7 @@ fn memory_few(
     seen: &[u8],
     budget: usize,
 ) -> usize
-    requires { ⌜ (slotsOf (length (now table)) ≤ maxSlots) × (pairsAt (slotsOf (length (now table))) ≤ length (now table)) × (top ≤ slotsOf (length (now table)))
+    requires { ⌜ (slotsOf (length (now table)) ≤ maxSlots) × (pairsAt (slotsOf (length (now table))) ≤ length (now table)) × EndsAt (slotsOf (length (now table))) (now table) top
         × (1 ≤ depth) × (depth ≤ maxLive) × (cellsOf (length (now memory)) ≤ maxCells) × Kept (now seen) ⌝ }
     requires { ⌜ (ruleOk (cellsOf (length (now memory))) (slotsOf (length (now table))) (bodiesOf (length (now bodies))) (now table) ≡ true)
         × Marked (slotsOf (length (now table))) (now table) (slotsOf (length (now table))) (now seen) ⌝ }
@@ -360,7 +374,7 @@ fn memory_many(
     seen: &[u8],
     budget: usize,
 ) -> usize
-    requires { ⌜ (slotsOf (length (now table)) ≤ maxSlots) × (pairsAt (slotsOf (length (now table))) ≤ length (now table)) × (top ≤ slotsOf (length (now table)))
+    requires { ⌜ (slotsOf (length (now table)) ≤ maxSlots) × (pairsAt (slotsOf (length (now table))) ≤ length (now table)) × EndsAt (slotsOf (length (now table))) (now table) top
         × (1 ≤ depth) × (depth ≤ maxLive) × (cellsOf (length (now memory)) ≤ maxCells) × Kept (now seen) ⌝ }
     requires { ⌜ (ruleOk (cellsOf (length (now memory))) (slotsOf (length (now table))) (bodiesOf (length (now bodies))) (now table) ≡ true)
         × Marked (slotsOf (length (now table))) (now table) (slotsOf (length (now table))) (now seen) ⌝ }
@@ -394,7 +408,7 @@ fn restore_memory(
     seen: &[u8],
     budget: usize,
 ) -> usize
-    requires { ⌜ (slotsOf (length (now table)) ≤ maxSlots) × (pairsAt (slotsOf (length (now table))) ≤ length (now table)) × (top ≤ slotsOf (length (now table)))
+    requires { ⌜ (slotsOf (length (now table)) ≤ maxSlots) × (pairsAt (slotsOf (length (now table))) ≤ length (now table)) × EndsAt (slotsOf (length (now table))) (now table) top
         × (1 ≤ depth) × (depth ≤ maxLive) × (cellsOf (length (now memory)) ≤ maxCells) × Kept (now seen) ⌝ }
     requires { ⌜ (ruleOk (cellsOf (length (now memory))) (slotsOf (length (now table))) (bodiesOf (length (now bodies))) (now table) ≡ true)
         × Marked (slotsOf (length (now table))) (now table) (slotsOf (length (now table))) (now seen) ⌝ }

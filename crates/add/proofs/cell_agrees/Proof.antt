@@ -15,7 +15,7 @@ parent-of-requires : tie.Need-parent-of-requires
 parent-of-requires c κs = search needs
 
 same-value-requires : tie.Need-same-value-requires
-same-value-requires c κs = ((search needs, search needs, search needs, search needs, search needs), (search needs, search needs, rw (c .parent-of .ensures) (c .before .before .before .before .before .before .before .before .before .pre .1 .1 (sym (c .before .before .is-new .ensures) ∙ not-false _ (c .before .if1 .left)))))
+same-value-requires c κs = ((search needs, search needs, search needs, search needs, search needs, search needs), (search needs, search needs, rw (c .parent-of .ensures) (c .before .before .before .before .before .before .before .before .before .pre .1 .1 (sym (c .before .before .is-new .ensures) ∙ not-false _ (c .before .if1 .left)))))
 
 returns-2 : tie.Need-returns-2
 returns-2 c = rw (c .before .parent-of .ensures) at (c .same-value .ensures) ∙ rw (sym (c .before .before .before .is-new .ensures) ∙ not-false _ (c .before .before .if1 .left))

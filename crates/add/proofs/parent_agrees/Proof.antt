@@ -12,10 +12,10 @@ use Rattle.add.proofs.parent_agrees.Statement.{statement}
 use Rattle.add.proofs.parent_agrees.Tie as tie
 
 abbrev Inv-loop : tie.InvT-loop
-Inv-loop memory bodies table slots last before held depth range j₀ j = (j ≤ range .count) × ((i : ℕ) → i < j → alike memory bodies slots table held depth (range .first + i) ≡ true)
+Inv-loop memory bodies table slots top last before held depth range j₀ j = (j ≤ range .count) × ((i : ℕ) → i < j → alike memory bodies slots table held depth (range .first + i) ≡ true)
 
 abbrev μ-loop : tie.MeasureT-loop
-μ-loop memory bodies table slots last before held depth range j₀ j = range .count - j
+μ-loop memory bodies table slots top last before held depth range j₀ j = range .count - j
 
 loop-holds : tie.Need-loop-holds Inv-loop μ-loop
 loop-holds c = (search needs, below-none _)
@@ -26,7 +26,7 @@ add-cell c = search needs
 cell-agrees-requires : tie.Need-cell-agrees-requires Inv-loop μ-loop
 cell-agrees-requires c κs =
     let p = c .before .before .before .before .before .before .before .before .before .before .pre in
-    ((p .slots, p .long, p .inner, p .among, p .deep, p .once), ((search needs, search needs, search needs), p .sources (c .before .before .before .loop .j) (c .before .if1 .taken)))
+    ((p .slots, p .long, p .inner, p .among, p .deep, p .once, p .ends), ((search needs, search needs, search needs), p .sources (c .before .before .before .loop .j) (c .before .if1 .taken)))
 
 returns : tie.Need-returns Inv-loop μ-loop
 returns c =

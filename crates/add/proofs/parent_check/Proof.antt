@@ -36,21 +36,20 @@ range-agrees-requires c κs =
     let p = c .before .before .before .before .before .before .before .before .before .before .pre in
     let f = store-lengths _ _ (a .table .now) (p .0 .0) in
     let same = covered-is (slotsOf (length (a .table .now))) (a .table .now) (a .held .now) (p .1 .1) (p .0 .1) (a .memory .now) (a .bodies .now) (a .range .first) (a .range .count) in
-    rw (c .slots-of .ensures) (
-      p .0 .3 .0,
-      record {
-        slots = f .slots-high;
-        long = omega (arith, f .table-exact);
-        deep = raw-rule (a .memory .now) (a .bodies .now) (a .table .now) (p .0 .0) .live;
-        inner = p .0 .1;
-        among = omega arith;
-        once = checked-once _ _ (a .table .now) (p .0 .0);
-        few = omega (arith, p .0 .2, f .cells-high);
-        fits = omega (arith, p .0 .2, f .memory-exact);
-        cells = p .1 .0;
-        sources = sources (a .memory .now) (a .bodies .now) (a .table .now) (p .0 .0) (a .range .first) (a .range .count) (a .held .now) (p .1 .1) (p .0 .1) (sym same ∙ sym (c .before .before .parent-holds .ensures) ∙ not-false _ (c .before .if2 .left));
-      },
-    )
+    rw (c .slots-of .ensures)
+    (record {
+      slots = f .slots-high;
+      long = omega (arith, f .table-exact);
+      ends = p .0 .3;
+      deep = raw-rule (a .memory .now) (a .bodies .now) (a .table .now) (p .0 .0) .live;
+      inner = p .0 .1;
+      among = omega arith;
+      once = checked-once _ _ (a .table .now) (p .0 .0);
+      few = omega (arith, p .0 .2, f .cells-high);
+      fits = omega (arith, p .0 .2, f .memory-exact);
+      cells = p .1 .0;
+      sources = sources (a .memory .now) (a .bodies .now) (a .table .now) (p .0 .0) (a .range .first) (a .range .count) (a .held .now) (p .1 .1) (p .0 .1) (sym same ∙ sym (c .before .before .parent-holds .ensures) ∙ not-false _ (c .before .if2 .left));
+    })
 
 returns-3 : tie.Need-returns-3
 returns-3 c =

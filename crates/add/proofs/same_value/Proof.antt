@@ -28,7 +28,7 @@ find-value-requires c κs =
     let a = c .before .before .before .before .before .args in
     let p = c .before .before .before .before .before .pre in
     let low = source-low (a .slots) (a .table .now) (a .depth) (a .cell) (p .1 .2 .slot) in
-    ((p .0 .0, p .0 .1, p .0 .3, low), (p .0 .4, source-here (a .slots) (a .table .now) (a .depth) (a .cell) (p .0 .2) (p .1 .2 .slot)))
+    ((p .0 .0, p .0 .1, p .0 .5, p .0 .3, low), (p .0 .4, source-here (a .slots) (a .table .now) (a .depth) (a .cell) (p .0 .2) (p .1 .2 .slot)))
 
 enum-told : tie.Need-enum-told
 enum-told c = search needs

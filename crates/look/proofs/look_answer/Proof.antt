@@ -6,14 +6,17 @@ use borrow.Author.Needs.{needs}
 use Rattle.look.proofs.look_answer.Statement.{statement}
 use Rattle.look.proofs.look_answer.Tie as tie
 
+reach-of-requires : tie.Need-reach-of-requires
+reach-of-requires c κs = search needs
+
 look-check-requires : tie.Need-look-check-requires
-look-check-requires c κs = search needs
+look-check-requires c κs = c .reach-of .ensures
 
 returns : tie.Need-returns
-returns c = answer-refused (c .before .before .before .before .before .args .handle) (c .before .before .before .before .before .args .cell) _ (buffers (c .before .before .before .before .before .args .memory .now) (c .before .before .before .before .before .args .bodies .now) (c .before .before .before .before .before .args .table .now)) (c .before .look-check .ensures) (c .if1 .taken)
+returns c = let a = c .before .before .before .before .before .before .args in answer-refused (a .handle) (a .cell) _ (buffers (a .memory .now) (a .bodies .now) (a .table .now)) (c .before .look-check .ensures) (c .if1 .taken)
 
 returns-2 : tie.Need-returns-2
-returns-2 c = answer-done (c .before .before .before .before .before .args .handle) (c .before .before .before .before .before .args .cell) (buffers (c .before .before .before .before .before .args .memory .now) (c .before .before .before .before .before .args .bodies .now) (c .before .before .before .before .before .args .table .now)) (sym (c .before .look-check .ensures) ∙ c .if1 .left)
+returns-2 c = let a = c .before .before .before .before .before .before .args in answer-done (a .handle) (a .cell) (buffers (a .memory .now) (a .bodies .now) (a .table .now)) (sym (c .before .look-check .ensures) ∙ c .if1 .left)
 
 pub look-answer-spec : {M : Type 1} → statement M
-look-answer-spec = tie.close (tie.spec look-check-requires returns returns-2)
+look-answer-spec = tie.close (tie.spec reach-of-requires look-check-requires returns returns-2)

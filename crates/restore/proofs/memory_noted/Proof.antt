@@ -26,7 +26,7 @@ put-back-requires c κs =
     let p = c .before .before .before .before .before .before .before .before .before .before .before .before .before .before .before .before .before .before .pre in
     let q = c .before .before .before .before .before .before .before .before .before .before .before .slots-of .ensures in
     let tell = marks-tell (slotsOf (length (a .table .now))) (a .table .now) (a .depth) (p .0 .3) (p .0 .4) (a .seen .now) (p .1 .1) in
-    ((omega (arith, q, p .0 .0), omega (arith, q, p .0 .1), p .0 .3, p .0 .5, p .0 .6), (rw q (p .1 .0), rw (q, c .before .before .before .before .before .before .before .before .before .before .inwards-of .ensures) tell))
+    ((omega (arith, q, p .0 .0), omega (arith, q, p .0 .1), p .0 .3, p .0 .5, p .0 .6), (rw q (p .1 .0), rw (q, c .before .before .before .before .before .before .before .before .before .before .inwards-of .ensures) tell, rw q (p .0 .2)))
 
 same-length : tie.Need-same-length
 same-length c = search needs

@@ -19,10 +19,10 @@ use Rattle.restore.proofs.put_back.Statement.{statement}
 use Rattle.restore.proofs.put_back.Tie as tie
 
 abbrev Inv-loop : tie.InvT-loop
-Inv-loop memory₀ bodies table slots depth seen mask last before budget cells runs bytes₀ r₀ memory bytes r = (r ≤ runs) × (bytes ≤ 64 * min cells (8 * r)) × (length memory ≡ length memory₀) × (bytes ≡ length (gather (min cells (8 * r)) (backPlan slots table depth bodies))) × (memory ≡ stores (take budget (gather (min cells (8 * r)) (backPlan slots table depth bodies))) memory₀)
+Inv-loop memory₀ bodies table slots top depth seen mask last before budget cells runs bytes₀ r₀ memory bytes r = (r ≤ runs) × (bytes ≤ 64 * min cells (8 * r)) × (length memory ≡ length memory₀) × (bytes ≡ length (gather (min cells (8 * r)) (backPlan slots table depth bodies))) × (memory ≡ stores (take budget (gather (min cells (8 * r)) (backPlan slots table depth bodies))) memory₀)
 
 abbrev μ-loop : tie.MeasureT-loop
-μ-loop memory₀ bodies table slots depth seen mask last before budget cells runs bytes₀ r₀ memory bytes r = runs - r
+μ-loop memory₀ bodies table slots top depth seen mask last before budget cells runs bytes₀ r₀ memory bytes r = runs - r
 
 cells-of-requires : tie.Need-cells-of-requires Inv-loop μ-loop
 cells-of-requires c κs = search needs
@@ -72,7 +72,7 @@ put-run-requires c κs =
     let p = c .before .before .before .before .before .before .before .before .before .before .before .before .before .before .pre in
     let all = cells-all (a .seen .now) (omega (arith, p .0 .4 .room)) in (
       (p .0 .0, p .0 .1, p .0 .2, omega (arith, s .inv .2, p .0 .3), omega (arith, n), omega (arith, n, q, h, all, p .0 .3), omega (arith, n, q, h, s .inv .2)),
-      (subst (λ (n : ℕ). ruleOk (cellsOf n) (a .slots) (bodiesOf (length (a .bodies .now))) (a .table .now) ≡ true) (sym (s .inv .2)) (p .1 .0), p .1 .1),
+      (subst (λ (n : ℕ). ruleOk (cellsOf n) (a .slots) (bodiesOf (length (a .bodies .now))) (a .table .now) ≡ true) (sym (s .inv .2)) (p .1 .0), p .1 .1, p .1 .2),
     )
 
 add-bytes : tie.Need-add-bytes Inv-loop μ-loop

@@ -24,7 +24,7 @@ find-value-requires c κs =
     let a = c .before .before .before .before .before .before .before .args in
     let p = c .before .before .before .before .before .before .before .pre in
     let f = c .first-depth .ensures in
-    ((p .0 .0, p .0 .1, put-live _ (a .slots) (a .table .now) (a .depth) (a .cell) (a .bodies .now) (p .1 .0) (p .0 .2), f .low), (put-once _ (a .slots) (a .table .now) (a .depth) (a .cell) (a .bodies .now) (p .1 .0) (p .0 .2), put-source _ (a .slots) (a .table .now) (c .first-depth .result) (a .cell) (a .bodies .now) (p .1 .0) (f .low)))
+    ((p .0 .0, p .0 .1, p .1 .2, put-live _ (a .slots) (a .table .now) (a .depth) (a .cell) (a .bodies .now) (p .1 .0) (p .0 .2), f .low), (put-once _ (a .slots) (a .table .now) (a .depth) (a .cell) (a .bodies .now) (p .1 .0) (p .0 .2), put-source _ (a .slots) (a .table .now) (c .first-depth .result) (a .cell) (a .bodies .now) (p .1 .0) (f .low)))
 
 enum-told : tie.Need-enum-told
 enum-told c = search needs

@@ -19,10 +19,10 @@ use Rattle.restore.proofs.put_run.Statement.{statement}
 use Rattle.restore.proofs.put_run.Tie as tie
 
 abbrev Inv-loop : tie.InvT-loop
-Inv-loop memory₀ bodies table slots depth seen mask from n last before budget bytes₀ j₀ memory bytes j = (j ≤ n) × (bytes ≤ 64 * j) × (length memory ≡ length memory₀) × (bytes ≡ length (groupPlan slots table depth bodies from j)) × (memory ≡ stores (take budget (groupPlan slots table depth bodies from j)) memory₀)
+Inv-loop memory₀ bodies table slots top depth seen mask from n last before budget bytes₀ j₀ memory bytes j = (j ≤ n) × (bytes ≤ 64 * j) × (length memory ≡ length memory₀) × (bytes ≡ length (groupPlan slots table depth bodies from j)) × (memory ≡ stores (take budget (groupPlan slots table depth bodies from j)) memory₀)
 
 abbrev μ-loop : tie.MeasureT-loop
-μ-loop memory₀ bodies table slots depth seen mask from n last before budget bytes₀ j₀ memory bytes j = n - j
+μ-loop memory₀ bodies table slots top depth seen mask from n last before budget bytes₀ j₀ memory bytes j = n - j
 
 loop-holds : tie.Need-loop-holds Inv-loop μ-loop
 loop-holds c = (search needs, search needs, refl, refl, stores-none (c .before .before .before .before .before .before .args .budget) (c .before .before .before .before .before .before .args .memory .now))
@@ -43,7 +43,7 @@ put-held-requires c κs =
     let here = c .before .before .before .loop-test .taken in
     let p = c .before .before .before .before .before .before .before .before .before .before .before .pre in (
       (p .0 .0, p .0 .1, p .0 .2, omega (arith, p .0 .6, p .0 .3), omega (arith, p .0 .6, s .inv .2)),
-      (subst (λ (n : ℕ). ruleOk (cellsOf n) (a .slots) (bodiesOf (length (a .bodies .now))) (a .table .now) ≡ true) (sym (s .inv .2)) (p .1 .0), subst (λ (m : ℕ). Holders (a .slots) (a .table .now) (a .depth) (a .from + s .j) (bitAnd m (a .mask))) (sym (c .before .mark-of .ensures)) (p .1 .1 (a .from + s .j))),
+      (subst (λ (n : ℕ). ruleOk (cellsOf n) (a .slots) (bodiesOf (length (a .bodies .now))) (a .table .now) ≡ true) (sym (s .inv .2)) (p .1 .0), subst (λ (m : ℕ). Holders (a .slots) (a .table .now) (a .depth) (a .from + s .j) (bitAnd m (a .mask))) (sym (c .before .mark-of .ensures)) (p .1 .1 (a .from + s .j)), p .1 .2),
     )
 
 add-bytes : tie.Need-add-bytes Inv-loop μ-loop

@@ -41,7 +41,7 @@ restore-memory-requires c κs =
     let named = c .before .before .before .find-domain .ensures in
     let ends = c .before .before .before .before .before .before .before .before .before .before .before .before .before .before .before .before .before .before .before .pre .reached (f .slots-low) (f .slots-high) .0 in
     let marks = c .before .before .before .before .before .before .before .before .before .before .restore-check .ensures .1 (c .before .before .before .before .before .if1 .left) in (
-      (f .slots-high, omega (arith, f .table-exact), ends .0, omega (arith, named, restore-depth _ _ t (a .handle) passed), omega (arith, named, depth-small t (a .handle), live-within _ _ t store), f .cells-high, marks .kept),
+      (f .slots-high, omega (arith, f .table-exact), ends, omega (arith, named, restore-depth _ _ t (a .handle) passed), omega (arith, named, depth-small t (a .handle), live-within _ _ t store), f .cells-high, marks .kept),
       (rule-passed _ _ t store, marks .cells),
     )
 
