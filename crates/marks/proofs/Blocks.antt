@@ -2,17 +2,17 @@
 use Prim.Native.Nat.{ℕ, zero, suc, _+_, _-_, _*_, _/_, _%_, _<_, _≤_, min}
 use mathlib.Core.Bool.{Bool, true, false, cond, not, _||_}
 use mathlib.Core.List.{List, [], _∷_}
-use mathlib.Core.Path.{_≡_, refl, sym, ap, _∙_}
+use mathlib.Core.Path.{_≡_, refl, sym, ap, ap₂, _∙_}
 use native.Mathlib.Omega.{arith}
 use borrow.Author.Tests.{not-false, eq-eqb, ne-eqb, eqb-true, eqb-false, lt-ltb, ltb-true, le-leb, leb-true}
-use lib.Bits.{bitAnd, and-zero-l}
+use lib.Bits.{bitAnd, and-zero-l, and-le-r, and-block}
 use lib.Dec.{eqb, ltb, leb}
 use lib.ListN.{length, getD, set, take, drop, replicate, length-set, length-replicate}
 use lib.Seq.{getD-set-same, getD-set-other, getD-take, getD-drop}
 use Rattle.words.specs.Layout.{maxCells, groupSize, groupOf}
 use Rattle.words.specs.Scan.{count}
 use Rattle.words.proofs.Scan.{by-bool, by-le, or-split, is-false, true≢, count-le, count-flip, count-ext, count-none}
-use Rattle.marks.specs.Blocks.{number, putNumber, taken, blockOf, owns, maxGroups, groupsFor, directoryEnd, blockAt, placeOf, markOf, cellsIn, Kept, Outside, withBlock, markCell, Spare, Room, OneMark, Blank, zeros, withDepth}
+use Rattle.marks.specs.Blocks.{number, putNumber, taken, blockOf, owns, maxGroups, groupsFor, directoryEnd, blockAt, placeOf, markOf, cellsIn, Kept, Outside, withBlock, markCell, Spare, Room, OneMark, Blank, zeros, withDepth, packed, spread, runHeld}
 
 -- ---- where marks stand
 
@@ -442,15 +442,6 @@ row-blank s at n g from start long none so-far k low high =
 
 -- ---- what the marks of a group have of a mask
 
--- x says whether one of the first j has any of it
-pub held-more : (marks : List ℕ) (mask j : ℕ) (x : Bool) → (x ≡ false → (k : ℕ) → k < j → bitAnd (getD marks k 0) mask ≡ 0)
-    → (x || not (eqb (bitAnd (getD marks j 0) mask) 0)) ≡ false → (k : ℕ) → k < j + 1 → bitAnd (getD marks k 0) mask ≡ 0
-held-more marks mask j x so-far h k l =
-    let both = or-split x (not (eqb (bitAnd (getD marks j 0) mask) 0)) h in
-    by-le j k
-    (λ far. let q : k ≡ j = omega (arith, far, l) in rw q (eqb-true _ 0 (not-false _ (both .1))))
-    (λ near. so-far (both .0) k near)
-
 -- none, where it has no block
 pub none-held : (s : List ℕ) → Kept s → (mask c : ℕ) → blockOf s (c / 64) ≡ 0 → bitAnd (markOf s c) mask ≡ 0
 none-held s ok mask c h = ap (λ (m : ℕ). bitAnd m mask) (group-none s ok c h) ∙ and-zero-l mask
@@ -461,13 +452,58 @@ part-fits s ok cell n small one =
     let block = ok .low (cell / 64) (omega (arith, small)) in
     (omega (arith, place-is s cell, block, ok .room, one), omega (arith, place-is s cell, block, few s ok, one))
 
-pub part-held : (s : List ℕ) (cell n mask w : ℕ) → cell < maxCells → cell % 64 + n ≤ 64 → n ≤ w
-    → ((j : ℕ) → j < n → bitAnd (getD (take w (drop (placeOf s cell) s)) j 0) mask ≡ 0) → (c : ℕ) → cell ≤ c → c < cell + n → bitAnd (markOf s c) mask ≡ 0
-part-held s cell n mask w small one long none c low high =
-    let same : c / 64 ≡ cell / 64 = omega (arith, one, low, high) in
-    let block : blockOf s (c / 64) ≡ blockOf s (cell / 64) = ap (blockOf s) same in
-    let there : placeOf s c ≡ placeOf s cell + (c - cell) = omega (arith, place-is s c, place-is s cell, block, same, one, low, high) in
-    let mark : markOf s c ≡ getD (take w (drop (placeOf s cell) s)) (c - cell) 0 =
-    mark-at s c (omega (arith, small, same)) ∙ ap (λ (p : ℕ). getD s p 0) there
-    ∙ sym (rw (getD-take w (drop (placeOf s cell) s) (c - cell) 0 (omega (arith, long, low, high)), getD-drop)) in
-    ap (λ (m : ℕ). bitAnd m mask) mark ∙ none (c - cell) (omega (arith, low, high))
+-- the j-th of them as the part has it
+pub part-mark : (s : List ℕ) (cell n w : ℕ) → cell < maxCells → cell % 64 + n ≤ 64 → n ≤ w → (j : ℕ) → j < n
+    → getD (take w (drop (placeOf s cell) s)) j 0 ≡ markOf s (cell + j)
+part-mark s cell n w small one long j b =
+    let same : (cell + j) / 64 ≡ cell / 64 = omega (arith, one, b) in
+    let block : blockOf s ((cell + j) / 64) ≡ blockOf s (cell / 64) = ap (blockOf s) same in
+    let there : placeOf s (cell + j) ≡ placeOf s cell + j = omega (arith, place-is s (cell + j), place-is s cell, block, same, one, b) in
+    rw (getD-take w (drop (placeOf s cell) s) j 0 (omega (arith, long, b)), getD-drop) (sym (mark-at s (cell + j) (omega (arith, small, same)) ∙ ap (λ (p : ℕ). getD s p 0) there))
+
+-- ---- a run of marks as one number
+
+pub packed-four : (l : List ℕ) (k : ℕ) → packed l k 4 ≡ getD l k 0 + 256 * getD l (k + 1) 0 + 65536 * getD l (k + 2) 0 + 16777216 * getD l (k + 3) 0
+unfolding packed
+packed-four l k =
+    let at : (i j : ℕ) → i ≡ j → getD l i 0 ≡ getD l j 0 = λ i j q. ap (λ (x : ℕ). getD l x 0) q in
+    omega (arith, at (suc k) (k + 1) (omega arith), at (suc (suc k)) (k + 2) (omega arith), at (suc (suc (suc k))) (k + 3) (omega arith))
+
+pub packed-eight : (l : List ℕ) → packed l 0 8 ≡ packed l 0 4 + 4294967296 * packed l 4 4
+unfolding packed
+packed-eight l = omega arith
+
+pub spread-eight : (mask : ℕ) → spread mask 8 ≡ 72340172838076673 * mask
+unfolding spread
+spread-eight mask = omega arith
+
+module _ (s : List ℕ) (mask : ℕ) (small : mask < 256) where
+  -- byte by byte, what it has in common with a mask that is spread
+  pub held-bytes : (l : List ℕ) (k c n : ℕ) → ((j : ℕ) → j < n → getD l (k + j) 0 ≡ markOf s (c + j)) → ((j : ℕ) → j < n → getD l (k + j) 0 < 256)
+      → bitAnd (packed l k n) (spread mask n) ≡ runHeld s mask c n
+  unfolding packed spread runHeld
+  held-bytes l k c zero same bytes = refl
+  held-bytes l k c (suc n) same bytes =
+      let a : k + 0 ≡ k = omega arith in
+      let b : c + 0 ≡ c = omega arith in
+      let here : getD l k 0 ≡ markOf s c = rw (a, b) at (same 0 (omega arith)) in
+      let rest =
+      held-bytes l (suc k) (suc c) n
+      (λ j h. let p : k + suc j ≡ suc k + j = omega arith in let q : c + suc j ≡ suc c + j = omega arith in rw (p, q) at (same (suc j) (omega (arith, h))))
+      (λ j h. let p : k + suc j ≡ suc k + j = omega arith in rw p at (bytes (suc j) (omega (arith, h)))) in
+      and-block 8 (packed l (suc k) n) (spread mask n) (getD l k 0) mask (rw a at (bytes 0 (omega arith))) small
+      ∙ ap₂ (λ (x y : ℕ). x * 256 + bitAnd y mask) rest here
+
+  -- the first cell's byte, and the others
+  pub held-first : (c n : ℕ) → (runHeld s mask c (suc n) % 256 ≡ bitAnd (markOf s c) mask) × (runHeld s mask c (suc n) / 256 ≡ runHeld s mask (suc c) n)
+  unfolding runHeld
+  held-first c n = let few = and-le-r (markOf s c) mask in (omega (arith, few, small), omega (arith, few, small))
+
+-- none of them has any, where it is 0
+pub run-none : (s : List ℕ) (mask c n : ℕ) → runHeld s mask c n ≡ 0 → (k : ℕ) → c ≤ k → k < c + n → bitAnd (markOf s k) mask ≡ 0
+unfolding runHeld
+run-none s mask c zero h k low high = absurd (omega (arith, low, high))
+run-none s mask c (suc n) h k low high =
+    by-le (suc c) k
+    (λ far. run-none s mask (suc c) n (omega (arith, h)) k far (omega (arith, high)))
+    (λ near. let q : k ≡ c = omega (arith, near, low) in rw q (omega (arith, h)))

@@ -1,10 +1,11 @@
 -- Marks of cells, a byte each, kept in blocks of 64 that are taken as cells are marked: they cost what the table has and not what memory has.
 -- In front stands the directory, in numbers of two bytes: how many blocks are taken, then for each group of 64 cells the number of its block, 0
 -- where it has none. The blocks stand behind it. Block 0 belongs to no group and is blank.
-use Prim.Native.Nat.{ℕ, _+_, _-_, _*_, _/_, _%_, _^_, _<_, _≤_, min}
+use Prim.Native.Nat.{ℕ, zero, suc, _+_, _-_, _*_, _/_, _%_, _^_, _<_, _≤_, min}
 use mathlib.Core.Bool.{Bool, cond, not}
 use mathlib.Core.List.{List}
 use mathlib.Core.Path.{_≡_}
+use lib.Bits.{bitAnd}
 use lib.Dec.{ltb, leb, eqb}
 use lib.ListN.{length, getD, set, replicate}
 use Rattle.words.specs.Layout.{maxCells, groupSize, groupAt, groupOf, inGroup}
@@ -116,3 +117,26 @@ Enough k n m = min n (groupsFor m) ≤ k
 -- cell c has mark v, and every other the mark that it had
 abbrev pub OneMark : (before : List ℕ) (c v : ℕ) (after : List ℕ) → Type 0
 OneMark before c v after = (k : ℕ) → markOf after k ≡ cond (eqb k c) v (markOf before k)
+
+-- ---- a run of cells: so many, whose marks are told as one number, a byte each and the first cell's lowest
+
+abbrev pub runSize : ℕ
+runSize = 8
+
+abbrev pub runOf : ℕ → ℕ
+runOf c = c / runSize
+
+-- n bytes of a list from place k on
+unfoldable pub packed : List ℕ → (k n : ℕ) → ℕ
+packed l k zero = 0
+packed l k (suc n) = packed l (suc k) n * 256 + getD l k 0
+
+-- a mask n times side by side
+unfoldable pub spread : (mask n : ℕ) → ℕ
+spread mask zero = 0
+spread mask (suc n) = spread mask n * 256 + mask
+
+-- what the marks of n cells from c on have of a mask
+unfoldable pub runHeld : List ℕ → (mask c n : ℕ) → ℕ
+runHeld seen mask c zero = 0
+runHeld seen mask c (suc n) = runHeld seen mask (suc c) n * 256 + bitAnd (markOf seen c) mask

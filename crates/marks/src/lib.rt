@@ -13,7 +13,7 @@ ghost use lib.Bits.{bitAnd};
 ghost use lib.ListN.{length, getD, set};
 ghost use Rattle.words.specs.Layout.{maxCells, maxLive, groupSize, groupOf, inGroup};
 ghost use Rattle.marks.specs.Blocks.{has, withDepth, zeros, number, putNumber, taken, blockOf, maxGroups, groupsFor, directoryEnd, placeOf, markOf};
-ghost use Rattle.marks.specs.Blocks.{cellsIn, Kept, withBlock, markCell, Spare};
+ghost use Rattle.marks.specs.Blocks.{cellsIn, Kept, withBlock, markCell, Spare, runSize, packed, spread, runHeld};
 
 // Where the blocks begin, a whole number of blocks from the front.
 const DIRECTORY_END: usize = 2112;
@@ -217,28 +217,50 @@ pub fn many_marks() -> [u8; 67712]
     [0u8; 67712]
 }
 
-// ---- what the marks of a group have of a mask of domains
+// ---- what the marks of a run of eight cells have of a mask of domains, as one number: a byte each, the first cell's lowest. So eight are asked
+// at once, and each is told apart without another look at the directory.
 
-// Has one of n marks any of the mask? All of them are asked, so that the compiler can ask many at once.
-fn any_held(marks: &[u8], n: usize, mask: u8) -> bool
-    requires { ⌜ length (now marks) ≡ n ⌝ }
-    ensures { λ r. ⌜ (r ≡ false → (j : ℕ) → j < n → bitAnd (getD (now (marks .entry)) j 0) mask ≡ 0) ⌝ }
+pub const RUN_SIZE: usize = 8;
+
+// A byte as a number to add up.
+fn byte_of(x: u8) -> u64
+    ensures { λ r. ⌜ (r ≡ x) × (r < 256) ⌝ }
 {
-    let mut any = false;
-    let mut j: usize = 0;
-    while j < n {
-        any = any | ((marks[j] & mask) != 0);
-        j += 1;
-    }
-    any
+    x as u64
 }
 
-// May one of n cells from this one on, all of one group, have a mark with any of the mask? A group without a block has the marks of block 0,
-// which is blank.
-pub fn cells_held(seen: &[u8], cell: usize, n: usize, mask: u8) -> bool
-    requires { ⌜ (cell < maxCells) × (inGroup cell + n ≤ groupSize) × Kept (now seen) ⌝ }
-    ensures { λ r. ⌜ (r ≡ false → (c : ℕ) → cell ≤ c → c < cell + n → bitAnd (markOf (now (seen .entry)) c) mask ≡ 0) ⌝ }
+// Four bytes from this place on as one number.
+fn four_bytes(part: &[u8], at: usize) -> u64
+    requires { ⌜ (at + 4 ≤ length (now part)) × (at ≤ 4) ⌝ }
+    ensures { λ r. ⌜ (r ≡ packed (now (part .entry)) at 4) × (r < 4294967296) ⌝ }
+{
+    byte_of(part[at])
+        + 256 * byte_of(part[at + 1])
+        + 65536 * byte_of(part[at + 2])
+        + 16777216 * byte_of(part[at + 3])
+}
+
+// Eight bytes as one number.
+fn eight_bytes(part: &[u8]) -> u64
+    requires { ⌜ length (now part) ≡ runSize ⌝ }
+    ensures { λ r. ⌜ r ≡ packed (now (part .entry)) 0 runSize ⌝ }
+{
+    four_bytes(part, 0) + 4294967296 * four_bytes(part, 4)
+}
+
+// A mask eight times side by side.
+pub fn spread_mask(mask: u8) -> u64
+    ensures { λ r. ⌜ r ≡ spread mask runSize ⌝ }
+{
+    72340172838076673 * byte_of(mask)
+}
+
+// What the marks of the eight cells from this one on, where a run begins, have of a mask that is spread. A group without a block has the marks of
+// block 0, which is blank.
+pub fn run_held(seen: &[u8], cell: usize, masks: u64) -> u64
+    requires { ⌜ (cell < maxCells) × (inGroup cell + runSize ≤ groupSize) × Kept (now seen) ⌝ }
+    ensures { λ r. ⌜ ((mask : ℕ) → mask < 256 → masks ≡ spread mask runSize → r ≡ runHeld (now (seen .entry)) mask cell runSize) ⌝ }
 {
     let at = place_of(seen, cell);
-    any_held(&seen[at..at + n], n, mask)
+    eight_bytes(&seen[at..at + RUN_SIZE]) & masks
 }

@@ -6,6 +6,7 @@ use mathlib.Core.Path.{_≡_}
 use lib.Bits.{bitAnd}
 use lib.Dec.{leb}
 use Rattle.words.specs.Layout.{maxLive}
+use Rattle.marks.specs.Blocks.{runOf}
 use Rattle.table.specs.Entry.{holdsIn}
 use Rattle.table.specs.Marks.{has, markOf}
 
@@ -27,13 +28,6 @@ pub record FirstDepth (held r : ℕ) : Type 0 where
 -- what each mark has of the mask are the domains from depth d inwards that hold the cell
 abbrev pub Tells : ℕ → List ℕ → (d mask : ℕ) → (seen : List ℕ) → Type 0
 Tells e t d mask seen = (c : ℕ) → Holders e t d c (bitAnd (markOf seen c) mask)
-
--- cells are asked in runs of so many
-abbrev pub runSize : ℕ
-runSize = 8
-
-abbrev pub runOf : ℕ → ℕ
-runOf c = c / runSize
 
 -- in the runs from `from` on and before r, of n runs, no mark has any of the mask
 pub record Unheld (mask : ℕ) (seen : List ℕ) (from n r : ℕ) : Type 0 where

@@ -16,14 +16,15 @@ use changes::with_bit;
 use changes::with_word;
 use changes::write_staged;
 use marks::FEW_BLOCKS;
+use marks::RUN_SIZE;
 use marks::SOME_BLOCKS;
 use marks::blocks_wanted;
-use marks::cells_held;
 use marks::few_marks;
 use marks::many_marks;
-use marks::mark_of;
 use marks::past_blank;
+use marks::run_held;
 use marks::some_marks;
+use marks::spread_mask;
 use search::Held;
 use search::find_domain;
 use search::find_value;
@@ -55,18 +56,18 @@ ghost use mathlib.Core.Bool.{true, false};
 ghost use Prim.Native.Nat.{ℕ, _+_, _*_, _≤_, _<_, min};
 ghost use lib.ListN.{length, take};
 ghost use Rattle.store.specs.Checks.{lent};
-ghost use Rattle.words.specs.Layout.{cellAt, cellsOf, bodiesOf, pairsAt, slotsOf, tableWords, maxSlots, maxLive, maxCells, cellSize, groupSize, groupAt};
+ghost use Rattle.words.specs.Layout.{cellAt, cellsOf, bodiesOf, pairsAt, slotsOf, tableWords, maxSlots, maxLive, maxCells, cellSize, groupSize, groupAt, inGroup};
 ghost use Rattle.words.specs.Stores.{stores, gather};
 ghost use Rattle.words.specs.Cells.{cellPlan};
 ghost use Rattle.table.specs.Entry.{live, word1, depthOf};
-ghost use Rattle.marks.specs.Blocks.{maxGroups, cellsIn, Kept, Enough};
+ghost use Rattle.marks.specs.Blocks.{Kept, Enough, runSize, runOf};
 ghost use Rattle.table.specs.Marks.{Marked, EndsAt, Reached, AllMarked, RoomForMarks};
 ghost use Rattle.table.specs.Rule.{ruleOk};
 ghost use Rattle.changes.specs.Staged.{RoomFor, Turned, Stages, HeadOk, headStores, Journaled};
 ghost use Rattle.store.specs.Outcome.{buffers, report, Makes};
 ghost use Rattle.store.specs.Means.{Shows};
 ghost use Rattle.restore.specs.Restore.{restoreCheck, restoreBytes, restoreChange, restoreWords, restoreCall, restoreMeans};
-ghost use Rattle.restore.specs.Marks.{runSize, runOf, inwards, Holders, FirstDepth, Tells, Unheld};
+ghost use Rattle.restore.specs.Marks.{inwards, Holders, FirstDepth, Tells, Unheld};
 ghost use Rattle.restore.specs.Parts.{backPlan, groupPlan, headWords, endingWords};
 
 // The questions put to restore: 0, or the number of the first no. It leaves the marks of all entries where it says 0.
@@ -111,10 +112,7 @@ fn first_depth(held: u8) -> u32
     u64::trailing_zeros(held as u64) + 1
 }
 
-// Cells are asked in runs of so many, of which 8 make a group.
-const RUN_SIZE: usize = 8;
-
-// The run to which a cell belongs.
+// The run to which a cell belongs; 8 runs make a group.
 fn run_of(cell: usize) -> usize
     ensures { λ r. ⌜ r ≡ runOf cell ⌝ }
 {
@@ -138,9 +136,10 @@ fn past_unheld(seen: &[u8], from: usize, runs: usize, mask: u8) -> usize
     requires { ⌜ (from ≤ runs) × (runs ≤ runOf maxCells) × Kept (now seen) ⌝ }
     ensures { λ r. ⌜ Unheld mask (now (seen .entry)) from runs r ⌝ }
 {
+    let masks = spread_mask(mask);
     let mut r = past_groups(seen, from, runs);
     while r < runs {
-        if cells_held(seen, RUN_SIZE * r, RUN_SIZE, mask) {
+        if run_held(seen, RUN_SIZE * r, masks) != 0 {
             return r;
         }
         r = past_groups(seen, r + 1, runs);
@@ -199,7 +198,7 @@ fn put_held(
     }
 }
 
-// Puts back the held ones of n cells from `from` on, in their order, and gives how many bytes that is uncut.
+// Puts back the held ones of the first n cells of a run, which begins at `from`, in their order, and gives how many bytes that is uncut.
 fn put_run(
     memory: &mut [u8],
     bodies: &[u8],
@@ -216,16 +215,16 @@ fn put_run(
     budget: usize,
 ) -> usize
     requires { ⌜ (slots ≤ maxSlots) × (pairsAt slots ≤ length (now table)) × (1 ≤ depth) × (cellsOf (length (now memory)) ≤ maxCells)
-        × (n ≤ runSize) × (from + n ≤ cellsIn (now seen)) × (from + n ≤ cellsOf (length (now memory))) ⌝ }
+        × (n ≤ runSize) × (from < maxCells) × (inGroup from + runSize ≤ groupSize) × (from + n ≤ cellsOf (length (now memory))) × Kept (now seen) ⌝ }
     requires { ⌜ (ruleOk (cellsOf (length (now memory))) slots (bodiesOf (length (now bodies))) (now table) ≡ true) × Tells slots (now table) depth mask (now seen) × EndsAt slots (now table) top ⌝ }
     ensures made { λ r. ⌜ r ≡ length (groupPlan slots (now (table .entry)) depth (now (bodies .entry)) from n) ⌝ }
     ensures few { λ r. ⌜ r ≤ cellSize * n ⌝ }
     ensures bytes { λ _. ⌜ now (memory .exit) ≡ stores (take budget (groupPlan slots (now (table .entry)) depth (now (bodies .entry)) from n)) (now (memory .entry)) ⌝ }
 {
+    let mut rest = run_held(seen, from, spread_mask(mask));
     let mut bytes: usize = 0;
     let mut j: usize = 0;
     while j < n {
-        let cell = from + j;
         bytes += put_held(
             memory,
             bodies,
@@ -233,12 +232,13 @@ fn put_run(
             slots,
             top,
             depth,
-            cell,
-            mark_of(seen, cell) & mask,
+            from + j,
+            (rest % 256) as u8,
             last,
             before,
             remaining(budget, bytes),
         );
+        rest = rest / 256;
         j += 1;
     }
     bytes

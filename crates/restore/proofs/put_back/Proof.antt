@@ -11,7 +11,6 @@ use Rattle.words.specs.Layout.{cellsOf, bodiesOf}
 use Rattle.words.specs.Stores.{Store, store, stores, gather}
 use Rattle.words.proofs.Plans.{stores-none}
 use Rattle.table.specs.Rule.{ruleOk}
-use Rattle.marks.proofs.Blocks.{cells-all}
 use Rattle.restore.specs.Parts.{backPlan}
 use Rattle.restore.proofs.Blocks.{block-length, block-turn}
 use Rattle.restore.proofs.Finding.{put-passed}
@@ -69,9 +68,8 @@ put-run-requires c κs =
     let q = c .before .before .before .before .before .before .before .cells-of .ensures in
     let h = c .before .before .before .before .before .before .run-of .ensures in
     let n = c .before .least .ensures in
-    let p = c .before .before .before .before .before .before .before .before .before .before .before .before .before .before .pre in
-    let all = cells-all (a .seen .now) (omega (arith, p .0 .4 .room)) in (
-      (p .0 .0, p .0 .1, p .0 .2, omega (arith, s .inv .2, p .0 .3), omega (arith, n), omega (arith, n, q, h, all, p .0 .3), omega (arith, n, q, h, s .inv .2)),
+    let p = c .before .before .before .before .before .before .before .before .before .before .before .before .before .before .pre in (
+      (p .0 .0, p .0 .1, p .0 .2, omega (arith, s .inv .2, p .0 .3), omega (arith, n), omega (arith, q, h, p .0 .3), omega arith, omega (arith, n, q, h, s .inv .2), p .0 .4),
       (subst (λ (n : ℕ). ruleOk (cellsOf n) (a .slots) (bodiesOf (length (a .bodies .now))) (a .table .now) ≡ true) (sym (s .inv .2)) (p .1 .0), p .1 .1, p .1 .2),
     )
 
