@@ -6,12 +6,14 @@ use mathlib.Core.Option.{Option, none, some}
 use mathlib.Core.Path.{_≡_, refl, sym, ap, subst, _∙_}
 use native.Mathlib.Omega.{arith}
 use borrow.Author.Tests.{eqb-true}
-use lib.Dec.{eqb}
+use lib.Dec.{eqb, leb}
 use lib.ListN.{length, getD, take}
 use Rattle.words.specs.Cells.{cellBytes, sameCell}
-use Rattle.words.proofs.Scan.{all-at}
-use Rattle.model.specs.State.{Label, readOnly, readWrite, Kind, copy, viaParent, Holding, Domain, State}
-use Rattle.model.specs.Holdings.{deeper, depthIn, named, holdingAt, isHeld, valueOr, onDepth, onInnermost, onCommit, holding, inRange, raised, added, givenValue, addTo, parentSame, advanced, merged}
+use Rattle.words.specs.Scan.{all}
+use Rattle.words.proofs.Scan.{all-at, and-split}
+use Rattle.patterns.specs.Pattern.{maxRule, pattern}
+use Rattle.model.specs.State.{Label, readOnly, readWrite, Kind, copy, viaParent, byRule, Holding, Domain, State}
+use Rattle.model.specs.Holdings.{deeper, depthIn, named, holdingAt, isHeld, valueOr, onDepth, onInnermost, onCommit, holding, inRange, raised, added, givenValue, addTo, parentSame, ruleFits, advanced, merged}
 use Rattle.model.specs.History.{Kept, Tracked, inner, depthAmong, namedAmong, turned, atDepth, atInnermost, intoParent, entered, addTracked, deleteAround, renewed, advanceTracked, joined, commitTracked, writeLine, excludeAfter, excludeInside}
 use Rattle.model.specs.Session.{SameCell, SameDomains, none-left, same}
 use Rattle.model.proofs.Ranges.{range-both}
@@ -82,26 +84,38 @@ bytes-same : (a b : List ℕ) → sameCell a b ≡ true → (i : ℕ) → i < 64
 unfolding sameCell
 bytes-same a b e i l = eqb-true (getD a i 0) (getD b i 0) (all-at 64 (λ (k : ℕ). eqb (getD a k 0) (getD b k 0)) e i l)
 
--- question 12: what a cell newly held via parent is given is what memory has
-given-same : (memory : List ℕ) (first n c : ℕ) (k : Kind) (s : State) → (k ≡ viaParent → parentSame memory first n s ≡ true) → inRange first n c ≡ true
-    → holdingAt (s .domains) (length (s .domains)) c ≡ none → (j : ℕ) → j < 64
-    → getD (givenValue k memory (holdingAt (s .domains) (length (s .domains) - 1) c) c) j 0 ≡ getD (cellBytes memory c) j 0
-given-same memory first n c copy s q r e j l = refl
-given-same memory first n c viaParent s q r e j l =
+-- what questions 12 and 18 leave of a kind: memory has the value of every cell newly held
+abbrev pub Matched : List ℕ → (first n : ℕ) → Kind → State → Type 0
+Matched memory first n copy s = Unit {0}
+Matched memory first n viaParent s = parentSame memory first n s ≡ true
+Matched memory first n (byRule r) s = ruleFits memory r first n s ≡ true
+
+-- one cell of the range: a cell that is not held yet has what a question asks of every such cell
+asked-at : (first n c : ℕ) (s : State) (f : ℕ → Bool) → all n (λ j. isHeld (holdingAt (s .domains) (length (s .domains)) (first + j)) || f (first + j)) ≡ true
+    → inRange first n c ≡ true → holdingAt (s .domains) (length (s .domains)) c ≡ none → f c ≡ true
+asked-at first n c s f q r e =
     let b = range-both first n c r in
     let lo : first ≤ c = b .0 in
     let hi : c < first + n = b .1 in
     let at : first + (c - first) ≡ c = omega arith in
-    let here = all-at n _ (q refl) (c - first) (omega arith) in
-    let there : (isHeld (holdingAt (s .domains) (length (s .domains)) c)
-    || sameCell (valueOr (cellBytes memory c) (holdingAt (s .domains) (length (s .domains) - 1) c)) (cellBytes memory c)) ≡ true =
-    subst (λ (i : ℕ). (isHeld (holdingAt (s .domains) (length (s .domains)) i)
-    || sameCell (valueOr (cellBytes memory i) (holdingAt (s .domains) (length (s .domains) - 1) i)) (cellBytes memory i)) ≡ true) at here in
+    let here = all-at n _ q (c - first) (omega arith) in
+    not-held (holdingAt (s .domains) (length (s .domains)) c) (f c)
+    (subst (λ (i : ℕ). (isHeld (holdingAt (s .domains) (length (s .domains)) i) || f i) ≡ true) at here) e
+
+-- so what a cell newly held is given is what memory has
+given-same : (memory : List ℕ) (first n c : ℕ) (k : Kind) (s : State) → Matched memory first n k s → inRange first n c ≡ true
+    → holdingAt (s .domains) (length (s .domains)) c ≡ none → (j : ℕ) → j < 64
+    → getD (givenValue k memory (holdingAt (s .domains) (length (s .domains) - 1) c) c) j 0 ≡ getD (cellBytes memory c) j 0
+given-same memory first n c copy s q r e j l = refl
+given-same memory first n c viaParent s q r e j l =
     bytes-same (valueOr (cellBytes memory c) (holdingAt (s .domains) (length (s .domains) - 1) c)) (cellBytes memory c)
-    (not-held (holdingAt (s .domains) (length (s .domains)) c) _ there e) j l
+    (asked-at first n c s (λ i. sameCell (valueOr (cellBytes memory i) (holdingAt (s .domains) (length (s .domains) - 1) i)) (cellBytes memory i)) q r e) j l
+given-same memory first n c (byRule rule) s q r e j l =
+    bytes-same (pattern rule) (cellBytes memory c)
+    (asked-at first n c s (λ i. sameCell (pattern rule) (cellBytes memory i)) (and-split (leb rule maxRule) _ q .1) r e) j l
 
 pub agree-add : (memory : List ℕ) (first n : ℕ) (k : Kind) (l : Label) (s : State) (qs : List Tracked)
-    → (k ≡ viaParent → parentSame memory first n s ≡ true) → SameDomains (s .domains) qs
+    → Matched memory first n k s → SameDomains (s .domains) qs
     → SameDomains ((addTo memory first n k l s) .domains) (atInnermost (addTracked memory first n l) qs)
 agree-add memory first n k l s qs q a =
     agree-innermost _ (addTracked memory first n l) (λ d. refl) (λ t. refl) (λ d t e f c. one c d t (inRange first n c) refl (e c) (f c)) a

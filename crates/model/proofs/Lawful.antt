@@ -39,10 +39,10 @@ lawful room m create s =
     by-questions (createChecks s) _ _ _ _ refl
     (λ q size t z. create-sound s m t z)
     (λ q none w. absurd (omega arith))
-lawful room m (add h first n k l) s =
-    by-questions (addChecks room m h first n k l s) _ _ _ _ refl
-    (λ q size t z. add-sound room s m t h first n k l q z)
-    (λ q none w. add-idle m first n (kindNumbered k) (labelNumbered l) s (omega arith))
+lawful room m (add h first n k r l) s =
+    by-questions (addChecks room m h first n k r l s) _ _ _ _ refl
+    (λ q size t z. add-sound room s m t h first n k r l q z)
+    (λ q none w. add-idle m first n (kindNumbered k r) (labelNumbered l) s (omega arith))
 lawful room m (delete h first n) s =
     by-questions (deleteChecks (room .cells) h first n s) _ _ _ _ refl
     (λ q size t z. delete-sound s m t h first n z)

@@ -6,6 +6,7 @@ use lib.ListN.{replicate}
 use Rattle.words.specs.Scan.{all, count}
 use Rattle.words.specs.Stores.{Store, _≔_, tab}
 use Rattle.words.specs.Cells.{sameCell}
+use Rattle.patterns.specs.Pattern.{patternByte, pattern}
 use Rattle.model.specs.State.{readWrite, copy, viaParent, State}
 use Rattle.model.specs.Answer.{isDone, isStopped, Report, done}
 use Rattle.model.specs.Calls.{fresh, created}
@@ -29,45 +30,45 @@ abbrev changed : Changing → Event
 changed c = called (changes c) 100 isDone
 
 -- domain 1 copies cell 0 = 7 read-write, write 9, restore 1: memory is 7, or was left at 9
-kept : counts begun (does (changed create) 7 ∷ does (changed (add 1 0 1 0 1)) 7 ∷ does (written places) 9
+kept : counts begun (does (changed create) 7 ∷ does (changed (add 1 0 1 0 0 1)) 7 ∷ does (written places) 9
     ∷ does (called (restore 1) 100 isDone) 7 ∷ []) ≡ 0 ∷ []
 unfolding count
 kept = refl
 
-lost : counts begun (does (changed create) 7 ∷ does (changed (add 1 0 1 0 1)) 7 ∷ does (written places) 9
+lost : counts begun (does (changed create) 7 ∷ does (changed (add 1 0 1 0 0 1)) 7 ∷ does (written places) 9
     ∷ does (called (restore 1) 100 isDone) 9 ∷ []) ≡ 64 ∷ []
 unfolding count
 lost = refl
 
 -- held read-only: the write leaves the cell unprotected, and nothing is asked of it
-unheld : counts begun (does (changed create) 7 ∷ does (changed (add 1 0 1 0 0)) 7 ∷ does (written places) 9
+unheld : counts begun (does (changed create) 7 ∷ does (changed (add 1 0 1 0 0 0)) 7 ∷ does (written places) 9
     ∷ does (called (restore 1) 100 isDone) 9 ∷ []) ≡ 0 ∷ []
 unfolding count
 unheld = refl
 
 -- the restore of 1 cut late, with 2 inside: counted at the opening that carries it out, though that was cut itself
-late : counts begun (does (changed create) 7 ∷ does (changed (add 1 0 1 0 1)) 7 ∷ does (written places) 9
+late : counts begun (does (changed create) 7 ∷ does (changed (add 1 0 1 0 0 1)) 7 ∷ does (written places) 9
     ∷ does (changed create) 9 ∷ does (called (restore 1) 70 isStopped) 7 ∷ does (opened 1 isStopped 1) 7 ∷ does (opened 100 isDone 3) 7
     ∷ does (called (restore 0) 100 isDone) 7 ∷ []) ≡ 0 ∷ 0 ∷ []
 unfolding count
 late = refl
 
 -- cut early, with memory mixed: 2 is excluded and its own restore not counted, 1 is counted
-early : counts begun (does (changed create) 7 ∷ does (changed (add 1 0 1 0 1)) 7 ∷ does (written places) 9
+early : counts begun (does (changed create) 7 ∷ does (changed (add 1 0 1 0 0 1)) 7 ∷ does (written places) 9
     ∷ does (changed create) 9 ∷ does (called (restore 1) 3 isStopped) 8 ∷ does (opened 100 isDone 0) 8
     ∷ does (called (restore 2) 100 isDone) 8 ∷ does (called (restore 1) 100 isDone) 7 ∷ []) ≡ 0 ∷ []
 unfolding count
 early = refl
 
 -- 1 holds 7 read-only, 2 copies it read-write, write 9, commit, advance 1, write 11, restore 1: 9; a stale 7 is counted
-moved-on : counts begun (does (changed create) 7 ∷ does (changed (add 1 0 1 0 0)) 7 ∷ does (changed create) 7
-    ∷ does (changed (add 2 0 1 0 1)) 7 ∷ does (written places) 9 ∷ does (changed (commit 2)) 9
+moved-on : counts begun (does (changed create) 7 ∷ does (changed (add 1 0 1 0 0 0)) 7 ∷ does (changed create) 7
+    ∷ does (changed (add 2 0 1 0 0 1)) 7 ∷ does (written places) 9 ∷ does (changed (commit 2)) 9
     ∷ does (changed (advance 1)) 9 ∷ does (written places) 11 ∷ does (called (restore 1) 100 isDone) 9 ∷ []) ≡ 0 ∷ []
 unfolding count
 moved-on = refl
 
-stale : counts begun (does (changed create) 7 ∷ does (changed (add 1 0 1 0 0)) 7 ∷ does (changed create) 7
-    ∷ does (changed (add 2 0 1 0 1)) 7 ∷ does (written places) 9 ∷ does (changed (commit 2)) 9
+stale : counts begun (does (changed create) 7 ∷ does (changed (add 1 0 1 0 0 0)) 7 ∷ does (changed create) 7
+    ∷ does (changed (add 2 0 1 0 0 1)) 7 ∷ does (written places) 9 ∷ does (changed (commit 2)) 9
     ∷ does (changed (advance 1)) 9 ∷ does (written places) 11 ∷ does (called (restore 1) 100 isDone) 7 ∷ []) ≡ 64 ∷ []
 unfolding count
 stale = refl
@@ -83,20 +84,20 @@ unfolding count
 beside = refl
 
 -- 1 holds both read-write, write 9, delete cell 0: nothing is asked of it any more, and a cell 1 left at 9 is counted
-deleted : counts begun (twoCells (changed create) 7 7 ∷ twoCells (changed (add 1 0 2 0 1)) 7 7 ∷ twoCells (written (places ++ tab 64 (λ x. x + 64))) 9 9
+deleted : counts begun (twoCells (changed create) 7 7 ∷ twoCells (changed (add 1 0 2 0 0 1)) 7 7 ∷ twoCells (written (places ++ tab 64 (λ x. x + 64))) 9 9
     ∷ twoCells (changed (delete 1 0 1)) 9 9 ∷ twoCells (called (restore 1) 100 isDone) 9 9 ∷ []) ≡ 64 ∷ []
 unfolding count
 deleted = refl
 
 -- 1 and 2 hold cell 0 read-write, write 9, delete it from 1: a restore of 2 that leaves 9 is counted, and one of 1 asks nothing of it
-deleted-outside : counts begun (does (changed create) 7 ∷ does (changed (add 1 0 1 0 1)) 7 ∷ does (changed create) 7
-    ∷ does (changed (add 2 0 1 0 1)) 7 ∷ does (written places) 9 ∷ does (changed (delete 1 0 1)) 9
+deleted-outside : counts begun (does (changed create) 7 ∷ does (changed (add 1 0 1 0 0 1)) 7 ∷ does (changed create) 7
+    ∷ does (changed (add 2 0 1 0 0 1)) 7 ∷ does (written places) 9 ∷ does (changed (delete 1 0 1)) 9
     ∷ does (called (restore 2) 100 isDone) 9 ∷ does (called (restore 1) 100 isDone) 9 ∷ []) ≡ 64 ∷ 0 ∷ []
 unfolding count
 deleted-outside = refl
 
 -- 2 inside 1 holds cell 0 read-write, and it is deleted from 2: nothing is asked of it by 1 either, which is around it
-deleted-inside : counts begun (does (changed create) 7 ∷ does (changed create) 7 ∷ does (changed (add 2 0 1 0 1)) 7
+deleted-inside : counts begun (does (changed create) 7 ∷ does (changed create) 7 ∷ does (changed (add 2 0 1 0 0 1)) 7
     ∷ does (changed (delete 2 0 1)) 7 ∷ does (called (restore 1) 100 isDone) 9 ∷ []) ≡ 0 ∷ []
 unfolding count
 deleted-inside = refl
@@ -127,8 +128,8 @@ unfolding count
 one-body = (refl, refl)
 
 -- "E = 1, cell 0 held: add cells 0 and 1 gives 16; add cell 0 is done."
-one-slot : (addChecks (record { cells = 2; slots = 1; bodies = 8 }) (filled 7 ++ filled 7) 1 0 2 0 1 outer ≡ 16)
-    × (addChecks (record { cells = 2; slots = 1; bodies = 8 }) (filled 7 ++ filled 7) 1 0 1 0 1 outer ≡ 0)
+one-slot : (addChecks (record { cells = 2; slots = 1; bodies = 8 }) (filled 7 ++ filled 7) 1 0 2 0 0 1 outer ≡ 16)
+    × (addChecks (record { cells = 2; slots = 1; bodies = 8 }) (filled 7 ++ filled 7) 1 0 1 0 0 1 outer ≡ 0)
 unfolding count
 one-slot = (refl, refl)
 
@@ -136,6 +137,9 @@ one-slot = (refl, refl)
 
 abbrev room : Room
 room = record { cells = 1; slots = 8; bodies = 8 }
+
+abbrev no-bodies : Room
+no-bodies = record { cells = 1; slots = 8; bodies = 0 }
 
 abbrev fill : ℕ → List Store
 fill v = tab 64 (λ x. x ≔ v)
@@ -151,7 +155,7 @@ session-kept = (
   _,
   _,
   next {i = call (changes create) 100} (call-done room refl refl)
-      (next {i = call (changes (add 1 0 1 0 1)) 100} (call-done room refl refl)
+      (next {i = call (changes (add 1 0 1 0 0 1)) 100} (call-done room refl refl)
       (next {i = write (fill 9)} (written-to {r = none-given})
       (next {i = call (restore 1) 100} (call-done room refl refl) end))),
   refl,
@@ -164,9 +168,9 @@ session-moved-on = (
   _,
   _,
   next {i = call (changes create) 100} (call-done room refl refl)
-      (next {i = call (changes (add 1 0 1 0 0)) 100} (call-done room refl refl)
+      (next {i = call (changes (add 1 0 1 0 0 0)) 100} (call-done room refl refl)
       (next {i = call (changes create) 100} (call-done room refl refl)
-      (next {i = call (changes (add 2 0 1 0 1)) 100} (call-done room refl refl)
+      (next {i = call (changes (add 2 0 1 0 0 1)) 100} (call-done room refl refl)
       (next {i = write (fill 9)} (written-to {r = none-given})
       (next {i = call (changes (commit 2)) 100} (call-done room refl refl)
       (next {i = call (changes (advance 1)) 200} (call-done room refl refl)
@@ -183,12 +187,26 @@ session-via = (
   _,
   _,
   next {i = call (changes create) 100} (call-done room refl refl)
-      (next {i = call (changes (add 1 0 1 0 1)) 100} (call-done room refl refl)
+      (next {i = call (changes (add 1 0 1 0 0 1)) 100} (call-done room refl refl)
       (next {i = call (changes create) 100} (call-done room refl refl)
-      (next {i = call (changes (add 2 0 1 1 1)) 100} (call-done room refl refl)
+      (next {i = call (changes (add 2 0 1 1 0 1)) 100} (call-done room refl refl)
       (next {i = write (fill 9)} (written-to {r = none-given})
-      (next {i = call (changes (add 2 0 1 0 1)) 100} (call-done room refl refl)
+      (next {i = call (changes (add 2 0 1 0 0 1)) 100} (call-done room refl refl)
       (next {i = call (restore 2) 100} (call-done room refl refl) end)))))),
+  refl,
+  refl,
+)
+
+-- memory of zeros: 1 holds it by rule 0 read-write, write 9, restore: zeros, counted; no body is needed
+session-rule : (l : List Observation) × (w : World) × Session 1 (afterMake (filled 0)) l w × (counts begun l ≡ 0 ∷ []) × (memoryOf w ≡ filled 0)
+unfolding count all sameCell pattern patternByte restoredMemory
+session-rule = (
+  _,
+  _,
+  next {i = call (changes create) 100} (call-done no-bodies refl refl)
+      (next {i = call (changes (add 1 0 1 2 0 1)) 100} (call-done no-bodies refl refl)
+      (next {i = write (fill 9)} (written-to {r = none-given})
+      (next {i = call (restore 1) 100} (call-done no-bodies refl refl) end))),
   refl,
   refl,
 )
@@ -200,10 +218,10 @@ session-late = (
   _,
   _,
   next {i = call (changes create) 100} (call-done room refl refl)
-      (next {i = call (changes (add 1 0 1 0 1)) 100} (call-done room refl refl)
+      (next {i = call (changes (add 1 0 1 0 0 1)) 100} (call-done room refl refl)
       (next {i = write (fill 9)} (written-to {r = none-given})
       (next {i = call (changes create) 100} (call-done room refl refl)
-      (next {i = call (changes (add 2 0 1 0 1)) 100} (call-done room refl refl)
+      (next {i = call (changes (add 2 0 1 0 0 1)) 100} (call-done room refl refl)
       (next {i = call (restore 1) 75} (call-late room refl refl)
       (next {i = opening 1} open-stopped
       (next {i = opening 100} (open-finishes {n = 4} {h = 0}) end))))))),

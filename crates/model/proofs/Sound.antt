@@ -1,5 +1,5 @@
 -- A state, memory and a history that go together, and that each call, carried out, keeps them so; a restore counts no mismatch. Assumes nothing.
-use Prim.Native.Nat.{ℕ, suc, _+_, _-_, _*_, _<_}
+use Prim.Native.Nat.{ℕ, zero, suc, _+_, _-_, _*_, _<_}
 use mathlib.Core.Bool.{Bool, true, not, _&&_, _||_}
 use mathlib.Core.List.{List}
 use mathlib.Core.Logic.{_⊎_, inl, inr}
@@ -10,31 +10,36 @@ use borrow.Author.Tests.{ltb-true, eqb-true}
 use lib.Dec.{leb}
 use lib.ListN.{length, getD, take}
 use Rattle.words.proofs.Plans.{length-tab}
-use Rattle.model.specs.State.{Kind, viaParent, State}
+use Rattle.model.specs.State.{State}
 use Rattle.model.specs.Answer.{ask}
 use Rattle.model.specs.Calls.{created, fresh}
-use Rattle.model.specs.Holdings.{Room, named, isLive, isInnermost, rangeOk, isVia, kindNumbered, labelNumbered, addTo, addChecks, parentHolds, parentSame, deleteFrom, parentCovers, advanceChecks}
+use Rattle.model.specs.Holdings.{Room, named, isLive, isInnermost, rangeOk, isVia, isSome, ruleOf, ruleFits, kindNumbered, labelNumbered, addTo, addChecks, parentHolds, parentSame, deleteFrom, parentCovers, advanceChecks}
 use Rattle.model.specs.Holdings.{advance as advanceState, commit as commitState}
 use Rattle.model.specs.Restore.{cellOfByte, restoredByte, restoredMemory, restored, restoreChecks}
 use Rattle.model.specs.History.{create, add, delete, advance, commit, Request, restore, changeLine, Tracked, History, withDomains, withWaiting, namedAmong, atDepth, atInnermost, begun, addTracked, line, downTo, excludeInside, stopLine, trackedAt, countOf, completed}
 use Rattle.model.specs.Session.{Mixed, next, AllZero, SameDomains, none-left, Agrees}
 use Rattle.model.proofs.Byte.{backAt}
-use Rattle.model.proofs.Agree.{agree-length, agree-named, agree-create, at-length, agree-add, agree-delete, agree-advance, agree-commit, agree-take, agree-inside}
+use Rattle.model.proofs.Agree.{agree-length, agree-named, agree-create, at-length, Matched, agree-add, agree-delete, agree-advance, agree-commit, agree-take, agree-inside}
 use Rattle.model.proofs.Bytes.{keptAt, agree-bytes, restored-byte, covered}
 use Rattle.model.proofs.Asking.{ask-yes, ask-rest}
 use Rattle.model.proofs.Invariant.{Inv, inv-create, inv-add, inv-delete, inv-advance, inv-commit, inv-restore, inv-stopped, count-restored}
 
 -- ---- what a call that is not refused has passed
 
--- questions 6 and 12 of add, 15 of advance
-add-asked : (a b c d e f : Bool) (rest : ℕ) → ask a 5 (ask b 6 (ask c 7 (ask d 8 (ask e 11 (ask f 12 rest))))) ≡ 0 → (b ≡ true) × (f ≡ true)
-add-asked a b c d e f rest q =
-    let q6 = ask-rest a 5 (ask b 6 (ask c 7 (ask d 8 (ask e 11 (ask f 12 rest))))) (omega arith) q in
-    let q7 = ask-rest b 6 (ask c 7 (ask d 8 (ask e 11 (ask f 12 rest)))) (omega arith) q6 in
-    let q8 = ask-rest c 7 (ask d 8 (ask e 11 (ask f 12 rest))) (omega arith) q7 in
-    let q11 = ask-rest d 8 (ask e 11 (ask f 12 rest)) (omega arith) q8 in
-    let q12 = ask-rest e 11 (ask f 12 rest) (omega arith) q11 in
-    (ask-yes b 6 (ask c 7 (ask d 8 (ask e 11 (ask f 12 rest)))) (omega arith) q6, ask-yes f 12 rest (omega arith) q12)
+-- questions 6, 12 and 18 of add, 15 of advance
+add-asked : (a b c d e f g : Bool) (rest : ℕ) → ask a 5 (ask b 6 (ask c 7 (ask d 8 (ask e 11 (ask f 12 (ask g 18 rest)))))) ≡ 0
+    → (b ≡ true) × (f ≡ true) × (g ≡ true)
+add-asked a b c d e f g rest q =
+    let q6 = ask-rest a 5 (ask b 6 (ask c 7 (ask d 8 (ask e 11 (ask f 12 (ask g 18 rest)))))) (omega arith) q in
+    let q7 = ask-rest b 6 (ask c 7 (ask d 8 (ask e 11 (ask f 12 (ask g 18 rest))))) (omega arith) q6 in
+    let q8 = ask-rest c 7 (ask d 8 (ask e 11 (ask f 12 (ask g 18 rest)))) (omega arith) q7 in
+    let q11 = ask-rest d 8 (ask e 11 (ask f 12 (ask g 18 rest))) (omega arith) q8 in
+    let q12 = ask-rest e 11 (ask f 12 (ask g 18 rest)) (omega arith) q11 in
+    let q18 = ask-rest f 12 (ask g 18 rest) (omega arith) q12 in (
+      ask-yes b 6 (ask c 7 (ask d 8 (ask e 11 (ask f 12 (ask g 18 rest))))) (omega arith) q6,
+      ask-yes f 12 (ask g 18 rest) (omega arith) q12,
+      ask-yes g 18 rest (omega arith) q18,
+    )
 
 advance-asked : (a b c : Bool) (rest : ℕ) → ask a 5 (ask b 6 (ask c 15 rest)) ≡ 0 → c ≡ true
 advance-asked a b c rest q =
@@ -64,25 +69,29 @@ create-sound s m n z = record {
   inv = λ x l. inv-create x (n .next) m (n .domains) (z .inv x l);
 }
 
-via-is : (k : ℕ) (b : Bool) → (not (isVia (kindNumbered k)) || b) ≡ true → kindNumbered k ≡ viaParent → b ≡ true
-via-is k b e v = subst (λ (j : Kind). (not (isVia j) || b) ≡ true) v e
+matched : (m : List ℕ) (first n k r : ℕ) (s : State) → (not (isVia (kindNumbered k r)) || parentSame m first n s) ≡ true
+    → (not (isSome (ruleOf (kindNumbered k r))) || ruleFits m r first n s) ≡ true → Matched m first n (kindNumbered k r) s
+matched m first n zero r s p q = tt
+matched m first n (suc zero) r s p q = p
+matched m first n (suc (suc k)) r s p q = q
 
-pub add-sound : (room : Room) (s : State) (m : List ℕ) (n : History) (h first c k l : ℕ) → addChecks room m h first c k l s ≡ 0 → Sound s m n
-    → Sound (addTo m first c (kindNumbered k) (labelNumbered l) s) m (changeLine (add h first c k l) m n)
-add-sound room s m n h first c k l q z =
-    let asked = add-asked (isLive h s) (isInnermost h s) (leb k 1 && leb l 1) (rangeOk (room .cells) first c)
-    (not (isVia (kindNumbered k)) || parentHolds first c s) (not (isVia (kindNumbered k)) || parentSame m first c s) _ q in
+pub add-sound : (room : Room) (s : State) (m : List ℕ) (n : History) (h first c k r l : ℕ) → addChecks room m h first c k r l s ≡ 0 → Sound s m n
+    → Sound (addTo m first c (kindNumbered k r) (labelNumbered l) s) m (changeLine (add h first c k r l) m n)
+add-sound room s m n h first c k r l q z =
+    let kind = kindNumbered k r in
+    let asked = add-asked (isLive h s) (isInnermost h s) (leb k 2 && leb l 1) (rangeOk (room .cells) first c)
+    (not (isVia kind) || parentHolds first c s) (not (isVia kind) || parentSame m first c s) (not (isSome (ruleOf kind)) || ruleFits m r first c s) _ q in
     let same-name : namedAmong h (n .domains) ≡ length (n .domains) =
     sym (agree-named h s (n .domains) (z .agrees .same-domains)) ∙ eqb-true (named h s) (length (s .domains)) (asked .0)
     ∙ agree-length (z .agrees .same-domains) in
     let inner : atDepth (namedAmong h (n .domains)) (addTracked m first c (labelNumbered l)) (n .domains)
     ≡ atInnermost (addTracked m first c (labelNumbered l)) (n .domains) =
     ap (λ (d : ℕ). atDepth d (addTracked m first c (labelNumbered l)) (n .domains)) same-name ∙ at-length _ (n .domains) in
-    subst (λ (qs : List Tracked). Sound (addTo m first c (kindNumbered k) (labelNumbered l) s) m (withDomains qs n)) (sym inner)
+    subst (λ (qs : List Tracked). Sound (addTo m first c kind (labelNumbered l) s) m (withDomains qs n)) (sym inner)
     (record {
       agrees = record {
         same-next = z .agrees .same-next;
-        same-domains = agree-add m first c (kindNumbered k) (labelNumbered l) s (n .domains) (via-is k (parentSame m first c s) (asked .1)) (z .agrees .same-domains);
+        same-domains = agree-add m first c kind (labelNumbered l) s (n .domains) (matched m first c k r s (asked .1) (asked .2)) (z .agrees .same-domains);
       };
       inv = λ x b. inv-add x first c (labelNumbered l) m (n .domains) (z .inv x b);
     })

@@ -20,7 +20,7 @@ use Rattle.model.specs.Restore.{cellOfByte}
 -- restore, which alone changes memory
 pub data Changing : Type 0 where
   create : Changing
-  add : (h first n kind label : ℕ) → Changing
+  add : (h first n kind rule label : ℕ) → Changing
   delete : (h first n : ℕ) → Changing
   advance commit : (h : ℕ) → Changing
 
@@ -233,7 +233,7 @@ writeLine places (q ∷ qs) = unprotect (λ x. isIn x places && not (anyWritable
 
 abbrev pub changeLine : Changing → List ℕ → History → History
 changeLine create memory n = createLine memory n
-changeLine (add h first c k l) memory n = withDomains (addLine memory h first c l (n .domains)) n
+changeLine (add h first c k r l) memory n = withDomains (addLine memory h first c l (n .domains)) n
 changeLine (delete h first c) memory n = withDomains (deleteLine h first c (n .domains)) n
 changeLine (advance h) memory n = withDomains (advanceLine memory (n .domains)) n
 changeLine (commit h) memory n = withDomains (commitLine (n .domains)) n

@@ -8,7 +8,8 @@ use lib.ListN.{length}
 use Rattle.words.specs.Layout.{cellSize}
 use Rattle.words.specs.Scan.{all, count}
 use Rattle.words.specs.Cells.{cellBytes, sameCell}
-use Rattle.model.specs.State.{Label, readOnly, readWrite, Kind, copy, viaParent, Holding, Domain, State}
+use Rattle.patterns.specs.Pattern.{maxRule, pattern}
+use Rattle.model.specs.State.{Label, readOnly, readWrite, Kind, copy, viaParent, byRule, Holding, Domain, State}
 use Rattle.model.specs.Answer.{ask}
 use Rattle.model.specs.Calls.{Effect, change, orRefuse}
 
@@ -75,6 +76,7 @@ heldReadOnly o = isHeld o && not (heldWritable o)
 abbrev pub isVia : Kind → Bool
 isVia copy = false
 isVia viaParent = true
+isVia (byRule r) = false
 
 abbrev pub heldVia : Option Holding → Bool
 heldVia none = false
@@ -84,10 +86,28 @@ heldVia (some h) = isVia (h .kind)
 abbrev pub hasBody : Kind → Bool
 hasBody copy = true
 hasBody viaParent = false
+hasBody (byRule r) = false
 
 abbrev pub heldInBody : Option Holding → Bool
 heldInBody none = false
 heldInBody (some h) = hasBody (h .kind)
+
+-- the rule that a kind follows, if it follows one; the same of what is held
+abbrev pub ruleOf : Kind → Option ℕ
+ruleOf copy = none
+ruleOf viaParent = none
+ruleOf (byRule r) = some r
+
+abbrev pub heldRule : Option Holding → Option ℕ
+heldRule none = none
+heldRule (some h) = ruleOf (h .kind)
+
+abbrev pub isSome : Option ℕ → Bool
+isSome none = false
+isSome (some r) = true
+
+abbrev pub heldByRule : Option Holding → Bool
+heldByRule o = isSome (heldRule o)
 
 -- the value held, and what there is otherwise
 abbrev pub valueOr : List ℕ → Option Holding → List ℕ
@@ -171,23 +191,27 @@ copiesInUse m s = countHeld m heldInBody (s .domains)
 abbrev pub labelNumbered : ℕ → Label
 labelNumbered l = cond (eqb l 1) readWrite readOnly
 
-abbrev pub kindNumbered : ℕ → Kind
-kindNumbered k = cond (eqb k 1) viaParent copy
+-- "Add gains kind 2 .. with a rule number that other kinds ignore"
+abbrev pub kindNumbered : (k rule : ℕ) → Kind
+kindNumbered zero r = copy
+kindNumbered (suc zero) r = viaParent
+kindNumbered (suc (suc k)) r = byRule r
 
 -- "becomes read-write if the new label is read-write; it never goes back"
 abbrev pub raised : Label → Label → Label
 raised readOnly old = old
 raised readWrite old = readWrite
 
--- "A cell not yet held is held with memory's bytes, or via parent. A cell already held keeps its kind and value"
+-- "A cell not yet held is held with memory's bytes, or via parent", or by a rule. "A cell already held keeps its kind and value"
 abbrev pub added : Label → Kind → (value : List ℕ) → Option Holding → Option Holding
 added l k v none = some (record { label = l; kind = k; value = v })
 added l k v (some h) = some (record { label = raised l (h .label); kind = h .kind; value = h .value })
 
--- the value of a cell newly held: memory's bytes, or what the parent holds
+-- the value of a cell newly held: memory's bytes, or what the parent holds, or the bytes of its rule
 abbrev pub givenValue : Kind → List ℕ → Option Holding → ℕ → List ℕ
 givenValue copy memory o c = cellBytes memory c
 givenValue viaParent memory o c = valueOr (cellBytes memory c) o
+givenValue (byRule r) memory o c = pattern r
 
 -- s with n cells from `first` on added to its innermost domain
 abbrev pub addTo : List ℕ → (first n : ℕ) → Kind → Label → State → State
@@ -214,25 +238,39 @@ parentSame memory first n s =
     all n (λ j. isHeld (innerHolding s (first + j))
     || sameCell (valueOr (cellBytes memory (first + j)) (outerHolding s (first + j))) (cellBytes memory (first + j)))
 
+-- 18: "rule above 3, or memory unlike the rule in a newly held cell"
+abbrev pub ruleFits : List ℕ → (rule first n : ℕ) → State → Bool
+ruleFits memory r first n s =
+    leb r maxRule && all n (λ j. isHeld (innerHolding s (first + j)) || sameCell (pattern r) (cellBytes memory (first + j)))
+
+-- 19: "via parent on a newly held cell whose value out there comes from a rule"
+abbrev pub parentPlain : (first n : ℕ) → State → Bool
+parentPlain first n s = all n (λ j. isHeld (innerHolding s (first + j)) || not (heldByRule (outerHolding s (first + j))))
+
 -- new bodies, where n cells are newly held
 abbrev pub newBodies : Kind → ℕ → ℕ
 newBodies k n = cond (hasBody k) n 0
 
-abbrev pub addChecks : Room → List ℕ → (h first n k l : ℕ) → State → ℕ
-addChecks room memory h first n k l s =
+-- the questions are put in this order, each for all cells before the next
+abbrev pub addChecks : Room → List ℕ → (h first n k r l : ℕ) → State → ℕ
+addChecks room memory h first n k r l s =
+    let kind = kindNumbered k r in
     askInnermost h s
-    (ask (leb k 1 && leb l 1) 7
+    (ask (leb k 2 && leb l 1) 7
     (askRange (room .cells) first n
-    (ask (not (isVia (kindNumbered k)) || parentHolds first n s) 11
-    (ask (not (isVia (kindNumbered k)) || parentSame memory first n s) 12
+    (ask (not (isVia kind) || parentHolds first n s) 11
+    (ask (not (isVia kind) || parentSame memory first n s) 12
+    (ask (not (isSome (ruleOf kind)) || ruleFits memory r first n s) 18
+    (ask (not (isVia kind) || parentPlain first n s) 19
     (ask (leb (liveEntries (room .cells) s + newlyHeld first n s) (room .slots)) 16
-    (ask (not (hasBody (kindNumbered k)) || leb (copiesInUse (room .cells) s + newlyHeld first n s) (room .bodies)) 17 0))))))
+    (ask (not (hasBody kind) || leb (copiesInUse (room .cells) s + newlyHeld first n s) (room .bodies)) 17 0))))))))
 
-abbrev pub addEffect : Room → List ℕ → (h first n k l : ℕ) → State → Effect
-addEffect room memory h first n k l s =
-    orRefuse (addChecks room memory h first n k l s)
-    (change (cellSize * newBodies (kindNumbered k) (newlyHeld first n s)) (2 * (newlyHeld first n s + relabelled first n (labelNumbered l) s)) 0
-    (addTo memory first n (kindNumbered k) (labelNumbered l) s))
+abbrev pub addEffect : Room → List ℕ → (h first n k r l : ℕ) → State → Effect
+addEffect room memory h first n k r l s =
+    let kind = kindNumbered k r in
+    orRefuse (addChecks room memory h first n k r l s)
+    (change (cellSize * newBodies kind (newlyHeld first n s)) (2 * (newlyHeld first n s + relabelled first n (labelNumbered l) s)) 0
+    (addTo memory first n kind (labelNumbered l) s))
 
 -- ---- delete: "frees the named cells of the named domain only"
 

@@ -9,10 +9,11 @@ use Rattle.words.specs.Layout.{cellSize}
 use Rattle.words.specs.Scan.{count}
 use Rattle.words.specs.Stores.{tab}
 use Rattle.words.specs.Cells.{cellBytes}
+use Rattle.patterns.specs.Pattern.{pattern}
 use Rattle.model.specs.State.{Holding, Domain, State}
 use Rattle.model.specs.Answer.{Report, done, refused, byNumber, View}
 use Rattle.model.specs.Calls.{Effect, change, orRefuse, viewedWith}
-use Rattle.model.specs.Holdings.{named, isHeld, valueOr, askLive, askRange, countHeld}
+use Rattle.model.specs.Holdings.{named, isHeld, valueOr, heldRule, askLive, askRange, countHeld}
 
 -- ---- the bytes of memory: the cell that byte x is in, and its place in that cell
 
@@ -96,18 +97,31 @@ restoreView m h k s memory = viewedWith (restoreEffect m h s) k s memory (memory
 abbrev pub lookChecks : (m h c : ℕ) → State → ℕ
 lookChecks m h c s = askLive h s (askRange m c 1 0)
 
--- what it answers, and the part that it shows
+-- what it answers, the part that it shows, and the rule that it tells
 pub record Looked : Type 0 where
   pub report : Report
   pub part : List ℕ
+  pub rule : Option ℕ
 
 -- "when it is refused, the part has length 0"
 abbrev pub lookRefused : ℕ → Looked
-lookRefused n = record { report = refused n; part = [] }
+lookRefused n = record { report = refused n; part = []; rule = none }
 
--- else the part is shown
-abbrev pub lookedBy : ℕ → List ℕ → Looked
-lookedBy q part = byNumber lookRefused q (record { report = done 0 0; part = part })
+-- "Look answers the rule number for it, with a part of length 0": the part where a rule, or none, is told
+abbrev pub partBeside : Option ℕ → List ℕ → List ℕ
+partBeside none part = part
+partBeside (some r) part = []
+
+abbrev pub lookedBy : ℕ → Option ℕ → List ℕ → Looked
+lookedBy q rule part = byNumber lookRefused q (record { report = done 0 0; part = partBeside rule part; rule = rule })
+
+-- the 64 bytes that it tells: the part, or those of the rule
+abbrev pub bytesOfRule : Option ℕ → List ℕ → List ℕ
+bytesOfRule none part = part
+bytesOfRule (some r) part = pattern r
+
+abbrev pub bytesTold : Looked → List ℕ
+bytesTold l = bytesOfRule (l .rule) (l .part)
 
 abbrev pub looked : (m h c : ℕ) → State → List ℕ → Looked
-looked m h c s memory = lookedBy (lookChecks m h c s) (restoredCell (named h s) s memory c)
+looked m h c s memory = lookedBy (lookChecks m h c s) (heldRule (outermost (named h s) c s)) (restoredCell (named h s) s memory c)

@@ -8,6 +8,7 @@ pub data Label : Type 0 where
 
 pub data Kind : Type 0 where
   copy viaParent : Kind
+  byRule : (rule : ℕ) → Kind
 
 -- what a domain holds of one cell (document 01: to hold a cell is to have kept its bytes): its label, its kind, and its value of 64 bytes
 pub record Holding : Type 0 where

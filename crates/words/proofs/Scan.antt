@@ -172,7 +172,15 @@ count-not (suc n) f =
     let h : count n f + count n (λ k. not (f k)) ≡ n = count-not n f in
     by-bool (f n) (λ e. rw e (omega arith)) (λ e. rw e (omega arith))
 
--- where none passes
+-- where none passes, from a number on and altogether
+pub count-stop : (n from : ℕ) (f : ℕ → Bool) → from ≤ n → ((k : ℕ) → from ≤ k → k < n → f k ≡ false) → count n f ≡ count from f
+unfolding count
+count-stop zero from f l h = let z : 0 ≡ from = omega arith in ap (λ (x : ℕ). count x f) z
+count-stop (suc n) from f l h =
+    by-le from n
+    (λ low. rw (h n low (omega arith)) (count-stop n from f low (λ k a b. h k a (omega arith))))
+    (λ above. let z : suc n ≡ from = omega arith in ap (λ (x : ℕ). count x f) z)
+
 pub count-none : (n : ℕ) (f : ℕ → Bool) → ((k : ℕ) → k < n → f k ≡ false) → count n f ≡ 0
 unfolding count
 count-none zero f h = refl

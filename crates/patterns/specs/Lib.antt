@@ -1,0 +1,2 @@
+-- The definitions that the contracts of `patterns` cite.
+pub mod Pattern
