@@ -9,15 +9,15 @@ use native.Mathlib.Omega.{arith}
 use borrow.Author.Tests.{not-true, not-false, lt-ltb, ltb-true, ltb-false}
 use Rattle.words.specs.Scan.{first}
 use Rattle.words.proofs.Scan.{first-at, first-hit, by-bool, by-le, is-false, not-lt}
-use Rattle.table.specs.Entry.{live, word1, word2, isVia, viaOf, findIn, holdsIn}
-use Rattle.table.proofs.Entry.{holds-true, holds-found, via-some, via-zero}
+use Rattle.table.specs.Entry.{live, word1, word2, isVia, viaOf, isPattern, findIn, holdsIn}
+use Rattle.table.proofs.Entry.{holds-true, holds-found, via-some, via-zero, pattern-zero}
 use Rattle.table.proofs.Rule.{Rule}
-use Rattle.search.specs.Search.{stepsIn, heldFrom, holderIn, sourceIn, bodyFrom, HasSource, valueFrom}
+use Rattle.search.specs.Search.{stepsIn, heldFrom, holderIn, sourceIn, sourceFrom, HasSource, heldBy, valueFrom}
 use Rattle.search.specs.declared.Holder.the-variants.{At, Nobody}
 use Rattle.search.specs.declared.Held.{Held}
-use Rattle.search.specs.declared.Held.the-variants.{Nowhere, InBody}
+use Rattle.search.specs.declared.Held.the-variants.{Nowhere, InBody, ByRule}
 use Rattle.search.proofs.Holders.{HolderFacts, holder-facts, zero-one}
-use Rattle.search.proofs.Value.{Copy, ends-in-copy, body-fits, source-none-at, source-copy-at, source-via-at, source-zero}
+use Rattle.search.proofs.Value.{Own, ends-in-own, body-fits, source-none-at, source-own-at, source-via-at, source-zero}
 
 module _ (e : ℕ) (t : List ℕ) (d c : ℕ) where
   -- the first holder is one of the live domains, and it holds the cell
@@ -37,25 +37,69 @@ module _ (e : ℕ) (t : List ℕ) (d c : ℕ) where
   unfolding valueFrom
   value-none h = rw h
 
-  pub value-some : heldFrom e t d c ≡ true → valueFrom e t d c ≡ InBody (d + stepsIn e t d c) (bodyFrom e t d c)
+  pub value-some : heldFrom e t d c ≡ true → valueFrom e t d c ≡ heldBy (d + stepsIn e t d c) (word1 e t (sourceFrom e t d c)) (word2 e t (sourceFrom e t d c))
   unfolding valueFrom
   value-some h = rw h
 
+  pub value-body : heldFrom e t d c ≡ true → isPattern (word1 e t (sourceFrom e t d c)) ≡ false → valueFrom e t d c ≡ InBody (d + stepsIn e t d c) (word2 e t (sourceFrom e t d c))
+  value-body h p = value-some h ∙ rw p
+
+  pub value-rule : heldFrom e t d c ≡ true → isPattern (word1 e t (sourceFrom e t d c)) ≡ true → valueFrom e t d c ≡ ByRule (d + stepsIn e t d c) (word2 e t (sourceFrom e t d c))
+  value-rule h p = value-some h ∙ rw p
+
+  -- by its cases
+  pub data Answered : Type 0 where
+    nowhere : heldFrom e t d c ≡ false → valueFrom e t d c ≡ Nowhere → Answered
+    in-body : heldFrom e t d c ≡ true → isPattern (word1 e t (sourceFrom e t d c)) ≡ false
+        → valueFrom e t d c ≡ InBody (d + stepsIn e t d c) (word2 e t (sourceFrom e t d c)) → Answered
+    by-rule : heldFrom e t d c ≡ true → isPattern (word1 e t (sourceFrom e t d c)) ≡ true
+        → valueFrom e t d c ≡ ByRule (d + stepsIn e t d c) (word2 e t (sourceFrom e t d c)) → Answered
+
+  pub answered : Answered
+  answered =
+      by-bool (heldFrom e t d c)
+      (λ p.
+      by-bool (isPattern (word1 e t (sourceFrom e t d c)))
+      (λ q. by-rule p q (value-rule p q))
+      (λ q. in-body p q (value-body p q)))
+      (λ p. nowhere p (value-none p))
+
   -- what it tells
   pub nowhere-held : (v : Held) → v ≡ valueFrom e t d c → v ≡ Nowhere → heldFrom e t d c ≡ false
-  nowhere-held v q n =
-      is-false (heldFrom e t d c) (λ p. let r = value-some p in let z : _≡_ {A = ℕ} 0 1 = cc in zero-one z)
+  nowhere-held v q n = tells answered
+    where
+      tells : Answered → heldFrom e t d c ≡ false
+      tells (nowhere h r) = h
+      tells (in-body h p r) = let z : _≡_ {A = ℕ} 0 1 = cc in absurd (zero-one z)
+      tells (by-rule h p r) = let z : _≡_ {A = ℕ} 0 1 = cc in absurd (zero-one z)
 
-  pub record ValueFacts (x k : ℕ) : Type 0 where
+  pub record BodyFacts (x k : ℕ) : Type 0 where
     pub held : heldFrom e t d c ≡ true
     pub depth : x ≡ d + stepsIn e t d c
-    pub body : k ≡ bodyFrom e t d c
+    pub plain : isPattern (word1 e t (sourceFrom e t d c)) ≡ false
+    pub body : k ≡ word2 e t (sourceFrom e t d c)
 
-  pub value-facts : (v : Held) (x k : ℕ) → v ≡ valueFrom e t d c → v ≡ InBody x k → ValueFacts x k
-  value-facts v x k q n =
-      by-bool (heldFrom e t d c)
-      (λ p. let r = value-some p in record { held = p; depth = cc; body = cc })
-      (λ p. let r = value-none p in let z : _≡_ {A = ℕ} 0 1 = cc in absurd (zero-one z))
+  pub body-facts : (v : Held) (x k : ℕ) → v ≡ valueFrom e t d c → v ≡ InBody x k → BodyFacts x k
+  body-facts v x k q n = tells answered
+    where
+      tells : Answered → BodyFacts x k
+      tells (nowhere h r) = let z : _≡_ {A = ℕ} 0 1 = cc in absurd (zero-one z)
+      tells (in-body h p r) = record { held = h; depth = cc; plain = p; body = cc }
+      tells (by-rule h p r) = let z : _≡_ {A = ℕ} 0 1 = cc in absurd (zero-one z)
+
+  pub record RuleFacts (x k : ℕ) : Type 0 where
+    pub held : heldFrom e t d c ≡ true
+    pub depth : x ≡ d + stepsIn e t d c
+    pub ruled : isPattern (word1 e t (sourceFrom e t d c)) ≡ true
+    pub rule : k ≡ word2 e t (sourceFrom e t d c)
+
+  pub rule-facts : (v : Held) (x k : ℕ) → v ≡ valueFrom e t d c → v ≡ ByRule x k → RuleFacts x k
+  rule-facts v x k q n = tells answered
+    where
+      tells : Answered → RuleFacts x k
+      tells (nowhere h r) = let z : _≡_ {A = ℕ} 0 1 = cc in absurd (zero-one z)
+      tells (in-body h p r) = let z : _≡_ {A = ℕ} 0 1 = cc in absurd (zero-one z)
+      tells (by-rule h p r) = record { held = h; depth = cc; ruled = p; rule = cc }
 
   -- ---- the code's exits: nobody, the holder's own entry, and the copy further out
 
@@ -98,41 +142,46 @@ module _ (e : ℕ) (t : List ℕ) (d c : ℕ) where
         (λ l. absurd (not-lt (sourceIn e t x c) e source (subst (λ (y : ℕ). e ≤ y) (sym (source-zero e t x c l)) (omega arith))))
         (λ l. l)
 
-    behind : (s v : ℕ) → s ≡ sourceIn e t x c → v ≡ word2 e t s → InBody x v ≡ valueFrom e t d c
-    behind s v p q =
-        let body : v ≡ bodyFrom e t d c = q ∙ ap (word2 e t) (p ∙ ap (λ (y : ℕ). sourceIn e t y c) (sym (found .depth))) in
-        (λ j. InBody (sym (found .depth) j) (body j)) ∙ sym (value-some (found .held))
+    behind : (s w v : ℕ) → s ≡ sourceIn e t x c → w ≡ word1 e t s → v ≡ word2 e t s → heldBy x w v ≡ valueFrom e t d c
+    behind s w v p q r =
+        let there : s ≡ sourceFrom e t d c = p ∙ ap (λ (y : ℕ). sourceIn e t y c) (sym (found .depth)) in
+        let first : w ≡ word1 e t (sourceFrom e t d c) = q ∙ ap (word1 e t) there in
+        let second : v ≡ word2 e t (sourceFrom e t d c) = r ∙ ap (word2 e t) there in
+        (λ j. heldBy (sym (found .depth) j) (first j) (second j)) ∙ sym (value-some (found .held))
 
     module _ (w : ℕ) (via : Bool) (r : w ≡ word1 e t i) (k : via ≡ isVia w) where
-      pub value-own : not via ≡ true → (v : ℕ) → v ≡ word2 e t i → InBody x v ≡ valueFrom e t d c
+      pub value-own : not via ≡ true → (v : ℕ) → v ≡ word2 e t i → heldBy x w v ≡ valueFrom e t d c
       value-own z v =
-          behind i v (sym (source-copy-at e t x c i holder-deep (sym (facts .entry)) holder-slot (ap viaOf (sym r) ∙ via-zero w (sym k ∙ not-true via z))))
+          behind i w v (sym (source-own-at e t x c i holder-deep (sym (facts .entry)) holder-slot (ap viaOf (sym r) ∙ via-zero w (sym k ∙ not-true via z)))) r
 
       module _ (z : not via ≡ false) (s : ℕ) (o : s ≡ sourceIn e t (x - 1) c) where
         out : s ≡ sourceIn e t x c
         out =
             o ∙ sym (source-via-at e t x c i holder-deep (sym (facts .entry)) holder-slot (λ u. via-some w (sym k ∙ not-false via z) (ap viaOf r ∙ u)))
 
-        -- the entry of that copy is one of the table's
+        -- the entry at the end of the chain is one of the table's
         pub source-slot : s < e
         source-slot = subst (λ (y : ℕ). y < e) (sym out) source
 
-        pub value-out : (v : ℕ) → v ≡ word2 e t s → InBody x v ≡ valueFrom e t d c
-        value-out v = behind s v out
+        pub value-out : (f v : ℕ) → f ≡ word1 e t s → v ≡ word2 e t s → heldBy x f v ≡ valueFrom e t d c
+        value-out f v = behind s f v out
 
--- ---- in a table that is right there is a copy behind the first holder, and its body fits
+-- ---- in a table that is right the chain of the first holder ends in an entry, and if that is a copy its body fits
 
 module _ (m e b : ℕ) (t : List ℕ) (ok : Rule m e b t) (d c : ℕ) (low : 1 ≤ d) where
-  pub from-copy : heldFrom e t d c ≡ true → Copy e t (sourceIn e t (d + stepsIn e t d c) c)
-  from-copy h = ends-in-copy m e b t ok (d + stepsIn e t d c) c (omega arith) (holds-found e t (d + stepsIn e t d c) c (steps-hold e t d c h))
+  pub from-own : heldFrom e t d c ≡ true → Own e t (sourceFrom e t d c)
+  from-own h = ends-in-own m e b t ok (d + stepsIn e t d c) c (omega arith) (holds-found e t (d + stepsIn e t d c) c (steps-hold e t d c h))
 
   pub from-slot : HasSource e t d c
-  from-slot h = from-copy h .slot
+  from-slot h = from-own h .slot
 
-  pub from-fits : heldFrom e t d c ≡ true → bodyFrom e t d c < b
-  from-fits h = body-fits m e b t ok (sourceIn e t (d + stepsIn e t d c) c) (from-copy h)
+  pub from-fits : heldFrom e t d c ≡ true → isPattern (word1 e t (sourceFrom e t d c)) ≡ false → word2 e t (sourceFrom e t d c) < b
+  from-fits h p =
+      let o = from-own h in
+      body-fits m e b t ok (sourceFrom e t d c)
+      (record { slot = o .slot; used = o .used; copy = o .own; plain = pattern-zero (word1 e t (sourceFrom e t d c)) p })
 
--- ---- where the domain at depth d itself holds the cell, with a copy behind it, the search ends there
+-- ---- where the domain at depth d itself holds the cell, with an entry at the end of its chain, the search ends there
 
 module _ (e : ℕ) (t : List ℕ) (d c : ℕ) (l : d ≤ live t) (s : sourceIn e t d c < e) where
   pub source-deep : 1 ≤ d
@@ -162,5 +211,5 @@ module _ (e : ℕ) (t : List ℕ) (d c : ℕ) (l : d ≤ live t) (s : sourceIn e
   pub source-here : HasSource e t d c
   source-here h = subst (λ (y : ℕ). sourceIn e t y c < e) (sym at-here) s
 
-  pub value-here : valueFrom e t d c ≡ InBody d (word2 e t (sourceIn e t d c))
-  value-here = value-some e t d c held-here ∙ (λ j. InBody (at-here j) (word2 e t (sourceIn e t (at-here j) c)))
+  pub value-here : valueFrom e t d c ≡ heldBy d (word1 e t (sourceIn e t d c)) (word2 e t (sourceIn e t d c))
+  value-here = value-some e t d c held-here ∙ (λ j. heldBy (at-here j) (word1 e t (sourceIn e t (at-here j) c)) (word2 e t (sourceIn e t (at-here j) c)))

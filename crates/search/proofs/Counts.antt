@@ -8,14 +8,13 @@ use native.Mathlib.Omega.{arith}
 use borrow.Author.Tests.{eq-eqb, eqb-true}
 use lib.Dec.{eqb}
 use Rattle.words.specs.Scan.{count}
-use Rattle.words.proofs.Scan.{by-bool, and-split, and-join, true≢, count-ext}
+use Rattle.words.proofs.Scan.{by-bool, and-split, and-join, true≢, count-ext, count-stop}
 use Rattle.words.proofs.Image.{meets, meets-make, meets-none, Distinctly, count-image}
 use Rattle.table.specs.Entry.{word1, depthOf, cellOf, findIn, holdsIn}
 use Rattle.table.specs.Marks.{FreeRun}
 use Rattle.table.proofs.Entry.{names-make, find-hit, find-some, holds-true, holds-found}
 use Rattle.table.proofs.Rule.{Rule}
 use Rattle.table.proofs.Single.{only-one}
-use Rattle.search.proofs.From.{count-stop}
 
 -- the entries from `top` on are free, and a test that fails of a free one counts none of them
 pub count-front : (e : ℕ) (t : List ℕ) (top : ℕ) → top ≤ e → FreeRun e t top e → (P : ℕ → Bool) → P 0 ≡ false

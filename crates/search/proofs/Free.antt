@@ -42,11 +42,11 @@ bodies-all m e b t ok =
     let own =
     count-image (isCopy e t) (word2 e t) b e
     (record {
-      below = λ i l p. let f = owns-facts (word1 e t i) p in ok .used i l (f .0) .copy (f .1);
+      below = λ i l p. let f = owns-facts (word1 e t i) p in ok .used i l (f .0) .copy (f .1) (f .2);
       apart = λ i j l k p q w.
           let f = owns-facts (word1 e t i) p in
           let g = owns-facts (word1 e t j) q in
-          ok .apart-from i l j k (f .0) (g .0) .bodies (g .1) (f .1) w;
+          ok .apart-from i l j k (f .0) (g .0) .bodies q p w;
     }) in
     omega (arith, own, count-not b (bodyUsed e t))
 

@@ -1,6 +1,6 @@
 -- Laws of a scan that begins at a place: `firstFrom n from f` is the least number from `from` on and below n of which f holds, or n.
 -- Assumes nothing.
-use Prim.Native.Nat.{ℕ, zero, suc, _+_, _-_, _≤_, _<_}
+use Prim.Native.Nat.{ℕ, suc, _+_, _-_, _≤_, _<_}
 use mathlib.Core.Bool.{Bool, true, false}
 use mathlib.Core.Path.{_≡_, sym, ap, subst, _∙_}
 use native.Mathlib.Omega.{arith}
@@ -8,7 +8,7 @@ use borrow.Author.Tests.{eqb-true, eqb-false, ltb-true, ltb-false}
 use lib.Dec.{ltb, eqb}
 use mir.Val.{boolByte}
 use Rattle.words.specs.Scan.{first, count, nth}
-use Rattle.words.proofs.Scan.{first-at, first-le, first-hit, first-miss, by-bool, by-le, count-more}
+use Rattle.words.proofs.Scan.{first-at, first-le, first-hit, first-miss, by-bool, by-le, count-more, count-stop}
 use Rattle.words.proofs.Nth.{nth-from, nth-below, nth-holds, nth-rank, count-mono}
 
 abbrev pub firstFrom : ℕ → ℕ → (ℕ → Bool) → ℕ
@@ -73,16 +73,6 @@ module _ (f : ℕ → Bool) (i n : ℕ) (so-far : n ≡ count i f) where
 pub byte-small : (b : Bool) → boolByte b ≤ 1
 byte-small true = omega arith
 byte-small false = omega arith
-
-pub count-stop : (n from : ℕ) (f : ℕ → Bool) → from ≤ n → Failing f from n → count n f ≡ count from f
-unfolding count
-count-stop zero from f l h = let z : 0 ≡ from = omega arith in ap (λ (x : ℕ). count x f) z
-count-stop (suc n) from f l h =
-    by-bool (eqb from (suc n))
-    (λ p. ap (λ (x : ℕ). count x f) (sym (eqb-true from (suc n) p)))
-    (λ p.
-    let low : from ≤ n = omega (arith, eqb-false from (suc n) p) in
-    rw (h n low (omega arith)) (count-stop n from f low (λ k a b. h k a (omega arith))))
 
 module _ (n from : ℕ) (f : ℕ → Bool) where
   -- passing the one that is found passes one

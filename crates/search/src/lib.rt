@@ -1,5 +1,5 @@
-// What a table means: which entry is found for a depth and a cell, the first holder from a domain inwards, the copy behind a via parent
-// chain; and which entry slots and bodies are free.
+// What a table means: which entry is found for a depth and a cell, the first holder from a domain inwards, the copy or the rule behind a via
+// parent chain; and which entry slots and bodies are free.
 pub mod notes;
 
 use marks::change_mark;
@@ -9,6 +9,7 @@ use table::domains::parent_of;
 use table::fields::cell_of;
 use table::fields::depth_of;
 use table::fields::entry_word;
+use table::fields::is_pattern;
 use table::fields::is_via;
 use table::fields::owns_body;
 use table::fields::writable_of;
@@ -25,7 +26,7 @@ ghost use Rattle.words.specs.Layout.{pairsAt, handleAt, maxSlots, maxLive, maxC
 ghost use Rattle.table.specs.Entry.{live, depthOf, findIn};
 ghost use Rattle.marks.specs.Blocks.{Kept};
 ghost use Rattle.table.specs.Marks.{markAt, Marked, CellsOnce, FreeRun, EndsAt};
-ghost use Rattle.search.specs.Search.{Bare, IsKey, namedBy, Unnamed, HasSource, holderIn, sourceIn, valueFrom};
+ghost use Rattle.search.specs.Search.{Bare, IsKey, namedBy, Unnamed, HasSource, holderIn, sourceIn, heldBy, valueFrom};
 ghost use Rattle.search.specs.Free.{usedSlots, copies, unmarkedFrom};
 ghost use Rattle.search.specs.Domain.{depthNamed};
 ghost use Rattle.search.specs.Writable.{takenBy, KeepsCell, TellWritable};
@@ -36,10 +37,11 @@ pub enum Holder {
     Nobody,
 }
 
-// The value that the first holder of a cell has: its depth, and the body at the end of its chain.
+// The value that the first holder of a cell has: its depth, and the body at the end of its chain, or the rule there.
 pub enum Held {
     Nowhere,
     InBody(u32, u32),
+    ByRule(u32, u32),
 }
 
 // ---- the search for an entry
@@ -188,7 +190,7 @@ pub fn find_holder(
     }
 }
 
-// The entry of the copy behind the cell held at this depth, or `slots`: outwards past the via parent entries. `last` and `before` are notes of
+// The entry of the copy or the rule behind the cell held at this depth, or `slots`: outwards past the via parent entries. `last` and `before` are notes of
 // places to begin at (notes), which may be wrong.
 pub fn find_source(
     table: &[u32],
@@ -218,6 +220,16 @@ pub fn find_source(
     slots
 }
 
+// What a holder at this depth has whose chain ends in an entry with these words.
+fn held_by(depth: u32, first: u32, second: u32) -> Held
+    ensures { λ r. ⌜ r ≡ heldBy depth first second ⌝ }
+{
+    if is_pattern(first) {
+        return Held::ByRule(depth, second);
+    }
+    Held::InBody(depth, second)
+}
+
 // What the first holder of a cell, from this depth to the innermost, has of it; with notes of places to begin at.
 pub fn find_value(
     table: &[u32],
@@ -236,12 +248,14 @@ pub fn find_value(
     match find_holder(table, slots, top, from, cell, begin) {
         Holder::Nobody => Held::Nowhere,
         Holder::At(depth, entry) => {
-            if !is_via(first_word(table, slots, entry)) {
-                return Held::InBody(depth, second_word(table, slots, entry));
+            let word = first_word(table, slots, entry);
+            if !is_via(word) {
+                return held_by(depth, word, second_word(table, slots, entry));
             }
-            // a via parent entry has no body of its own: the copy further out has
+            // a via parent entry has no value of its own: the copy further out has
             let source = find_source(table, slots, top, parent_of(depth), cell, last, before);
-            Held::InBody(depth, second_word(table, slots, source))
+            let own = first_word(table, slots, source);
+            held_by(depth, own, second_word(table, slots, source))
         }
     }
 }

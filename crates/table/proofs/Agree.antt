@@ -3,14 +3,14 @@ use Prim.Native.Nat.{ℕ, _-_, _<_}
 use mathlib.Core.List.{List}
 use mathlib.Core.Path.{_≡_, sym, ap, subst, _∙_}
 use native.Mathlib.Omega.{arith}
-use borrow.Author.Tests.{eqb-true, eqb-false}
+use borrow.Author.Tests.{eqb-true, eqb-false, ltb-true}
 use lib.ListN.{length, getD, set}
 use lib.Seq.{getD-set-same, getD-set-other}
-use lib.Dec.{eqb}
+use lib.Dec.{eqb, ltb}
 use Rattle.words.specs.Layout.{liveAt, nextAt, pendingAt, handleAt, maxLive, pairsAt, firstAt, secondAt}
 use Rattle.words.proofs.Scan.{all-ext, first-ext, by-bool}
 use Rattle.table.specs.Entry.{word1, names, depthOf, cellOf, parent, findIn, holdsIn}
-use Rattle.table.specs.Rule.{headOk, handleOk, entryOk, parentOk, apart, apartBefore, ruleOk}
+use Rattle.table.specs.Rule.{headOk, handleOk, entryOk, holdsPlain, parentOk, apart, apartBefore, ruleOk}
 
 -- ---- lists that agree below a bound
 abbrev pub Agree : ℕ → List ℕ → List ℕ → Type 0
@@ -41,9 +41,18 @@ module _ (m e b : ℕ) (s t : List ℕ) (h : Same (pairsAt e) s t) where
   unfolding entryOk
   entry-agree i l = rw (h liveAt (omega arith) (λ z. omega arith), h (firstAt e i) (omega arith) (λ z. omega arith), h (secondAt e i) (omega arith) (λ z. omega arith))
 
+  plain-agree : (d c : ℕ) → holdsPlain e s d c ≡ holdsPlain e t d c
+  unfolding holdsIn
+  plain-agree d c =
+      by-bool (ltb (findIn e t d c) e)
+      (λ p.
+      let l = ltb-true (findIn e t d c) e p in
+      rw (find-agree d c, p, h (firstAt e (findIn e t d c)) (omega (arith, l)) (λ z. omega arith)))
+      (λ p. rw (find-agree d c, p))
+
   parent-agree : (i : ℕ) → i < e → parentOk e s i ≡ parentOk e t i
-  unfolding parentOk holdsIn
-  parent-agree i l = rw (h (firstAt e i) (omega arith) (λ z. omega arith), find-agree (parent (depthOf (word1 e t i))) (cellOf (word1 e t i)))
+  unfolding parentOk
+  parent-agree i l = rw (h (firstAt e i) (omega arith) (λ z. omega arith), plain-agree (parent (depthOf (word1 e t i))) (cellOf (word1 e t i)))
 
   apart-agree : (i j : ℕ) → i < e → j < i → apart e s j i ≡ apart e t j i
   unfolding apart

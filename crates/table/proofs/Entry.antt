@@ -7,7 +7,7 @@ use mathlib.Core.Bool.{true, false, not}
 use mathlib.Core.List.{List}
 use lib.Dec.{eqb}
 use Rattle.words.proofs.Scan.{first-at, first-hit, first-miss, first-ext, and-split, and-join, is-false, true≢, not-lt, not-above, by-bool}
-use Rattle.table.specs.Entry.{word1, depthOf, viaOf, cellOf, isVia, names, findIn, holdsIn, writableOf}
+use Rattle.table.specs.Entry.{word1, depthOf, viaOf, patternOf, cellOf, isVia, isPattern, names, findIn, holdsIn, writableOf}
 
 -- ---- the fields of a first word, as truths and as numbers
 pub via-one : (w : ℕ) → isVia w ≡ true → viaOf w ≡ 1
@@ -18,6 +18,15 @@ via-zero w p = let q = eqb-false (viaOf w) 1 p in omega (arith, q)
 
 pub via-some : (w : ℕ) → isVia w ≡ true → viaOf w ≡ 0 → ⊥
 via-some w p z = omega (arith, z, via-one w p)
+
+pub pattern-one : (w : ℕ) → isPattern w ≡ true → patternOf w ≡ 1
+pattern-one w p = eqb-true (patternOf w) 1 p
+
+pub pattern-zero : (w : ℕ) → isPattern w ≡ false → patternOf w ≡ 0
+pattern-zero w p = let q = eqb-false (patternOf w) 1 p in omega (arith, q)
+
+pub pattern-none : (w : ℕ) → patternOf w ≡ 0 → isPattern w ≡ false
+pattern-none w z = ne-eqb (patternOf w) 1 (λ q. omega (arith, z, q))
 
 pub read-only : (w : ℕ) → not (eqb (writableOf w) 1) ≡ eqb (writableOf w) 0
 read-only w =

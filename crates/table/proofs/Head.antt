@@ -53,9 +53,11 @@ module _ (m e b : ℕ) (t u : List ℕ) (ok : Rule m e b t)
         high = rw p high;
         spare = rw p (k .spare);
         cell = rw p (k .cell);
-        copy = λ z. rw q (k .copy (rw p at z));
+        copy = λ z y. rw q (k .copy (rw p at z) (rw p at y));
+        rule = λ z. rw q (k .rule (rw p at z));
         second = λ z. rw q (k .second (λ y. z (rw p y)));
         inner = λ z. rw p (k .inner (λ y. z (rw p y)));
+        plain = λ z. rw p (k .plain (λ y. z (rw p y)));
       }
 
   apart-kept : (i j : ℕ) → i < e → j < e → Apart e t j i → Apart e u j i
@@ -64,6 +66,9 @@ module _ (m e b : ℕ) (t u : List ℕ) (ok : Rule m e b t)
         cells = rw (firsts i l, firsts j h) (k .cells);
         bodies = rw (firsts i l, firsts j h, seconds i l, seconds j h) (k .bodies);
       }
+
+  same-find : (d c : ℕ) → findIn e u d c ≡ findIn e t d c
+  same-find d c = find-ext e t u d c (λ k h. ap (names d c) (firsts k h))
 
   pub head-changed : live u ≤ maxLive → 1 ≤ nextHandle u → ((k : ℕ) → k < maxLive → handleOk u k ≡ true)
       → ((i : ℕ) → i < e → (word1 e t i ≡ 0 → ⊥) → depthOf (word1 e t i) ≤ live u) → Rule m e b u
@@ -75,8 +80,12 @@ module _ (m e b : ℕ) (t u : List ℕ) (ok : Rule m e b t)
         free = λ i l z. seconds i l ∙ ok .free i l (sym (firsts i l) ∙ z);
         used = λ i l h. let n : word1 e t i ≡ 0 → ⊥ = λ z. h (firsts i l ∙ z) in used-kept i l (deep i l n) (ok .used i l n);
         outer = λ i l v.
-            let same : (d c : ℕ) → findIn e u d c ≡ findIn e t d c = λ d c. find-ext e t u d c (λ k h. ap (names d c) (firsts k h)) in
-            rw (firsts i l, same (parent (depthOf (word1 e t i))) (cellOf (word1 e t i))) (ok .outer i l (λ z. v (ap viaOf (firsts i l) ∙ z)));
+            rw (firsts i l, same-find (parent (depthOf (word1 e t i))) (cellOf (word1 e t i))) (ok .outer i l (λ z. v (ap viaOf (firsts i l) ∙ z)));
+        outer-plain = λ i l v.
+            let via : viaOf (word1 e t i) ≡ 0 → ⊥ = λ z. v (ap viaOf (firsts i l) ∙ z) in
+            let d = parent (depthOf (word1 e t i)) in
+            let c = cellOf (word1 e t i) in
+            rw (firsts i l, same-find d c, firsts (findIn e t d c) (ok .outer i l via)) (ok .outer-plain i l via);
         apart-from = λ i l j h x y.
             apart-kept i j l (omega arith) (ok .apart-from i l j h (λ z. x (firsts i l ∙ z)) (λ z. y (firsts j (omega arith) ∙ z)));
       }

@@ -5,6 +5,7 @@ pub mod Rule
 pub mod Agree
 pub mod Single
 pub mod Marks
+pub mod Seconds
 pub mod Parts
 pub mod Passing
 pub mod Pairs

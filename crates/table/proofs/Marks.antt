@@ -1,9 +1,9 @@
 -- Laws of marks: what one more entry does to them, for any wanted entries, key and tag; then the passes over the cells and over the bodies. Assumes nothing.
-use Prim.Native.Nat.{ℕ, zero, suc, _+_, _≤_, _<_}
+use Prim.Native.Nat.{ℕ, _+_, _≤_, _<_}
 use mathlib.Core.Bool.{Bool, true, false, not, _&&_}
 use mathlib.Core.List.{List}
 use mathlib.Core.Path.{_≡_, refl, sym, ap, subst, _∙_}
-use mathlib.Core.Logic.{⊎-elim}
+use mathlib.Core.Logic.{_⊎_, inl, inr, ⊎-elim}
 use native.Mathlib.Nat.{not-suc-le-zero, eq-or-lt-of-le, le-of-suc-le-suc}
 use native.Mathlib.Numerals.{add-one}
 use native.Mathlib.Omega.{arith}
@@ -12,15 +12,14 @@ use lib.ListN.{length, getD, set}
 use lib.Seq.{getD-set-same, getD-set-other}
 use lib.Dec.{ltb, eqb}
 use Rattle.words.specs.Layout.{maxBodies}
-use Rattle.words.proofs.Scan.{by-bool, and-split, is-false, true≢}
-use Rattle.table.specs.Entry.{word1, word2, depthOf, viaOf, parent, findIn, holdsIn, ownsBody}
-use Rattle.table.specs.Rule.{parentOk}
+use Rattle.words.proofs.Scan.{by-bool, by-le, and-split, and-join, is-false, true≢}
+use Rattle.table.specs.Entry.{word1, word2, depthOf, viaOf, patternOf, parent, findIn, holdsIn, isPattern, ownsBody}
+use Rattle.table.specs.Rule.{holdsPlain, parentOk}
 use Rattle.marks.specs.Blocks.{markOf, withDepth, blockAt, Enough, OneMark}
-use Rattle.table.specs.Marks.{Reached, RoomForMarks, Marks, Distinct, zeros, has, cellIn, markAt, Marked, CellsOnce, Blank, ViaInner, parentTold, IsCopy, markBody, bodyFits}
-use Rattle.marks.proofs.Digits.{has-zero, has-here, has-other}
+use Rattle.table.specs.Marks.{Reached, RoomForMarks, Marks, Distinct, zeros, has, cellIn, markAt, MarkedAmong, OnceAmong, PlainBelow, Marked, CellsOnce, ViaInner, parentTold, IsCopy, markBody, bodyFits}
+use Rattle.marks.proofs.Digits.{has-here, has-other}
 use Rattle.marks.proofs.Blocks.{zeros-length, blank-zeros}
-use Rattle.table.proofs.Entry.{find-some, find-hit}
-use Rattle.table.proofs.Rule.{outer-facts, outer-make}
+use Rattle.table.proofs.Entry.{find-some, find-hit, holds-true, holds-found}
 
 pub split : {C : Type 0} (n j : ℕ) → j < n + 1 → (j ≡ n → C) → (j < n → C) → C
 split n j l f g = ⊎-elim f g (eq-or-lt-of-le (le-of-suc-le-suc (subst (λ (m : ℕ). j < m) (add-one n) l)))
@@ -79,29 +78,52 @@ marked-holds e t seen m d c low =
     let q = find-hit e t d c f in
     m .clear d c low h (findIn e t d c) f (q .0) (q .1))))
 
--- ---- the pass over the cells
+-- ---- the marks of some entries' cells
 module _ (e : ℕ) (t : List ℕ) where
-  pub once-none : CellsOnce e t 0
-  once-none i l = absurd (not-suc-le-zero l)
+  -- the same entries, named otherwise
+  module _ (Among Others : ℕ → Type 0) (to : (j : ℕ) → Among j → Others j) (from : (j : ℕ) → Others j → Among j) where
+    pub marked-same : (s : List ℕ) → MarkedAmong e t Among s → MarkedAmong e t Others s
+    marked-same s m =
+        record {
+          clear = λ d k low h j l q r. m .clear d k low h j (from j l) q r;
+          found = λ d k h. let f = m .found d k h in (f .0, to (f .0) (f .1), f .2, f .3);
+        }
 
-  module _ (n : ℕ) (s : List ℕ) (m : Marked e t n s) where
-    -- an entry that does not fit
-    pub once-not : n < e → has (depthOf (word1 e t n)) (markAt s (word1 e t n)) ≡ true → CellsOnce e t e → ⊥
-    once-not l h once =
-        by-bool (eqb (depthOf (word1 e t n)) 0)
-        (λ z. true≢ h (rw (eqb-true (depthOf (word1 e t n)) 0 z) (has-zero (markAt s (word1 e t n)))))
-        (λ z.
+    pub once-same : OnceAmong e t Among → OnceAmong e t Others
+    once-same once i l j k = once i (from i l) j (from j k)
+
+  -- one entry more
+  module _ (Among More : ℕ → Type 0) (n : ℕ) (s : List ℕ) (m : MarkedAmong e t Among s) where
+    -- it does not fit
+    pub once-not : (Among n → ⊥) → ((j : ℕ) → Among j → j < e) → n < e → 1 ≤ depthOf (word1 e t n) → has (depthOf (word1 e t n)) (markAt s (word1 e t n)) ≡ true → CellsOnce e t e → ⊥
+    once-not other low l deep h once =
         let f = m .found (depthOf (word1 e t n)) (cellIn e t n) h in
-        once n l (f .0) (f .1) (omega (arith, eqb-false (depthOf (word1 e t n)) 0 z)) (f .2) (f .3))
+        by-le n (f .0)
+        (λ far.
+        by-bool (eqb (f .0) n)
+        (λ z. other (subst Among (eqb-true (f .0) n z) (f .1)))
+        (λ z. once (f .0) (low (f .0) (f .1)) n (omega (arith, far, eqb-false (f .0) n z)) (rw (f .2) deep) (sym (f .2)) (sym (f .3))))
+        (λ near. once n l (f .0) near deep (f .2) (f .3))
 
-    -- one that does
-    module _ (free : has (depthOf (word1 e t n)) (markAt s (word1 e t n)) ≡ false) where
-      pub once-more : CellsOnce e t n → CellsOnce e t (n + 1)
-      once-more once i l =
-          split n i l
-          (λ p. subst (λ (x : ℕ). (j : ℕ) → j < x → 1 ≤ depthOf (word1 e t x) → depthOf (word1 e t j) ≡ depthOf (word1 e t x) → cellIn e t j ≡ cellIn e t x → ⊥) (sym p)
-          (λ j k low q r. m .clear (depthOf (word1 e t n)) (cellIn e t n) low free j k q r))
-          (λ p. once i p)
+    -- it fits
+    module _ (here : More n) (grow : (j : ℕ) → More j → (j ≡ n) ⊎ Among j) (kept : (j : ℕ) → Among j → More j)
+        (free : has (depthOf (word1 e t n)) (markAt s (word1 e t n)) ≡ false) where
+      apart-from : (j : ℕ) → Among j → 1 ≤ depthOf (word1 e t n) → depthOf (word1 e t j) ≡ depthOf (word1 e t n) → cellIn e t j ≡ cellIn e t n → ⊥
+      apart-from j k low q r = m .clear (depthOf (word1 e t n)) (cellIn e t n) low free j k q r
+
+      -- of two entries, each this one or one of the others
+      once-pair : OnceAmong e t Among → (i j : ℕ) → (i ≡ n) ⊎ Among i → (j ≡ n) ⊎ Among j → j < i → 1 ≤ depthOf (word1 e t i)
+          → depthOf (word1 e t j) ≡ depthOf (word1 e t i) → cellIn e t j ≡ cellIn e t i → ⊥
+      once-pair once i j (inl p) (inl p′) less low q r = omega (arith, p, p′, less)
+      once-pair once i j (inl p) (inr k) less low q r =
+          apart-from j k (rw p at low) (q ∙ ap (λ (x : ℕ). depthOf (word1 e t x)) p) (r ∙ ap (cellIn e t) p)
+      once-pair once i j (inr l) (inl p) less low q r =
+          let same : depthOf (word1 e t i) ≡ depthOf (word1 e t n) = sym q ∙ ap (λ (x : ℕ). depthOf (word1 e t x)) p in
+          apart-from i l (rw same at low) same (sym r ∙ ap (cellIn e t) p)
+      once-pair once i j (inr l) (inr k) less low q r = once i l j k less low q r
+
+      pub once-more : OnceAmong e t Among → OnceAmong e t More
+      once-more once i l j k = once-pair once i j (grow i l) (grow j k)
 
       module _ (after : List ℕ) (one : OneMark s (cellIn e t n) (withDepth (depthOf (word1 e t n)) (markAt s (word1 e t n))) after) where
         mark-here : 1 ≤ depthOf (word1 e t n) → has (depthOf (word1 e t n)) (markOf after (cellIn e t n)) ≡ true
@@ -124,57 +146,67 @@ module _ (e : ℕ) (t : List ℕ) where
             (λ a. by-bool (eqb k (cellIn e t n)) (λ b. f (eqb-true _ _ a) (eqb-true _ _ b)) (λ b. g (λ p q. eqb-false _ _ b q)))
             (λ a. g (λ p q. eqb-false _ _ a p))
 
-        pub marked-more : Marked e t (n + 1) after
+        pub marked-more : MarkedAmong e t More after
         marked-more =
             record {
               clear = λ d k low h j l q r.
                   here-or d k
                   (λ a b. true≢ (rw (a, b) (mark-here (rw a at low))) h)
                   (λ other.
-                  split n j l
+                  ⊎-elim
                   (λ p. other (sym q ∙ ap (λ (x : ℕ). depthOf (word1 e t x)) p) (sym r ∙ ap (cellIn e t) p))
-                  (λ p. m .clear d k low (sym (mark-other d k other) ∙ h) j p q r));
+                  (λ p. m .clear d k low (sym (mark-other d k other) ∙ h) j p q r) (grow j l));
               found = λ d k h.
                   here-or d k
-                  (λ a b. (n, omega arith, sym a, sym b))
-                  (λ other. let f = m .found d k (sym (mark-other d k other) ∙ h) in (f .0, omega arith, f .2, f .3));
+                  (λ a b. (n, here, sym a, sym b))
+                  (λ other. let f = m .found d k (sym (mark-other d k other) ∙ h) in (f .0, kept (f .0) (f .1), f .2, f .3));
             }
 
-  -- all entries are marked: the parent's mark tells whether it holds the cell
-  module _ (s : List ℕ) (m : Marked e t e s) (inner : ViaInner e t) where
-    parent-there : (i : ℕ) → i < e → (viaOf (word1 e t i) ≡ 0 → ⊥) → has (parent (depthOf (word1 e t i))) (markAt s (word1 e t i)) ≡ true → parentOk e t i ≡ true
-    parent-there i l v h =
-        let f = m .found (parent (depthOf (word1 e t i))) (cellIn e t i) h in
-        outer-make 0 e 0 t i (λ z. omega (arith, find-some e t (parent (depthOf (word1 e t i))) (cellIn e t i) (f .0) (f .1) (f .2) (f .3), f .1))
+  -- the entries that follow no rule are marked: the parent's mark tells whether it holds the cell by copy or via parent
+  module _ (s : List ℕ) (m : MarkedAmong e t (PlainBelow e t e) s) (once : CellsOnce e t e) where
+    plain-there : (d c : ℕ) → 1 ≤ d → has d (markOf s c) ≡ true → holdsPlain e t d c ≡ true
+    plain-there d c low h =
+        let f = m .found d c h in
+        let i = f .0 in
+        let le = find-some e t d c i (f .1 .0) (f .2) (f .3) in
+        let hit = find-hit e t d c (omega (arith, le, f .1 .0)) in
+        let q : findIn e t d c ≡ i =
+        by-bool (eqb (findIn e t d c) i) (λ z. eqb-true _ _ z)
+        (λ z. absurd (once i (f .1 .0) (findIn e t d c) (omega (arith, le, eqb-false (findIn e t d c) i z)) (rw (f .2) low) (hit .0 ∙ sym (f .2)) (hit .1 ∙ sym (f .3)))) in
+        and-join _ _ (holds-true e t d c (omega (arith, le, f .1 .0))) (rw q (eq-eqb _ _ (f .1 .1)))
 
-    parent-missing : (i : ℕ) → i < e → (viaOf (word1 e t i) ≡ 0 → ⊥) → has (parent (depthOf (word1 e t i))) (markAt s (word1 e t i)) ≡ false → parentOk e t i ≡ false
-    parent-missing i l v h =
-        is-false (parentOk e t i) (λ ok.
-        let f = outer-facts 0 e 0 t i ok v in
-        let q = find-hit e t (parent (depthOf (word1 e t i))) (cellIn e t i) f in
-        m .clear (parent (depthOf (word1 e t i))) (cellIn e t i) (omega (arith, inner i l v)) h (findIn e t (parent (depthOf (word1 e t i))) (cellIn e t i)) f (q .0) (q .1))
+    plain-missing : (d c : ℕ) → 1 ≤ d → has d (markOf s c) ≡ false → holdsPlain e t d c ≡ false
+    plain-missing d c low h =
+        is-false (holdsPlain e t d c) (λ ok.
+        let both = and-split (holdsIn e t d c) _ ok in
+        let f = holds-found e t d c (both .0) in
+        let q = find-hit e t d c f in
+        m .clear d c low h (findIn e t d c) (f, eqb-true _ _ (both .1)) (q .0) (q .1))
 
-    pub parent-told : (i : ℕ) → i < e → parentTold (word1 e t i) s ≡ parentOk e t i
-    parent-told i l =
+    pub plain-told : (d c : ℕ) → 1 ≤ d → has d (markOf s c) ≡ holdsPlain e t d c
+    plain-told d c low = by-bool (has d (markOf s c)) (λ h. h ∙ sym (plain-there d c low h)) (λ h. h ∙ sym (plain-missing d c low h))
+
+    pub parent-told : ViaInner e t → (i : ℕ) → i < e → parentTold (word1 e t i) s ≡ parentOk e t i
+    unfolding parentOk
+    parent-told inner i l =
         by-bool (eqb (viaOf (word1 e t i)) 0)
-        (λ b. rw b (sym (outer-make 0 e 0 t i (λ v. absurd (v (eqb-true _ _ b))))))
-        (λ b.
-        let v = eqb-false _ _ b in
-        rw b
-        (by-bool (has (parent (depthOf (word1 e t i))) (markAt s (word1 e t i)))
-        (λ y. y ∙ sym (parent-there i l v y))
-        (λ y. y ∙ sym (parent-missing i l v y))))
+        (λ b. rw b)
+        (λ b. let two = inner i l (eqb-false _ _ b) in rw b (plain-told (parent (depthOf (word1 e t i))) (cellIn e t i) (omega arith)))
 
 -- ---- the pass over the bodies
 
 -- an entry that has a body is in use and a copy
-pub owns-facts : (w : ℕ) → ownsBody w ≡ true → (w ≡ 0 → ⊥) × (viaOf w ≡ 0)
+pub owns-facts : (w : ℕ) → ownsBody w ≡ true → (w ≡ 0 → ⊥) × (viaOf w ≡ 0) × (patternOf w ≡ 0)
 owns-facts w h =
-    let s = and-split (not (eqb w 0)) (eqb (viaOf w) 0) h in
-    (eqb-false _ _ (not-true _ (s .0)), eqb-true _ _ (s .1))
+    let s = and-split (not (eqb w 0)) _ h in
+    let r = and-split (eqb (viaOf w) 0) _ (s .1) in
+    (eqb-false _ _ (not-true _ (s .0)), eqb-true _ _ (r .0), eqb-true _ _ (r .1))
 
-pub owns-make : (w : ℕ) → (w ≡ 0 → ⊥) → viaOf w ≡ 0 → ownsBody w ≡ true
-owns-make w u v = rw (ne-eqb _ _ u, eq-eqb _ _ v)
+pub owns-make : (w : ℕ) → (w ≡ 0 → ⊥) → viaOf w ≡ 0 → patternOf w ≡ 0 → ownsBody w ≡ true
+owns-make w u v p = rw (ne-eqb _ _ u, eq-eqb _ _ v, eq-eqb _ _ p)
+
+pub owns-not : (w : ℕ) → isPattern w ≡ true → ownsBody w ≡ false
+owns-not w p = let q = eqb-true (patternOf w) 1 p in is-false (ownsBody w) (λ h. omega (arith, q, owns-facts w h .2))
 
 module _ (e : ℕ) (t : List ℕ) (n : ℕ) (s : List ℕ) (m : Marks (IsCopy e t) (word2 e t) 1 n s) where
   pub bodies-more : (IsCopy e t n → word2 e t n < length s) → Marks (IsCopy e t) (word2 e t) 1 (n + 1) (markBody (word1 e t n) (word2 e t n) s)

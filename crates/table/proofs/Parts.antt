@@ -13,7 +13,7 @@ use Rattle.table.specs.Entry.{word1, live, word2}
 use Rattle.table.specs.Rule.{headOk, entryOk, parentOk, apart, ruleOk}
 use Rattle.table.specs.Marks.{Distinct, CellsOnce, CellsOk, ViasMarkable, ViaInner, IsCopy}
 use Rattle.table.proofs.Rule.{Rule, ok-facts, ok-all, ok-not, parts, entry-used, apart-make, via-inner}
-use Rattle.table.proofs.Marks.{owns-facts, owns-make}
+use Rattle.table.proofs.Marks.{owns-facts}
 
 module _ (m e b : ℕ) (t : List ℕ) where
   -- ---- a part that fails
@@ -31,14 +31,15 @@ module _ (m e b : ℕ) (t : List ℕ) where
   pub no-cells : (CellsOk e t → ⊥) → ruleOk m e b t ≡ false
   no-cells h = is-false (ruleOk m e b t) (λ p. h (rule-cells p))
 
+  pub no-once : (CellsOnce e t e → ⊥) → ruleOk m e b t ≡ false
+  no-once h = no-cells (λ ok. h (ok .once))
+
   pub rule-once : Rule m e b t → CellsOnce e t e
   rule-once ok i l j k low d c = ok .apart-from i l j k (λ z. omega (arith, z, low)) (λ z. omega (arith, z, low, d)) .cells d c
 
   pub rule-bodies : Rule m e b t → Distinct (IsCopy e t) (word2 e t) e
   rule-bodies ok i l j k ui uj q =
-      let x = owns-facts (word1 e t i) ui in
-      let y = owns-facts (word1 e t j) uj in
-      ok .apart-from i l j k (x .0) (y .0) .bodies (y .1) (x .1) q
+      ok .apart-from i l j k (owns-facts (word1 e t i) ui .0) (owns-facts (word1 e t j) uj .0) .bodies uj ui q
 
   pub no-single : (Distinct (IsCopy e t) (word2 e t) e → ⊥) → ruleOk m e b t ≡ false
   no-single h = ok-not m e b t (λ ok. h (rule-bodies ok))
@@ -66,7 +67,7 @@ module _ (m e b : ℕ) (t : List ℕ) where
         let u = entry-used m e b t i (all-at e (entryOk m e b t) entries i l) ui in
         record {
           cells = λ p q. ok .once i l j k (u .low) p q;
-          bodies = λ p q r. single i l j k (owns-make _ ui q) (owns-make _ uj p) r;
+          bodies = λ p q r. single i l j k q p r;
         })))
 
   -- the last pass decides

@@ -1,6 +1,6 @@
 -- Document 01, "Three lent buffers": the words of an entry, and which entry is found for a depth and a cell.
 -- e is the table's number of entry slots, t its words.
-use Prim.Native.Nat.{ℕ, suc, _+_, _-_, _*_, _/_, _%_}
+use Prim.Native.Nat.{ℕ, zero, suc, _+_, _-_, _*_, _/_, _%_}
 use mathlib.Core.Bool.{Bool, not, _&&_}
 use mathlib.Core.List.{List}
 use lib.ListN.{getD}
@@ -37,9 +37,13 @@ writableOf w = w / 134_217_728 % 2
 abbrev pub viaOf : ℕ → ℕ
 viaOf w = w / 67_108_864 % 2
 
--- bits 16 to 25, which are zero
+-- bit 25: 1 for by rule
+abbrev pub patternOf : ℕ → ℕ
+patternOf w = w / 33_554_432 % 2
+
+-- bits 16 to 24, which are zero
 abbrev pub unusedOf : ℕ → ℕ
-unusedOf w = w / 65_536 % 1_024
+unusedOf w = w / 65_536 % 512
 
 -- bits 0 to 15: the cell
 abbrev pub cellOf : ℕ → ℕ
@@ -50,7 +54,7 @@ abbrev pub belowDepth : ℕ → ℕ
 belowDepth w = w % 268_435_456
 
 abbrev pub belowKind : ℕ → ℕ
-belowKind w = w % 67_108_864
+belowKind w = w % 33_554_432
 
 abbrev pub isWritable : ℕ → Bool
 isWritable w = eqb (writableOf w) 1
@@ -58,15 +62,30 @@ isWritable w = eqb (writableOf w) 1
 abbrev pub isVia : ℕ → Bool
 isVia w = eqb (viaOf w) 1
 
+abbrev pub isPattern : ℕ → Bool
+isPattern w = eqb (patternOf w) 1
+
 -- is the second word a body? It is that of an entry in use that is a copy
 abbrev pub ownsBody : ℕ → Bool
-ownsBody w = not (eqb w 0) && eqb (viaOf w) 0
+ownsBody w = not (eqb w 0) && (eqb (viaOf w) 0 && eqb (patternOf w) 0)
+
+-- the bits of a kind as add numbers it: 0 copy, 1 via parent, 2 by rule
+abbrev pub kindBits : ℕ → ℕ
+kindBits zero = 0
+kindBits (suc zero) = 67_108_864
+kindBits (suc (suc k)) = 33_554_432
 
 -- the first word of an entry of this depth, kind, label and cell
 abbrev pub entryWord : (depth kind label cell : ℕ) → ℕ
-entryWord d k l c = 268_435_456 * d + 134_217_728 * l + 67_108_864 * k + c
+entryWord d k l c = 268_435_456 * d + 134_217_728 * l + kindBits k + c
 
--- a first word with the label read-write, one depth further out, and with the kind of a copy
+-- its second word: a copy's body, or the rule; via parent has 0
+abbrev pub secondWord : (kind rule body : ℕ) → ℕ
+secondWord zero r v = v
+secondWord (suc zero) r v = 0
+secondWord (suc (suc k)) r v = r
+
+-- a first word with the label read-write, one depth further out, and with no bit of its kind, as a copy's
 abbrev pub writable : ℕ → ℕ
 writable w = w + 134_217_728
 
@@ -74,7 +93,7 @@ abbrev pub outward : ℕ → ℕ
 outward w = w - 268_435_456
 
 abbrev pub asCopy : ℕ → ℕ
-asCopy w = w - 67_108_864 * viaOf w
+asCopy w = 134_217_728 * (w / 134_217_728) + belowKind w
 
 -- ---- the domains: a chain, each inside the one before it, and named by its depth
 

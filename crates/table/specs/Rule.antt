@@ -6,7 +6,8 @@ use lib.Dec.{ltb, leb, eqb}
 use Rattle.words.specs.Layout.{maxLive, pairsAt, maxPairs}
 use Rattle.words.specs.Scan.{all}
 use Rattle.words.specs.Journal.{pending, pairs, namesOk, effective}
-use Rattle.table.specs.Entry.{live, nextHandle, handle, word1, word2, depthOf, viaOf, unusedOf, cellOf, hasParent, parent, holdsIn}
+use Rattle.table.specs.Entry.{live, nextHandle, handle, word1, word2, depthOf, viaOf, patternOf, unusedOf, cellOf, isPattern, ownsBody, hasParent, parent, findIn, holdsIn}
+use Rattle.patterns.specs.Pattern.{maxRule}
 
 -- ---- words 4, 5 and 8 to 15
 
@@ -24,9 +25,11 @@ headOk t = leb (live t) maxLive && (leb 1 (nextHandle t) && all maxLive (handleO
 
 -- ---- an entry by itself
 
--- the second word is the body of a copy; of via parent, which is not outermost, 0
+-- the second word is the body of a copy, or a rule; of via parent, which is not outermost and follows no rule, 0
 abbrev pub kindOk : (b w v : ℕ) → Bool
-kindOk b w v = cond (eqb (viaOf w) 0) (ltb v b) (eqb v 0 && hasParent (depthOf w))
+kindOk b w v =
+    cond (eqb (viaOf w) 0) (cond (isPattern w) (leb v maxRule) (ltb v b))
+    (eqb v 0 && (hasParent (depthOf w) && eqb (patternOf w) 0))
 
 -- free with both words 0; or of a live depth and a cell of memory, with the other bits zero
 unfoldable pub entryOk : ℕ → ℕ → ℕ → List ℕ → ℕ → Bool
@@ -38,17 +41,21 @@ entryOk m e b t i =
 
 -- ---- entries beside each other
 
--- the parent of a via parent entry's domain holds its cell
+-- does the domain at depth d hold cell c by copy or via parent, and so not by a rule?
+abbrev pub holdsPlain : ℕ → List ℕ → ℕ → ℕ → Bool
+holdsPlain e t d c = holdsIn e t d c && eqb (patternOf (word1 e t (findIn e t d c))) 0
+
+-- the parent of a via parent entry's domain holds its cell, "in a table via parent never rests on a rule"
 unfoldable pub parentOk : ℕ → List ℕ → ℕ → Bool
 parentOk e t i =
-    cond (eqb (viaOf (word1 e t i)) 0) true (holdsIn e t (parent (depthOf (word1 e t i))) (cellOf (word1 e t i)))
+    cond (eqb (viaOf (word1 e t i)) 0) true (holdsPlain e t (parent (depthOf (word1 e t i))) (cellOf (word1 e t i)))
 
 -- no depth has a cell twice, and no two copies share a body
 unfoldable pub apart : ℕ → List ℕ → ℕ → ℕ → Bool
 apart e t j i =
     cond (eqb (word1 e t i) 0 || eqb (word1 e t j) 0) true
-    (not (eqb (depthOf (word1 e t j)) (depthOf (word1 e t i)) && eqb (cellOf (word1 e t j)) (cellOf (word1 e t i)))
-    && not (eqb (viaOf (word1 e t j)) 0 && (eqb (viaOf (word1 e t i)) 0 && eqb (word2 e t j) (word2 e t i))))
+    (not (eqb (depthOf (word1 e t j)) (depthOf (word1 e t i)) && eqb (cellOf (word1 e t j)) (cellOf (word1 e t i))))
+    && not (ownsBody (word1 e t j) && (ownsBody (word1 e t i) && eqb (word2 e t j) (word2 e t i)))
 
 abbrev pub apartBefore : ℕ → List ℕ → ℕ → Bool
 apartBefore e t i = all i (λ j. apart e t j i)

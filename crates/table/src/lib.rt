@@ -1,18 +1,22 @@
 // The table's rule: questions 1, 2 and 4 of document 01, for a table of any contents.
 //
 // Question 4 passes over the entries once, with one mark for each cell, a bit for each depth that holds it, and one for each body, so that it
-// does not compare each entry with each; it passes over them again only to ask via parent entries for their parent. The caller lends the
-// room for marks and has the marks afterwards. While pairs are pending it looks at a copy in which they are in place.
+// does not compare each entry with each; it passes over them again only to ask via parent entries for their parent. Entries that follow a rule
+// are marked after that, in a pass of their own, since via parent never rests on one. The caller lends the room for marks and has the marks
+// afterwards. While pairs are pending it looks at a copy in which they are in place.
 pub mod domains;
 pub mod fields;
 
 use fields::below_kind;
 use fields::cell_of;
 use fields::depth_of;
+use fields::is_pattern;
 use fields::is_via;
+use fields::pattern_of;
 use fields::via_of;
 use marks::mark_cell;
 use marks::mark_of;
+use patterns::MAX_RULE;
 use words::layout::BODIES_AT;
 use words::layout::CELLS_AT;
 use words::layout::LIVE_AT;
@@ -50,12 +54,12 @@ ghost use Rattle.words.specs.Scan.{all};
 ghost use Rattle.words.specs.Stores.{stores};
 ghost use Rattle.words.specs.Journal.{nameOk, namesOk, pairs, pairPlans, effective, pending};
 ghost use Rattle.table.specs.Changes.{put, entryStores};
-ghost use Rattle.table.specs.Entry.{live, word1, word2, viaOf, depthOf, cellOf, parent};
+ghost use Rattle.table.specs.Entry.{live, word1, word2, viaOf, patternOf, depthOf, cellOf, isPattern, parent};
 ghost use Rattle.table.specs.Checks.{lengthsOk, headerOk};
-ghost use Rattle.table.specs.Rule.{handleOk, headOk, kindOk, parentOk, pairsOk, ruleOk, tableOk};
+ghost use Rattle.table.specs.Rule.{handleOk, headOk, kindOk, pairsOk, ruleOk, tableOk};
 ghost use Rattle.marks.specs.Blocks.{cellsIn, Kept, Spare, Room};
-ghost use Rattle.table.specs.Marks.{has, markAt, markEntry, Marked, ViasMarkable, ViaInner, parentTold, placed, markBody, bodyFits};
-ghost use Rattle.table.specs.Marks.{zeros, Blank, FreeRun, EndsAt, Reaches, Reached, NoVias, Passed, AllMarked};
+ghost use Rattle.table.specs.Marks.{has, markAt, markEntry, Marked, CellsOnce, ViasMarkable, ViaInner, parentTold, allTold, placed, markBody, bodyFits};
+ghost use Rattle.table.specs.Marks.{zeros, Blank, FreeRun, EndsAt, Reaches, Reached, NoVias, Passed, PassedAll, RulesMarked, AllMarked};
 
 // So many entry slots count as few: what a call needs for them is cleared in no time.
 pub const FEW_SLOTS: usize = 256;
@@ -96,7 +100,7 @@ pub fn first_word(table: &[u32], slots: usize, i: usize) -> u32
     table[first_at(slots, i)]
 }
 
-// The second word of entry i: its body.
+// The second word of entry i: its body, or its rule.
 pub fn second_word(table: &[u32], slots: usize, i: usize) -> u32
     requires { ⌜ (i < slots) × (slots ≤ maxSlots) × (pairsAt slots ≤ length (now table)) ⌝ }
     ensures { λ r. ⌜ r ≡ word2 slots (now (table .entry)) i ⌝ }
@@ -185,11 +189,11 @@ fn parent_marked(seen: &[u8], word: u32) -> bool
     has_parent(mark_of(seen, cell_of(word)), depth_of(word))
 }
 
-// Does every via parent entry rest on its parent? The entries from `top` on are free.
-fn parents_ok(table: &[u32], slots: usize, top: usize, seen: &[u8]) -> bool
+// Do the marks tell of every via parent entry that its parent has its cell? The entries from `top` on are free.
+fn parents_told(table: &[u32], slots: usize, top: usize, seen: &[u8]) -> bool
     requires { ⌜ (slots ≤ maxSlots) × (pairsAt slots ≤ length (now table)) × EndsAt slots (now table) top ⌝ }
-    requires { ⌜ ViasMarkable slots (now table) (cellsIn (now seen)) × Marked slots (now table) slots (now seen) × ViaInner slots (now table) ⌝ }
-    ensures { λ r. ⌜ r ≡ all slots (parentOk slots (now (table .entry))) ⌝ }
+    requires { ⌜ ViasMarkable slots (now table) (cellsIn (now seen)) × ViaInner slots (now table) ⌝ }
+    ensures { λ r. ⌜ r ≡ allTold slots (now (table .entry)) (now (seen .entry)) ⌝ }
 {
     let mut rest = true;
     let mut i: usize = 0;
@@ -199,6 +203,18 @@ fn parents_ok(table: &[u32], slots: usize, top: usize, seen: &[u8]) -> bool
         i += 1;
     }
     rest
+}
+
+// The same where so many entries are via parent: with none there is nothing to ask.
+fn parents_ok(table: &[u32], slots: usize, top: usize, vias: usize, seen: &[u8]) -> bool
+    requires { ⌜ (slots ≤ maxSlots) × (pairsAt slots ≤ length (now table)) × EndsAt slots (now table) top ⌝ }
+    requires { ⌜ ViasMarkable slots (now table) (cellsIn (now seen)) × ViaInner slots (now table) × NoVias slots (now table) slots vias ⌝ }
+    ensures { λ r. ⌜ r ≡ allTold slots (now (table .entry)) (now (seen .entry)) ⌝ }
+{
+    if vias == 0 {
+        return true;
+    }
+    parents_told(table, slots, top, seen)
 }
 
 // Marks the cell of an entry. False where the entry's depth has the cell already.
@@ -213,10 +229,21 @@ fn mark_entry(seen: &mut [u8], word: u32) -> bool
 
 // ---- entries beside each other: the bodies
 
-// Is the second word of an entry in use right for its kind: 0 for via parent, which is never outermost, and for a copy a body that no other
-// has? Marks the body.
+// Is the second word right of an entry that follows a rule, which is none via parent: the number of a rule?
+fn rule_right(word: u32, second: u32) -> bool
+    requires { ⌜ isPattern word ≡ true ⌝ }
+    ensures { λ r. ⌜ ((b : ℕ) → r ≡ kindOk b word second) ⌝ }
+{
+    if is_via(word) {
+        return false;
+    }
+    second <= MAX_RULE
+}
+
+// Is the second word of an entry in use that follows no rule right for its kind: 0 for via parent, which is never outermost, and for a copy a
+// body that no other has? Marks the body.
 fn mark_body(used: &mut [u8], word: u32, second: u32, bodies: u32) -> bool
-    requires { ⌜ (word ≡ 0 → ⊥) × (bodies ≤ length (now used)) ⌝ }
+    requires { ⌜ (word ≡ 0 → ⊥) × (patternOf word ≡ 0) × (bodies ≤ length (now used)) ⌝ }
     ensures right { λ r. ⌜ (r ≡ true → (kindOk bodies word second ≡ true) × (bodyFits word second (now (used .entry)) ≡ true)
         × (now (used .exit) ≡ markBody word second (now (used .entry)))) ⌝ }
     ensures wrong { λ r. ⌜ (r ≡ false → kindOk bodies word second ≡ true → bodyFits word second (now (used .entry)) ≡ false) ⌝ }
@@ -347,7 +374,8 @@ pub fn reach_of(table: &[u32]) -> usize
     last_in_use(table, slots)
 }
 
-// Is entry i right, by itself and beside those in front of it? Marks its cell and, of a copy, its body.
+// Is entry i right, by itself and beside those in front of it? Marks its cell and, of a copy, its body; an entry that follows a rule is not
+// marked yet.
 fn pass_entry(
     table: &[u32],
     cells: u32,
@@ -371,16 +399,21 @@ fn pass_entry(
     if !place_ok(word, table[LIVE_AT], cells) {
         return false;
     }
+    if is_pattern(word) {
+        return rule_right(word, second);
+    }
     if !mark_entry(seen, word) {
         return false;
     }
     mark_body(used, word, second, bodies)
 }
 
-// What the pass over the entries found: whether they are right, by themselves and beside each other; and how many of them are via parent.
+// What the pass over the entries found: whether they are right, by themselves and beside each other; and how many of them are via parent, and
+// how many follow a rule.
 pub struct Pass {
     pub right: bool,
     pub vias: usize,
+    pub rules: usize,
 }
 
 // Passes over all entries in use, up to the first that is not right, and marks their cells and bodies.
@@ -396,20 +429,63 @@ fn pass_entries(
     requires { ⌜ (slots ≤ maxSlots) × (pairsAt slots ≤ length (now table)) × (live (now table) ≤ maxLive)
         × (cells ≤ maxCells) × EndsAt slots (now table) top × Room top cells (now seen) × (bodies ≤ length (now used)) ⌝ }
     requires { ⌜ Blank (now seen) × Blank (now used) ⌝ }
-    ensures right { λ r. ⌜ (r .right ≡ true → Passed cells slots bodies (now (table .entry)) slots (now (seen .exit)) (now (used .exit))
-        × NoVias slots (now (table .entry)) slots (r .vias)) ⌝ }
+    ensures right { λ r. ⌜ (r .right ≡ true → PassedAll cells slots bodies (now (table .entry)) top (r .vias) (r .rules) (now (seen .exit)) (now (used .exit))) ⌝ }
     ensures wrong { λ r. ⌜ (r .right ≡ false → ruleOk cells slots bodies (now (table .entry)) ≡ false) ⌝ }
 {
     let mut vias: usize = 0;
+    let mut rules: usize = 0;
     let mut i = next_entry(table, slots, top, 0);
     while i < top {
         if !pass_entry(table, cells, slots, bodies, i, seen, used) {
-            return Pass { right: false, vias };
+            return Pass {
+                right: false,
+                vias,
+                rules,
+            };
         }
-        vias += via_of(first_word(table, slots, i));
+        let word = first_word(table, slots, i);
+        vias += via_of(word);
+        rules += pattern_of(word);
         i = next_entry(table, slots, top, i + 1);
     }
-    Pass { right: true, vias }
+    Pass {
+        right: true,
+        vias,
+        rules,
+    }
+}
+
+// ---- the entries that follow a rule, marked last
+
+// One entry: it is marked if it follows a rule. False where its depth has its cell already.
+fn mark_rule(table: &[u32], slots: usize, top: usize, i: usize, seen: &mut [u8]) -> bool
+    requires { ⌜ (i < top) × (top ≤ slots) × (slots ≤ maxSlots) × (pairsAt slots ≤ length (now table)) ⌝ }
+    requires { ⌜ RulesMarked slots (now table) top i (now seen) ⌝ }
+    ensures right { λ r. ⌜ (r ≡ true → RulesMarked slots (now (table .entry)) top (i + 1) (now (seen .exit))) ⌝ }
+    ensures wrong { λ r. ⌜ (r ≡ false → CellsOnce slots (now (table .entry)) slots → ⊥) ⌝ }
+{
+    let word = first_word(table, slots, i);
+    if !is_pattern(word) {
+        return true;
+    }
+    mark_entry(seen, word)
+}
+
+// All of them. The entries from `top` on are free.
+fn mark_rules(table: &[u32], slots: usize, top: usize, seen: &mut [u8]) -> bool
+    requires { ⌜ (slots ≤ maxSlots) × (pairsAt slots ≤ length (now table)) × EndsAt slots (now table) top ⌝ }
+    requires { ⌜ RulesMarked slots (now table) top 0 (now seen) ⌝ }
+    ensures right { λ r. ⌜ (r ≡ true → CellsOnce slots (now (table .entry)) slots × Marked slots (now (table .entry)) slots (now (seen .exit)) × Kept (now (seen .exit))) ⌝ }
+    ensures wrong { λ r. ⌜ (r ≡ false → CellsOnce slots (now (table .entry)) slots → ⊥) ⌝ }
+{
+    let mut i: usize = 0;
+    while i < top {
+        if !mark_rule(table, slots, top, i, seen) {
+            return false;
+        }
+        i += 1;
+    }
+    true
 }
 
 // ---- the rule of a table with no pending pairs
@@ -445,10 +521,13 @@ fn rule_ok(
     if !pass.right {
         return false;
     }
-    if pass.vias == 0 {
+    if !parents_ok(table, slots, top, pass.vias, seen) {
+        return false;
+    }
+    if pass.rules == 0 {
         return true;
     }
-    parents_ok(table, slots, top, seen)
+    mark_rules(table, slots, top, seen)
 }
 
 // ---- pending pairs

@@ -5,7 +5,7 @@ use borrow.Author.Needs.{needs}
 use borrow.Author.Tests.{not-true, not-false}
 use Rattle.table.proofs.Entry.{via-some, via-zero}
 use Rattle.search.specs.Search.{sourceIn}
-use Rattle.search.proofs.Value.{source-none-at, source-copy-at, source-via-at, source-zero}
+use Rattle.search.proofs.Value.{source-none-at, source-own-at, source-via-at, source-zero}
 use Rattle.search.proofs.find_source.Statement.{statement}
 use Rattle.search.proofs.find_source.Tie as tie
 
@@ -34,7 +34,7 @@ is-via-requires : tie.Need-is-via-requires Inv-loop μ-loop
 is-via-requires c κs = search needs
 
 returns-2 : tie.Need-returns-2 Inv-loop μ-loop
-returns-2 c = sym (c .before .before .before .before .before .before .before .loop .inv ∙ source-copy-at _ _ _ _ _ (c .before .before .before .before .before .before .loop-test .taken) (c .before .before .before .before .find-entry .ensures) (c .before .before .before .if1 .left) (via-zero _ (rw (c .before .before .first-word .ensures) at (sym (c .before .is-via .ensures) ∙ not-true _ (c .if2 .taken)))))
+returns-2 c = sym (c .before .before .before .before .before .before .before .loop .inv ∙ source-own-at _ _ _ _ _ (c .before .before .before .before .before .before .loop-test .taken) (c .before .before .before .before .find-entry .ensures) (c .before .before .before .if1 .left) (via-zero _ (rw (c .before .before .first-word .ensures) at (sym (c .before .is-via .ensures) ∙ not-true _ (c .if2 .taken)))))
 
 sub-d : tie.Need-sub-d Inv-loop μ-loop
 sub-d c = search needs

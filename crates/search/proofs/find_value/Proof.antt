@@ -1,7 +1,7 @@
--- `find_value` meets its contract: what the holder that was found tells. Assumes nothing.
+-- `search::find_value` meets its contract. Assumes nothing.
 use mathlib.Core.Path.{sym, _∙_}
-use borrow.Author.Needs.{needs}
 use Rattle.search.proofs.Behind.{value-nobody, value-own, value-out, holder-slot, holder-deep, source-slot}
+use borrow.Author.Needs.{needs}
 use Rattle.search.proofs.find_value.Statement.{statement}
 use Rattle.search.proofs.find_value.Tie as tie
 
@@ -26,8 +26,11 @@ is-via-requires c κs = search needs
 second-word-requires : tie.Need-second-word-requires
 second-word-requires c κs = (holder-slot _ _ _ _ (c .before .before .before .before .before .before .before .before .before .before .before .pre .1 .1) _ _ (sym (c .before .before .before .before .before .before .find-holder .ensures) ∙ c .before .before .before .before .depth .given .1), c .before .before .before .before .before .before .before .before .before .before .before .pre .0 .0, c .before .before .before .before .before .before .before .before .before .before .before .pre .0 .1)
 
+held-by-requires : tie.Need-held-by-requires
+held-by-requires c κs = search needs
+
 returns : tie.Need-returns
-returns c = value-own _ _ _ _ (c .before .before .before .before .before .before .before .before .before .before .before .before .pre .1 .1) _ _ (sym (c .before .before .before .before .before .before .before .find-holder .ensures) ∙ c .before .before .before .before .before .depth .given .1) _ _ (c .before .before .before .first-word .ensures) (c .before .before .is-via .ensures) (c .before .if1 .taken) _ (c .second-word .ensures)
+returns c = c .held-by .ensures ∙ value-own _ _ _ _ (c .before .before .before .before .before .before .before .before .before .before .before .before .before .pre .1 .1) _ _ (sym (c .before .before .before .before .before .before .before .before .find-holder .ensures) ∙ c .before .before .before .before .before .before .depth .given .1) _ _ (c .before .before .before .before .first-word .ensures) (c .before .before .before .is-via .ensures) (c .before .before .if1 .taken) _ (c .before .second-word .ensures)
 
 parent-of-requires : tie.Need-parent-of-requires
 parent-of-requires c κs = holder-deep _ _ _ _ (c .before .before .before .before .before .before .before .before .before .before .before .pre .1 .1) _ _ (sym (c .before .before .before .before .before .before .find-holder .ensures) ∙ c .before .before .before .before .depth .given .1)
@@ -35,14 +38,20 @@ parent-of-requires c κs = holder-deep _ _ _ _ (c .before .before .before .befor
 find-source-requires : tie.Need-find-source-requires
 find-source-requires c κs = search needs
 
+first-word-requires-2 : tie.Need-first-word-requires-2
+first-word-requires-2 c κs = (source-slot _ _ _ _ (c .before .before .before .before .before .before .before .before .before .before .before .before .before .pre .1 .1) _ _ (sym (c .before .before .before .before .before .before .before .before .find-holder .ensures) ∙ c .before .before .before .before .before .before .depth .given .1) _ _ (c .before .before .before .before .first-word .ensures) (c .before .before .before .is-via .ensures) (c .before .before .if1 .left) _ (rw (c .before .parent-of .ensures) at (c .find-source .ensures)), c .before .before .before .before .before .before .before .before .before .before .before .before .before .pre .0 .0, c .before .before .before .before .before .before .before .before .before .before .before .before .before .pre .0 .1)
+
 second-word-requires-2 : tie.Need-second-word-requires-2
-second-word-requires-2 c κs = (source-slot _ _ _ _ (c .before .before .before .before .before .before .before .before .before .before .before .before .before .pre .1 .1) _ _ (sym (c .before .before .before .before .before .before .before .before .find-holder .ensures) ∙ c .before .before .before .before .before .before .depth .given .1) _ _ (c .before .before .before .before .first-word .ensures) (c .before .before .before .is-via .ensures) (c .before .before .if1 .left) _ (rw (c .before .parent-of .ensures) at (c .find-source .ensures)), c .before .before .before .before .before .before .before .before .before .before .before .before .before .pre .0 .0, c .before .before .before .before .before .before .before .before .before .before .before .before .before .pre .0 .1)
+second-word-requires-2 c κs = (source-slot _ _ _ _ (c .before .before .before .before .before .before .before .before .before .before .before .before .before .before .pre .1 .1) _ _ (sym (c .before .before .before .before .before .before .before .before .before .find-holder .ensures) ∙ c .before .before .before .before .before .before .before .depth .given .1) _ _ (c .before .before .before .before .before .first-word .ensures) (c .before .before .before .before .is-via .ensures) (c .before .before .before .if1 .left) _ (rw (c .before .before .parent-of .ensures) at (c .before .find-source .ensures)), c .before .before .before .before .before .before .before .before .before .before .before .before .before .before .pre .0 .0, c .before .before .before .before .before .before .before .before .before .before .before .before .before .before .pre .0 .1)
+
+held-by-requires-2 : tie.Need-held-by-requires-2
+held-by-requires-2 c κs = search needs
 
 returns-2 : tie.Need-returns-2
 returns-2 c = value-nobody _ _ _ _ (sym (c .before .before .find-holder .ensures) ∙ c .enum-told .given .1)
 
 returns-3 : tie.Need-returns-3
-returns-3 c = value-out _ _ _ _ (c .before .before .before .before .before .before .before .before .before .before .before .before .before .before .pre .1 .1) _ _ (sym (c .before .before .before .before .before .before .before .before .before .find-holder .ensures) ∙ c .before .before .before .before .before .before .before .depth .given .1) _ _ (c .before .before .before .before .before .first-word .ensures) (c .before .before .before .before .is-via .ensures) (c .before .before .before .if1 .left) _ (rw (c .before .before .parent-of .ensures) at (c .before .find-source .ensures)) _ (c .second-word2 .ensures)
+returns-3 c = c .held-by2 .ensures ∙ value-out _ _ _ _ (c .before .before .before .before .before .before .before .before .before .before .before .before .before .before .before .before .pre .1 .1) _ _ (sym (c .before .before .before .before .before .before .before .before .before .before .before .find-holder .ensures) ∙ c .before .before .before .before .before .before .before .before .before .depth .given .1) _ _ (c .before .before .before .before .before .before .before .first-word .ensures) (c .before .before .before .before .before .before .is-via .ensures) (c .before .before .before .before .before .if1 .left) _ (rw (c .before .before .before .before .parent-of .ensures) at (c .before .before .before .find-source .ensures)) _ _ (c .before .before .first-word2 .ensures) (c .before .second-word2 .ensures)
 
 pub find-value-spec : {M : Type 1} → statement M
 find-value-spec =
@@ -55,9 +64,12 @@ find-value-spec =
     first-word-requires
     is-via-requires
     second-word-requires
+    held-by-requires
     returns
     parent-of-requires
     find-source-requires
+    first-word-requires-2
     second-word-requires-2
+    held-by-requires-2
     returns-2
     returns-3)

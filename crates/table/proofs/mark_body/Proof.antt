@@ -1,11 +1,11 @@
 -- `table::mark_body` meets its contract. Assumes nothing.
 use mathlib.Core.Path.{_≡_, refl, sym, _∙_}
 use native.Mathlib.Omega.{arith}
-use borrow.Author.Tests.{eq-eqb, ne-eqb, lt-ltb, ltb-true}
+use borrow.Author.Tests.{lt-ltb, ltb-true}
 use Rattle.words.proofs.Scan.{true≢}
 use Rattle.table.specs.Entry.{viaOf}
 use Rattle.table.proofs.Entry.{via-some, via-zero}
-use Rattle.table.specs.Marks.{markBody, bodyFits}
+use Rattle.table.proofs.Seconds.{kind-via, kind-copy, no-body, one-body}
 use borrow.Author.Needs.{needs}
 use Rattle.table.proofs.mark_body.Statement.{statement}
 use Rattle.table.proofs.mark_body.Tie as tie
@@ -17,34 +17,44 @@ depth-of-requires : tie.Need-depth-of-requires
 depth-of-requires c κs = search needs
 
 returns : tie.Need-returns
-unfolding markBody bodyFits
-returns c = let via = ne-eqb (viaOf (c .before .before .before .before .args .word)) 0 (via-some (c .before .before .before .before .args .word) (sym (c .before .before .is-via .ensures) ∙ c .before .if1 .taken)) in
-    let some-word = ne-eqb (c .before .before .before .before .args .word) 0 (c .before .before .before .before .pre .0) in
-    ((λ r. (rw via (rw (c .depth-of .ensures) at r), rw (some-word, via), rw (some-word, via))), (λ r k. absurd (true≢ (rw via at k) (rw (c .depth-of .ensures) at r))))
+returns c =
+    let a = c .before .before .before .before .args in
+    let given = c .before .before .before .before .pre in
+    let via : viaOf (a .word) ≡ 0 → ⊥ = via-some (a .word) (sym (c .before .before .is-via .ensures) ∙ c .before .if1 .taken) in
+    let kind = kind-via (a .bodies) (a .word) (a .second) (given .1) via in
+    let none = no-body (a .word) (a .second) (a .used .now) via in
+    ((λ r. (kind ∙ (rw (c .depth-of .ensures) at r), none .0, sym (none .1))), (λ r k. absurd (true≢ (sym kind ∙ k) (rw (c .depth-of .ensures) at r))))
 
 returns-2 : tie.Need-returns-2
-returns-2 c = let copy : viaOf (c .before .before .before .before .args .word) ≡ 0 = via-zero (c .before .before .before .before .args .word) (sym (c .before .before .is-via .ensures) ∙ c .before .if1 .left) in
-    ((λ r. absurd (true≢ r refl)), (λ r k. absurd (omega (arith, ltb-true (c .before .before .before .before .args .second) (c .before .before .before .before .args .bodies) (rw (eq-eqb _ _ copy) at k), c .if2 .taken))))
+returns-2 c =
+    let a = c .before .before .before .before .args in
+    let given = c .before .before .before .before .pre in
+    let copy = via-zero (a .word) (sym (c .before .before .is-via .ensures) ∙ c .before .if1 .left) in (
+      (λ r. absurd (true≢ r refl)),
+      (λ r k. absurd (omega (arith, ltb-true (a .second) (a .bodies) (sym (kind-copy (a .bodies) (a .word) (a .second) (given .1) copy) ∙ k), c .if2 .taken))),
+    )
 
 wide-requires : tie.Need-wide-requires
 wide-requires c κs = search needs
 
 slice-read-before : tie.Need-slice-read-before
-slice-read-before c = omega (arith, c .before .wide .ensures, c .before .before .before .before .before .before .pre .1, c .before .before .if2 .left)
+slice-read-before c = omega (arith, c .before .wide .ensures, c .before .before .before .before .before .before .pre .2, c .before .before .if2 .left)
 
 slice-write-used : tie.Need-slice-write-used
-slice-write-used c = omega (arith, c .before .wide .ensures, c .before .before .before .before .before .before .pre .1, c .before .before .if2 .left)
+slice-write-used c = omega (arith, c .before .wide .ensures, c .before .before .before .before .before .before .pre .2, c .before .before .if2 .left)
 
 same-length : tie.Need-same-length
 same-length c = search needs
 
 returns-3 : tie.Need-returns-3
-unfolding markBody bodyFits
-returns-3 c = let copy : viaOf (c .before .before .before .before .before .before .args .word) ≡ 0 = via-zero (c .before .before .before .before .before .before .args .word) (sym (c .before .before .before .before .is-via .ensures) ∙ c .before .before .before .if1 .left) in
-    let told = eq-eqb (viaOf (c .before .before .before .before .before .before .args .word)) 0 copy in
-    let some-word = ne-eqb (c .before .before .before .before .before .before .args .word) 0 (c .before .before .before .before .before .before .pre .0) in (
-      (λ r. (rw told (lt-ltb (c .before .before .before .before .before .before .args .second) (c .before .before .before .before .before .before .args .bodies) (omega (arith, c .before .before .if2 .left))), rw (some-word, told, sym (c .before .wide .ensures)) r, rw (some-word, told, c .before .wide .ensures))),
-      (λ r k. rw (some-word, told, sym (c .before .wide .ensures)) r),
+returns-3 c =
+    let a = c .before .before .before .before .before .before .args in
+    let given = c .before .before .before .before .before .before .pre in
+    let copy = via-zero (a .word) (sym (c .before .before .before .before .is-via .ensures) ∙ c .before .before .before .if1 .left) in
+    let kind = kind-copy (a .bodies) (a .word) (a .second) (given .1) copy in
+    let body = one-body (a .word) (a .second) (a .used .now) (given .0) copy (given .1) in (
+      (λ r. (kind ∙ lt-ltb (a .second) (a .bodies) (omega (arith, c .before .before .if2 .left)), body .0 ∙ (rw (c .before .wide .ensures) at r), (rw (c .before .wide .ensures) (sym (body .1))))),
+      (λ r k. body .0 ∙ (rw (c .before .wide .ensures) at r)),
     )
 
 pub mark-body-spec : {M : Type 1} → statement M

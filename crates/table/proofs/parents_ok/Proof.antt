@@ -1,65 +1,18 @@
--- `table::parents_ok` meets its contract. The loop's invariant: `rest` tells whether every entry passed rests on its parent. Assumes nothing.
-use Prim.Native.Nat.{ℕ, _-_, _≤_, _<_}
-use mathlib.Core.Path.{_≡_, sym, ap, _∙_}
-use native.Mathlib.Omega.{arith}
+-- `table::parents_ok` meets its contract. Assumes nothing.
+use mathlib.Core.Path.{sym}
+use Rattle.table.proofs.Passing.{told-none}
 use borrow.Author.Needs.{needs}
-use borrow.Author.Count.{below-none}
-use Rattle.words.specs.Scan.{all}
-use Rattle.words.proofs.Scan.{all-make, all-next}
-use Rattle.table.specs.Rule.{parentOk}
-use Rattle.table.proofs.Marks.{parent-told}
-use Rattle.table.proofs.Passing.{parents-stop}
 use Rattle.table.proofs.parents_ok.Statement.{statement}
 use Rattle.table.proofs.parents_ok.Tie as tie
 
-abbrev Inv-loop : tie.InvT-loop
-Inv-loop table slots top seen rest₀ i₀ rest i = (i ≤ top) × (rest ≡ all i (parentOk slots table))
+returns : tie.Need-returns
+returns c = sym (told-none (c .before .before .before .args .slots) (c .before .before .before .args .table .now) (c .before .before .before .args .vias) (c .before .before .before .args .seen .now) (c .before .before .before .pre .1 .2) (c .if1 .taken))
 
-abbrev μ-loop : tie.MeasureT-loop
-μ-loop table slots top seen rest₀ i₀ rest i = top - i
+parents-told-requires : tie.Need-parents-told-requires
+parents-told-requires c κs = (c .before .before .before .pre .0, (c .before .before .before .pre .1 .0, c .before .before .before .pre .1 .1))
 
-loop-holds : tie.Need-loop-holds Inv-loop μ-loop
-loop-holds c = (search needs, sym (all-make 0 _ (below-none _)))
-
-first-word-requires : tie.Need-first-word-requires Inv-loop μ-loop
-first-word-requires c κs = (omega (arith, c .loop-test .taken, c .before .before .before .before .pre .0 .2 .0), c .before .before .before .before .pre .0 .0, c .before .before .before .before .pre .0 .1)
-
-parent-marked-requires : tie.Need-parent-marked-requires Inv-loop μ-loop
-parent-marked-requires c κs =
-    let i = c .before .before .loop .i in
-    let l : i < c .before .before .before .before .before .args .slots = omega (arith, c .before .loop-test .taken, c .before .before .before .before .before .pre .0 .2 .0) in
-    let given = c .before .before .before .before .before .pre .1 in
-    rw (c .first-word .ensures) (λ v. (given .0 i l v, given .2 i l v))
-
-add-i : tie.Need-add-i Inv-loop μ-loop
-add-i c = search needs
-
-loop-less : tie.Need-loop-less Inv-loop μ-loop
-loop-less c = search needs
-
-loop-again : tie.Need-loop-again Inv-loop μ-loop
-loop-again c =
-    let turn = c .before .before .before .loop in
-    let a = c .before .before .before .before .before .before .args in
-    let here = (rw (c .before .first-word .ensures) at (c .parent-marked .ensures)) ∙ parent-told (a .slots) (a .table .now) (a .seen .now) (c .before .before .before .before .before .before .pre .1 .1) (c .before .before .before .before .before .before .pre .1 .2) (turn .i) (omega (arith, c .before .before .loop-test .taken, c .before .before .before .before .before .before .pre .0 .2 .0)) in
-    (omega arith, rw (turn .inv .1, here) (all-next (turn .i) (parentOk (a .slots) (a .table .now))))
-
-returns : tie.Need-returns Inv-loop μ-loop
-returns c =
-    let a = c .before .before .before .before .args in
-    let e : c .before .loop .i ≡ a .top = omega arith in
-    c .before .loop .inv .1 ∙ ap (λ (n : ℕ). all n (parentOk (a .slots) (a .table .now))) e ∙ parents-stop (a .slots) (a .table .now) (a .top) (c .before .before .before .before .pre .0 .2)
+returns-2 : tie.Need-returns-2
+returns-2 c = search needs
 
 pub parents-ok-spec : {M : Type 1} → statement M
-parents-ok-spec =
-    tie.close
-    (tie.spec
-    Inv-loop
-    μ-loop
-    loop-holds
-    first-word-requires
-    parent-marked-requires
-    add-i
-    loop-less
-    loop-again
-    returns)
+parents-ok-spec = tie.close (tie.spec returns parents-told-requires returns-2)
