@@ -1,15 +1,15 @@
 -- A choice of places, told slot by slot; and the lowest free places, which the contract's call takes, are one. Assumes nothing.
 use Prim.Native.Nat.{ℕ, _+_, _-_, _≤_, _<_}
-use mathlib.Core.Bool.{true, false, cond, not}
+use mathlib.Core.Bool.{true, false, not}
 use mathlib.Core.List.{List}
-use mathlib.Core.Path.{_≡_, refl, ap, _∙_}
+use mathlib.Core.Path.{_≡_, refl, sym, ap, _∙_}
 use native.Mathlib.Omega.{arith}
-use borrow.Author.Tests.{eq-eqb, ne-eqb, eqb-true, lt-ltb, not-true}
-use lib.Dec.{ltb, eqb}
+use borrow.Author.Tests.{eqb-true, lt-ltb, not-true}
+use lib.Dec.{ltb}
 use lib.ListN.{length}
 use Rattle.words.specs.Layout.{cellsOf, bodiesOf, slotsOf}
 use Rattle.words.specs.Scan.{count}
-use Rattle.table.specs.Entry.{live, word1, holdsIn}
+use Rattle.table.specs.Entry.{live, word1, holdsIn, secondWord}
 use Rattle.table.specs.Changes.{entryChanges}
 use Rattle.search.specs.Free.{slotFree, bodyFree}
 use Rattle.search.proofs.Free.{slots-all, bodies-all}
@@ -20,14 +20,14 @@ use Rattle.add.specs.Add.{isNew, slotFor, bodyFor, changeWith, cellFor, 
 use Rattle.add.specs.Walking.{Ready}
 use Rattle.add.specs.Choice.{Choice}
 use Rattle.model.proofs.Ranges.{range-both, range-make}
-use Rattle.add.proofs.Choices.{Taking, chosen}
+use Rattle.add.proofs.Choices.{Taking, chosen, second-copy, second-via, second-rule}
 
 -- ---- slot by slot
 
 pub same-after : (base x y : ℕ) → base + x ≡ base + y → x ≡ y
 same-after base x y q = omega arith
 
-module _ {e b : ℕ} {t : List ℕ} {base n k : ℕ} {slot body : ℕ → ℕ} (choice : Choice e b t base n k slot body) where
+module _ {e b : ℕ} {t : List ℕ} {base n k : ℕ} {slot body : ℕ → ℕ} (choice : Choice e b t base n k slot body) (u : ℕ) where
   abbrev taker : ℕ → ℕ
   taker i = cellFor e t base n slot i
 
@@ -37,24 +37,25 @@ module _ {e b : ℕ} {t : List ℕ} {base n k : ℕ} {slot body : ℕ → ℕ} (
   abbrev same-slot : (i j : ℕ) → ltb (taker i) n ≡ true → ltb (taker j) n ≡ true → taker i ≡ taker j → i ≡ j
   same-slot = same-place n (isNew e t base) slot
 
-  unfoldable pub taking : Taking e b t base n k
+  unfoldable pub taking : Taking e b t base n k u
   taking =
       record {
         taken = λ i. ltb (cellFor e t base n slot i) n;
         cell = λ i. base + cellFor e t base n slot i;
-        body = λ i. cond (eqb k 0) (body (cellFor e t base n slot i)) 0;
+        body = λ i. secondWord k u (body (cellFor e t base n slot i));
         free = λ i h p. eqb-true (word1 e t i) 0 (taken-free (choice .slots) i p);
         within = λ i h p. let f = facts i p in range-make base n (base + taker i) (omega arith) (omega (arith, f .0));
         new = λ i h p. not-true _ (facts i p .1);
         apart = λ i j hi hj p q s. same-slot i j p q (same-after base (taker i) (taker j) s);
         covers = covers;
-        fits = λ z i h p. let f = facts i p in rw (eq-eqb k 0 z) (choice .bodies z .below (taker i) (f .0) (f .1));
-        unused = λ z i h p. let f = facts i p in rw (eq-eqb k 0 z) (choice .bodies z .was-free (taker i) (f .0) (f .1));
+        fits = λ z i h p. let f = facts i p in rw (second-copy k u (body (taker i)) z) (choice .bodies z .below (taker i) (f .0) (f .1));
+        unused = λ z i h p. let f = facts i p in rw (second-copy k u (body (taker i)) z) (choice .bodies z .was-free (taker i) (f .0) (f .1));
         bodies = λ z i j hi hj p q s.
             let f = facts i p in
             let g = facts j q in
-            same-slot i j p q (choice .bodies z .own (taker i) (taker j) (f .0) (g .0) (f .1) (g .1) (rw (eq-eqb k 0 z) at s));
-        bodiless = λ z i h p. rw (ne-eqb k 0 (λ y. omega arith));
+            same-slot i j p q (choice .bodies z .own (taker i) (taker j) (f .0) (g .0) (f .1) (g .1) (sym (second-copy k u (body (taker i)) z) ∙ s ∙ second-copy k u (body (taker j)) z));
+        bodiless = λ z i h p. second-via k u (body (taker i)) z;
+        ruled = λ z i h p. second-rule k u (body (taker i)) z;
       }
     where
       covers : (c : ℕ) → inRange base n c ≡ true → holdsIn e t (live t) c ≡ false → (i : ℕ) × (i < e) × (ltb (taker i) n ≡ true) × (base + taker i ≡ c)
@@ -69,13 +70,13 @@ module _ {e b : ℕ} {t : List ℕ} {base n k : ℕ} {slot body : ℕ → ℕ} (
           (slot j, choice .slots .below j l here, lt-ltb (taker (slot j)) n (omega arith), ap (λ (x : ℕ). base + x) at ∙ back)
 
   -- its changes are those of the call with the choice
-  pub words-told : (l : ℕ) → entryChanges e (chosen taking l) ≡ entryChanges e (changeWith e t base n k l slot body)
+  pub words-told : (l : ℕ) → entryChanges e (chosen taking l) ≡ entryChanges e (changeWith e t base n k u l slot body)
   unfolding chosen changeWith taking
   words-told l = refl
 
 -- ---- the lowest free slots and bodies
 
-module _ (memory bodies t : List ℕ) (base n k l : ℕ) (r : Ready memory bodies t base n k l) where
+module _ (memory bodies t : List ℕ) (base n k u l : ℕ) (r : Ready memory bodies t base n k u l) where
   abbrev e : ℕ
   e = slotsOf (length t)
 

@@ -3,6 +3,7 @@ pub mod Choices
 pub mod Meaning
 pub mod Counting
 pub mod Asking
+pub mod Comparing
 pub mod Walks
 pub mod Skipping
 pub mod Chosen

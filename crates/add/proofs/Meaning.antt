@@ -4,7 +4,7 @@ use Prim.Native.Nat.{ℕ, suc, _+_, _-_, _≤_, _<_}
 use mathlib.Core.Bool.{Bool, true, false, cond, _&&_}
 use mathlib.Core.List.{List, []}
 use mathlib.Core.Logic.{_⊎_, inl, inr}
-use mathlib.Core.Option.{Option, none}
+use mathlib.Core.Option.{Option, none, some}
 use mathlib.Core.Path.{_≡_, refl, sym, ap, _∙_}
 use native.Mathlib.Omega.{arith}
 use borrow.Author.Tests.{eq-eqb, ne-eqb, eqb-true, eqb-false, le-leb}
@@ -15,26 +15,29 @@ use Rattle.words.specs.Layout.{pairsAt, maxCells}
 use Rattle.words.specs.Stores.{stores}
 use Rattle.words.specs.Cells.{cellBytes}
 use Rattle.words.proofs.Scan.{by-bool, and-split, and-join}
-use Rattle.table.specs.Entry.{live, word1, word2, depthOf, writableOf, cellOf, parent, names, findIn, holdsIn, entryWord, parentHas}
+use Rattle.patterns.specs.Pattern.{maxRule, pattern}
+use Rattle.table.specs.Entry.{live, word1, word2, depthOf, writableOf, patternOf, cellOf, parent, names, findIn, holdsIn, entryWord, parentHas}
 use Rattle.table.specs.Changes.{put, newFirst, entryChanges}
-use Rattle.table.proofs.Entry.{names-make, holds-true}
-use Rattle.table.proofs.Made.{Made, entry-made}
+use Rattle.table.proofs.Entry.{names-make, holds-true, pattern-zero}
+use Rattle.table.proofs.Made.{Made, viaBit, ruleBit, entry-made}
 use Rattle.table.proofs.Rule.{Rule, Used}
 use Rattle.table.proofs.Head.{all-remain}
-use Rattle.search.proofs.Value.{Copy}
-use Rattle.model.specs.State.{Label, readOnly, readWrite, Holding}
+use Rattle.search.specs.Search.{sourceIn, valueIn, ruledIn}
+use Rattle.search.proofs.Value.{Copy, source-rule}
+use Rattle.model.specs.State.{Label, readOnly, readWrite, Kind, copy, viaParent, byRule, Holding}
 use Rattle.model.specs.Holdings.{holdingAt, inRange, labelNumbered, kindNumbered, raised, added, givenValue, addTo}
 use Rattle.store.specs.State.{labelOf, heldIn, stateIn}
 use Rattle.store.proofs.Domains.{held-none, held-some, innermost-state}
-use Rattle.store.proofs.Becoming.{atSlot, told, Stays, Value, came, took, rests, Full, Fate, keeps, raises, fills, Becomes, becomes-rule, becomes-held}
+use Rattle.store.proofs.Becoming.{atSlot, told, plain-kind, Stays, Value, came, took, follows, rests, Full, Fate, keeps, raises, fills, Becomes, becomes-rule, becomes-held}
 use Rattle.model.proofs.Ranges.{range-both}
 use Rattle.add.specs.Add.{rises, raiseChange}
 use Rattle.add.proofs.Choices.{Taking, chosen, rises-facts}
 use Rattle.add.proofs.Numbers.{outer-value}
 
-module _ (m e b : ℕ) (t : List ℕ) (ok : Rule m e b t) (long : pairsAt e ≤ length t) (base n k l : ℕ)
-    (inner : 1 ≤ live t) (kind : k ≤ 1) (label : l ≤ 1) (range : base + n ≤ m) (small : m ≤ maxCells) (choice : Taking e b t base n k)
-    (covered : k ≡ 1 → (i : ℕ) → i < e → choice .taken i ≡ true → (2 ≤ live t) × (findIn e t (parent (live t)) (choice .cell i) < e)) where
+module _ (m e b : ℕ) (t : List ℕ) (ok : Rule m e b t) (long : pairsAt e ≤ length t) (base n k u l : ℕ)
+    (inner : 1 ≤ live t) (kind : k ≤ 2) (label : l ≤ 1) (range : base + n ≤ m) (small : m ≤ maxCells) (choice : Taking e b t base n k u)
+    (covered : k ≡ 1 → (i : ℕ) → i < e → choice .taken i ≡ true → (2 ≤ live t) × (findIn e t (parent (live t)) (choice .cell i) < e))
+    (plain : k ≡ 1 → (i : ℕ) → i < e → choice .taken i ≡ true → ruledIn e t (parent (live t)) (choice .cell i) ≡ false) (rule : k ≡ 2 → u ≤ maxRule) where
   -- a slot that is taken comes to its cell, and takes its body where it is a copy
   abbrev Comes : ℕ → ℕ → Type 0
   Comes i c = (choice .taken i ≡ true) × (choice .cell i ≡ c)
@@ -45,8 +48,8 @@ module _ (m e b : ℕ) (t : List ℕ) (ok : Rule m e b t) (long : pairsAt e ≤ 
   abbrev word : ℕ → ℕ
   word i = entryWord (live t) k l (choice .cell i)
 
-  made : (i : ℕ) → i < e → choice .taken i ≡ true → Made (word i) (live t) l k 0 (choice .cell i)
-  made i h p = entry-made (live t) k l (choice .cell i) kind label (omega (arith, range-both base n (choice .cell i) (choice .within i h p) .1))
+  made : (i : ℕ) → i < e → choice .taken i ≡ true → Made (word i) (live t) l (viaBit k) (ruleBit k) 0 (choice .cell i)
+  made i h p = entry-made (live t) k l (choice .cell i) label (omega (arith, range-both base n (choice .cell i) (choice .within i h p) .1))
 
   takes : (i : ℕ) → choice .taken i ≡ true → chosen choice l i ≡ put (word i) (choice .body i)
   unfolding chosen
@@ -58,33 +61,76 @@ module _ (m e b : ℕ) (t : List ℕ) (ok : Rule m e b t) (long : pairsAt e ≤ 
       (filled : k ≡ 0 → (i : ℕ) → i < e → choice .taken i ≡ true → cellBytes new (choice .body i) ≡ cellBytes memory (choice .cell i)) where
     -- the value of a cell newly held
     abbrev given : ℕ → List ℕ
-    given c = givenValue (kindNumbered k) memory (holdingAt (stateIn e t old .domains) (length (stateIn e t old .domains) - 1) c) c
+    given c = givenValue (kindNumbered k u) memory (holdingAt (stateIn e t old .domains) (length (stateIn e t old .domains) - 1) c) c
 
     abbrev held : ℕ → ℕ → Option Holding
     held d c =
-        cond (eqb d (live t)) (cond (inRange base n c) (added (labelNumbered l) (kindNumbered k) (given c) (heldIn e t old d c)) (heldIn e t old d c)) (heldIn e t old d c)
+        cond (eqb d (live t)) (cond (inRange base n c) (added (labelNumbered l) (kindNumbered k u) (given c) (heldIn e t old d c)) (heldIn e t old d c)) (heldIn e t old d c)
 
     -- ---- the slots that are taken
 
-    new-value : (i : ℕ) → i < e → choice .taken i ≡ true → Value m e b t old new (live t) held (λ i. i) Comes Takes i (word i) (choice .body i)
-    new-value i h p =
-        let c = choice .cell i in
+    -- what is held where slot i comes
+    comes-held : (i : ℕ) → (h : i < e) → (p : choice .taken i ≡ true)
+        → held (depthOf (word i)) (cellOf (word i)) ≡ added (labelNumbered l) (kindNumbered k u) (given (choice .cell i)) none
+    comes-held i h p =
         let x = made i h p in
-        let none-held = held-none e t old (live t) c (choice .new i h p) in
-        by-bool (eqb k 1)
-        (λ z.
-        let one = eqb-true k 1 z in
-        let out = covered one i h p in
-        let deep = out .0 in
-        let has : parentHas e t (live t) c ≡ true = and-join (leb 2 (live t)) (holdsIn e t (parent (live t)) c) (le-leb 2 (live t) deep) (holds-true e t (parent (live t)) c (out .1)) in
-        let same : held (parent (depthOf (word i))) (cellOf (word i)) ≡ heldIn e t old (parent (live t)) c =
-        rw (x .depth, x .cell, ne-eqb (parent (live t)) (live t) (λ q. omega arith)) in
-        rests (x .kind ∙ one) (choice .bodiless one i h p) (rw (x .depth) deep) _ (same ∙ held-some e t old (parent (live t)) c (out .1))
-        (rw (x .depth, x .cell, x .label, eq-eqb (live t) (live t) refl, choice .within i h p, none-held, z, outer-value e t old inner c (cellBytes memory c) has)))
-        (λ z.
-        let nil : k ≡ 0 = omega (arith, eqb-false k 1 z) in
-        took (x .kind ∙ nil) (nil, p, refl) (choice .fits nil i h p) (choice .unused nil i h p)
-        (rw (x .depth, x .cell, x .label, eq-eqb (live t) (live t) refl, choice .within i h p, none-held, z, filled nil i h p)))
+        rw (x .depth, x .cell, eq-eqb (live t) (live t) refl, choice .within i h p, held-none e t old (live t) (choice .cell i) (choice .new i h p))
+
+    abbrev NewValue : ℕ → Type 0
+    NewValue i = Value m e b t old new (live t) held (λ i. i) Comes Takes i (word i) (choice .body i)
+
+    module _ (i : ℕ) (h : i < e) (p : choice .taken i ≡ true) where
+      abbrev c : ℕ
+      c = choice .cell i
+
+      x : Made (word i) (live t) l (viaBit k) (ruleBit k) 0 (choice .cell i)
+      x = made i h p
+
+      label-of : labelNumbered l ≡ labelOf (word i)
+      label-of = ap (λ (y : ℕ). cond (eqb y 1) readWrite readOnly) (sym (x .label))
+
+      -- what comes, by its kind and its value
+      comes-as : (kn : Kind) (v : List ℕ) → kindNumbered k u ≡ kn → given c ≡ v → held (depthOf (word i)) (cellOf (word i)) ≡ some (record { label = labelOf (word i); kind = kn; value = v })
+      comes-as kn v q r = comes-held i h p ∙ (λ a. some (record { label = label-of a; kind = q a; value = r a }))
+
+      abbrev around : Option Holding
+      around = holdingAt (stateIn e t old .domains) (length (stateIn e t old .domains) - 1) c
+
+      -- the value given, by the kind
+      given-by : (kn : Kind) → kindNumbered k u ≡ kn → given c ≡ givenValue kn memory around c
+      given-by kn q = ap (λ (y : Kind). givenValue y memory around c) q
+
+      as-copy : k ≡ 0 → NewValue i
+      as-copy nil =
+          let kn : kindNumbered k u ≡ copy = ap (λ (y : ℕ). kindNumbered y u) nil in
+          took (x .kind ∙ ap viaBit nil) (x .rule ∙ ap ruleBit nil) (nil, p, refl) (choice .fits nil i h p) (choice .unused nil i h p)
+          (comes-as copy (cellBytes new (choice .body i)) kn (given-by copy kn ∙ sym (filled nil i h p)))
+
+      as-rule : k ≡ 2 → NewValue i
+      as-rule two =
+          let second = choice .ruled two i h p in
+          let kn : kindNumbered k u ≡ byRule (choice .body i) = ap (λ (y : ℕ). kindNumbered y u) two ∙ ap byRule (sym second) in
+          follows (x .kind ∙ ap viaBit two) (x .rule ∙ ap ruleBit two) (rw second (rule two)) (comes-as (byRule (choice .body i)) (pattern (choice .body i)) kn (given-by (byRule (choice .body i)) kn))
+
+      as-via : k ≡ 1 → NewValue i
+      as-via one =
+          let kn : kindNumbered k u ≡ viaParent = ap (λ (y : ℕ). kindNumbered y u) one in
+          let out = covered one i h p in
+          let deep = out .0 in
+          let has : parentHas e t (live t) c ≡ true = and-join (leb 2 (live t)) (holdsIn e t (parent (live t)) c) (le-leb 2 (live t) deep) (holds-true e t (parent (live t)) c (out .1)) in
+          let same : held (parent (depthOf (word i))) (cellOf (word i)) ≡ heldIn e t old (parent (live t)) c =
+          rw (x .depth, x .cell, ne-eqb (parent (live t)) (live t) (λ q. omega arith)) in
+          let j = findIn e t (parent (live t)) c in
+          let unruled : patternOf (word1 e t j) ≡ 0 =
+          sym (source-rule m e b t ok (parent (live t)) c (omega arith) (out .1)) ∙ pattern-zero (word1 e t (sourceIn e t (parent (live t)) c)) (plain one i h p) in
+          rests (x .kind ∙ ap viaBit one) (x .rule ∙ ap ruleBit one) (choice .bodiless one i h p) (rw (x .depth) deep) _ (same ∙ held-some e t old (parent (live t)) c (out .1))
+          (plain-kind (word1 e t j) (word2 e t j) unruled)
+          (comes-as viaParent (valueIn e t old (parent (live t)) c) kn (given-by viaParent kn ∙ outer-value e t old inner c (cellBytes memory c) has))
+
+      new-value : NewValue i
+      new-value =
+          by-bool (eqb k 0) (λ z. as-copy (eqb-true k 0 z))
+          (λ z. by-bool (eqb k 1) (λ y. as-via (eqb-true k 1 y)) (λ y. let a = eqb-false k 0 z in let d = eqb-false k 1 y in as-rule (omega (arith, a, d, kind))))
 
     new-full : (i : ℕ) → i < e → choice .taken i ≡ true → Full m e b t old new (live t) held (λ i. i) Comes Takes i (word i) (choice .body i)
     new-full i h p =
@@ -183,11 +229,11 @@ module _ (m e b : ℕ) (t : List ℕ) (ok : Rule m e b t) (long : pairsAt e ≤ 
           bodies = λ i j v h g p q. choice .bodies (p .0) i j h g (p .1) (q .1) (p .2 ∙ sym (q .2));
         }
 
-    pub state-after : stateIn e (stores (entryChanges e (chosen choice l)) t) new ≡ addTo memory base n (kindNumbered k) (labelNumbered l) (stateIn e t old)
+    pub state-after : stateIn e (stores (entryChanges e (chosen choice l)) t) new ≡ addTo memory base n (kindNumbered k u) (labelNumbered l) (stateIn e t old)
     state-after =
         let B = becomes in
         innermost-state e t (stores (entryChanges e (chosen choice l)) t) old new (B .head .live) (B .head .next) (B .head .kept)
-        (λ d c. cond (inRange base n c) (added (labelNumbered l) (kindNumbered k) (given c) (d .holds c)) (d .holds c))
+        (λ d c. cond (inRange base n c) (added (labelNumbered l) (kindNumbered k u) (given c) (d .holds c)) (d .holds c))
         (λ x c h. becomes-held B (suc x) c (omega arith) h)
 
   -- any bytes do for the rule

@@ -1,11 +1,11 @@
 -- What the model asks and counts of a state, read off the words; and how many bytes and words add stores, whichever places it takes.
 -- Assumes nothing.
-use Prim.Native.Nat.{ℕ, _+_, _-_, _*_, _≤_}
+use Prim.Native.Nat.{ℕ, zero, suc, _+_, _-_, _*_, _≤_}
 use mathlib.Core.Bool.{Bool, true, false, not, _&&_, _||_}
 use mathlib.Core.List.{List}
 use mathlib.Core.Path.{_≡_, refl, sym, ap, _∙_}
 use native.Mathlib.Omega.{arith}
-use borrow.Author.Tests.{eq-eqb, ne-eqb, eqb-true, eqb-false, le-leb, lt-leb, leb-true}
+use borrow.Author.Tests.{ne-eqb, le-leb, lt-leb, leb-true}
 use lib.Dec.{leb, eqb}
 use lib.ListN.{length}
 use Rattle.words.specs.Layout.{cellsOf, bodiesOf, slotsOf}
@@ -13,13 +13,15 @@ use Rattle.words.specs.Scan.{count}
 use Rattle.words.proofs.Scan.{by-bool, by-le, and-split, true≢, count-ext, count-none}
 use Rattle.table.specs.Entry.{live, word1, writableOf, cellOf, parent, findIn, holdsIn, parentHas}
 use Rattle.table.specs.Changes.{isChanged}
+use Rattle.table.proofs.Rule.{Rule}
 use Rattle.table.proofs.Entry.{read-only, find-hit, holds-found}
 use Rattle.table.proofs.Entries.{changes-count}
-use Rattle.search.specs.Search.{valueIn}
+use Rattle.search.specs.Search.{valueIn, ruledIn}
 use Rattle.search.proofs.Counts.{count-entries}
-use Rattle.model.specs.Holdings.{holdingAt, isHeld, heldReadOnly, valueOr, inRange, labelNumbered, kindNumbered, newlyHeld, relabelled, newBodies}
+use Rattle.model.specs.Holdings.{holdingAt, isHeld, isSome, heldByRule, heldReadOnly, valueOr, inRange, labelNumbered, kindNumbered, newlyHeld, relabelled, newBodies}
 use Rattle.store.specs.State.{heldIn, stateIn}
 use Rattle.store.proofs.Domains.{inner-holding, outer-holding, state-zero, domains-count, held-holds, held-writable}
+use Rattle.store.proofs.Outermost.{held-rule}
 use Rattle.store.proofs.Raw.{raw-rule}
 use Rattle.add.specs.Add.{isNew, rises, raiseChange, wordsWith, bytesWith}
 use Rattle.add.specs.Walking.{Ready}
@@ -70,13 +72,23 @@ module _ (e : ℕ) (t bodies : List ℕ) (inner : 1 ≤ live t) where
         (λ p. rw p (count-ext n _ _ (λ j h. inner-only (base + j))))
         (λ p. rw p (sym (count-none n _ (λ j h. by-bool (holdsIn e t (live t) (base + j)) (λ q. rw q) (λ q. rw q)))))
 
+-- does the parent hold the cell by a rule? Its value then comes from that
+pub outer-ruled : (m e b : ℕ) (t : List ℕ) → Rule m e b t → (bodies : List ℕ) → 1 ≤ live t → (c : ℕ) → parentHas e t (live t) c ≡ true
+    → heldByRule (holdingAt (stateIn e t bodies .domains) (length (stateIn e t bodies .domains) - 1) c) ≡ ruledIn e t (parent (live t)) c
+outer-ruled m e b t ok bodies inner c h =
+    let p = and-split (leb 2 (live t)) (holdsIn e t (parent (live t)) c) h in
+    let deep = leb-true 2 (live t) (p .0) in
+    ap heldByRule (outer-holding e t bodies c deep)
+    ∙ ap isSome (held-rule m e b t ok bodies (parent (live t)) c (omega arith) (p .1))
+    ∙ by-bool (ruledIn e t (parent (live t)) c) (λ r. rw r) (λ r. rw r)
+
 -- ---- how many bytes and words
 
-module _ (memory bodies t : List ℕ) (base n k l : ℕ) (r : Ready memory bodies t base n k l)
+module _ (memory bodies t : List ℕ) (base n k u l : ℕ) (r : Ready memory bodies t base n k u l)
     {slot body : ℕ → ℕ} (choice : Choice (slotsOf (length t)) (bodiesOf (length bodies)) t base n k slot body) where
   -- slot by slot
-  abbrev told : Taking (slotsOf (length t)) (bodiesOf (length bodies)) t base n k
-  told = taking choice
+  abbrev told : Taking (slotsOf (length t)) (bodiesOf (length bodies)) t base n k u
+  told = taking choice u
 
   abbrev e : ℕ
   e = slotsOf (length t)
@@ -103,21 +115,27 @@ module _ (memory bodies t : List ℕ) (base n k l : ℕ) (r : Ready memory bodie
       ∙ count-range base Q (cellsOf (length memory)) n (r .range)
       ∙ sym (relabelled-is e t bodies (r .inner) base n l (r .label))
 
-  pub words-many : length (wordsWith t base n k l slot body)
+  pub words-many : length (wordsWith t base n k u l slot body)
       ≡ 2 * (newlyHeld base n (stateIn (slotsOf (length t)) t bodies) + relabelled base n (labelNumbered l) (stateIn (slotsOf (length t)) t bodies))
   words-many =
-      ap length (sym (words-told choice l))
+      ap length (sym (words-told choice u l))
       ∙ changes-count e (chosen told l)
       ∙ ap (λ (x : ℕ). 2 * x)
       (count-ext e (λ i. isChanged (chosen told l i)) (λ i. told .taken i || up i) (λ i h. changed-is i)
       ∙ count-or e (told .taken) up
       (λ i h p q. true≢ q (rw (told .free i h p) (rises-free (live t) base n l (r .inner))))
-      ∙ rw (slots-taken memory bodies t base n k l r choice, raised-many, newly-is e t bodies (r .inner) base n))
+      ∙ rw (slots-taken memory bodies t base n k u l r choice, raised-many, newly-is e t bodies (r .inner) base n))
 
-  pub bytes-many : length (bytesWith memory t base n k body) ≡ 64 * newBodies (kindNumbered k) (newlyHeld base n (stateIn (slotsOf (length t)) t bodies))
+  pub bytes-many : length (bytesWith memory t base n k body) ≡ 64 * newBodies (kindNumbered k u) (newlyHeld base n (stateIn (slotsOf (length t)) t bodies))
   bytes-many =
-      bytes-length memory bodies t base n k l r choice
+      bytes-length memory bodies t base n k u l r choice
       ∙ rw (newly-is e t bodies (r .inner) base n)
-      (by-bool (eqb k 1)
-      (λ p. let q = eqb-true k 1 p in rw (p, ne-eqb k 0 (λ z. omega arith)) (ap (λ (x : ℕ). 64 * x) (count-none n (λ j. false) (λ i h. refl))))
-      (λ p. let q = eqb-false k 1 p in let small = r .kind in rw (p, eq-eqb k 0 (omega (arith, q)))))
+      (by-kind k)
+    where
+      none-copied : 64 * count n (λ j. false) ≡ 64 * 0
+      none-copied = ap (λ (x : ℕ). 64 * x) (count-none n (λ j. false) (λ i h. refl))
+
+      by-kind : (k : ℕ) → 64 * count n (λ j. eqb k 0 && isNew e t base j) ≡ 64 * newBodies (kindNumbered k u) (count n (isNew e t base))
+      by-kind zero = refl
+      by-kind (suc zero) = none-copied
+      by-kind (suc (suc k)) = rw (ne-eqb (suc (suc k)) 0 (λ z. omega arith)) none-copied

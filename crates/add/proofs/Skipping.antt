@@ -11,13 +11,13 @@ use native.Mathlib.Omega.{arith}
 use borrow.Author.Tests.{eq-eqb, eqb-true, eqb-false, not-true}
 use lib.Dec.{eqb}
 use Rattle.words.specs.Scan.{count}
-use Rattle.words.proofs.Scan.{by-bool, by-le, is-true, is-false, count-le, count-not}
+use Rattle.words.proofs.Scan.{by-bool, by-le, is-true, is-false, count-le, count-not, count-stop}
 use Rattle.words.proofs.Nth.{count-below}
 use Rattle.table.specs.Entry.{live, word1, word2, cellOf}
 use Rattle.table.specs.Marks.{markOf, has, Marked, EndsAt}
 use Rattle.table.specs.Changes.{keep}
 use Rattle.search.specs.Free.{slotFree}
-use Rattle.search.proofs.From.{from-ge, count-stop}
+use Rattle.search.proofs.From.{from-ge}
 use Rattle.changes.proofs.Staging.{stages-skip}
 use Rattle.add.specs.Add.{rises}
 use Rattle.add.specs.declared.Cursors.{Cursors}

@@ -34,7 +34,7 @@ use Rattle.add.proofs.Walks.{bytes-are}
 use Rattle.add.proofs.Chosen.{slots-enough, places-enough}
 use Rattle.add.proofs.Choices.{rises-free}
 
-module _ (memory bodies t : List ℕ) (range : Range) (r : Ready memory bodies t (range .first) (range .count) (range .kind) (range .label)) (held used : List ℕ)
+module _ (memory bodies t : List ℕ) (range : Range) (r : Ready memory bodies t (range .first) (range .count) (range .kind) (range .rule) (range .label)) (held used : List ℕ)
     (m : AllMarked (slotsOf (length t)) t held used) where
   abbrev e : ℕ
   e = slotsOf (length t)
@@ -52,7 +52,7 @@ module _ (memory bodies t : List ℕ) (range : Range) (r : Ready memory bodies t
   free = slotFree (slotsOf (length t)) t
 
   enough : count n new ≤ count e free
-  enough = slots-enough memory bodies t (range .first) n (range .kind) (range .label) r
+  enough = slots-enough memory bodies t (range .first) n (range .kind) (range .rule) (range .label) r
 
   pub few : range .first + range .count ≤ maxCells
   few = let w = store-lengths _ _ t (r .store) in omega (arith, r .range, w .cells-high)
@@ -69,7 +69,7 @@ module _ (memory bodies t : List ℕ) (range : Range) (r : Ready memory bodies t
         count-held (slotsOf (length t)) t held (m .cells) (r .inner) (range .first) (range .count),
         count-ext (bodiesOf (length bodies)) (unmarked used) (bodyFree (slotsOf (length t)) t) free-is,
       )
-      (places-enough memory bodies t (range .first) (range .count) (range .kind) (range .label) r z)
+      (places-enough memory bodies t (range .first) (range .count) (range .kind) (range .rule) (range .label) r z)
 
   -- the walk over the entries may begin
   walkable : range .first + range .count ≤ cellsIn held → length used ≡ maxBodies → Walkable held used (slotsOf (length t)) (bodiesOf (length bodies)) t range
@@ -79,7 +79,6 @@ module _ (memory bodies t : List ℕ) (range : Range) (r : Ready memory bodies t
         slots = w .slots-high;
         long = omega (arith, w .table-exact);
         deep = raw-rule memory bodies t (r .store) .live;
-        kind = r .kind;
         label = r .label;
         cells = known;
         few = few;
@@ -107,7 +106,7 @@ module _ (memory bodies t : List ℕ) (range : Range) (r : Ready memory bodies t
 
   -- the r-th free slot takes the r-th new cell, and the r-th body without a mark
   change-same : (i : ℕ) → i < e → listChange held used e b t range i
-      ≡ changeWith e t (range .first) n (range .kind) (range .label) (slotFor e t (range .first)) (bodyFor e b t (range .first)) i
+      ≡ changeWith e t (range .first) n (range .kind) (range .rule) (range .label) (slotFor e t (range .first)) (bodyFor e b t (range .first)) i
   unfolding listChange changeWith raiseChange lowestFree
   change-same i h =
       rw (

@@ -1,5 +1,5 @@
 -- Add's two walks, turn by turn: over the range for the bytes, and over the entries for the words. Assumes nothing.
-use Prim.Native.Nat.{ℕ, _+_, _*_, _≤_, _<_, min}
+use Prim.Native.Nat.{ℕ, zero, suc, _+_, _*_, _≤_, _<_, min}
 use mathlib.Core.Bool.{true, false, cond}
 use mathlib.Core.List.{List, []}
 use mathlib.Core.Path.{_≡_, refl, sym, ap, _∙_}
@@ -11,14 +11,14 @@ use Rattle.words.specs.Layout.{slotsOf}
 use Rattle.words.specs.Scan.{count, nth}
 use Rattle.words.specs.Cells.{cellPlan}
 use Rattle.words.specs.Stores.{Store, gather}
-use Rattle.words.proofs.Scan.{by-bool, count-more}
+use Rattle.words.proofs.Scan.{by-bool, count-more, count-stop}
 use Rattle.words.proofs.Nth.{count-below}
 use Rattle.words.proofs.Gather.{gather-ext, gather-none}
 use Rattle.words.proofs.Plans.{length-cellPlan}
-use Rattle.table.specs.Entry.{live, word1, word2, entryWord}
+use Rattle.table.specs.Entry.{live, word1, word2, entryWord, secondWord}
 use Rattle.table.specs.Changes.{keep, put}
 use Rattle.search.specs.Free.{slotFree, bodyFree, lowestFree, unmarked, unmarkedFrom}
-use Rattle.search.proofs.From.{firstFrom, from-le, from-miss, count-stop, next-nth, next-passed, next-left, next-none}
+use Rattle.search.proofs.From.{firstFrom, from-le, from-miss, next-nth, next-passed, next-left, next-none}
 use Rattle.search.proofs.Free.{unmarked-nth, unmarked-below, unmarked-passed}
 use Rattle.search.proofs.Taking.{lowest-ext}
 use Rattle.add.specs.Add.{isNew, addBytes, raiseChange}
@@ -38,7 +38,13 @@ start-none used b k start q z =
       none = rw here (count-stop (firstFrom b 0 (unmarked used)) 0 (unmarked used) (omega arith) (from-miss b 0 (unmarked used)));
     }
 
--- the body of a new entry, or the number of bodies where none is left; 0 for via parent
+-- a second word has the body of a copy alone
+second-body : (k r v w : ℕ) → (k ≡ 0 → v ≡ w) → secondWord k r v ≡ secondWord k r w
+second-body zero r v w q = q refl
+second-body (suc zero) r v w q = refl
+second-body (suc (suc k)) r v w q = refl
+
+-- the body of a new entry, or the number of bodies where none is left; 0 for other kinds than copies
 pub body-small : (used : List ℕ) (b k from : ℕ) → (k ≡ 0 → from ≤ b) → bodyBeyond used b k from ≤ b
 unfolding unmarkedFrom
 body-small used b k from low =
@@ -168,20 +174,19 @@ module _ (held used : List ℕ) (e b : ℕ) (t : List ℕ) (r : Range) where
         cells-here : count (c .at) (unheld held (live t) (r .first)) ≡ rank
         cells-here = s .cells ∙ here
 
-        body-is : bodyBeyond used b (r .kind) (c .from) ≡ cond (eqb (r .kind) 0) (nth b (unmarked used) rank) 0
-        body-is =
-            by-bool (eqb (r .kind) 0)
-            (λ z. let q = eqb-true (r .kind) 0 z in rw (z, unmarked-nth used b (c .from) rank (s .body q) (s .bodies q ∙ here)))
-            (λ z. rw z)
+        -- only a copy's second word is the body
+        second-is : secondWord (r .kind) (r .rule) (bodyBeyond used b (r .kind) (c .from)) ≡ secondWord (r .kind) (r .rule) (nth b (unmarked used) rank)
+        second-is =
+            second-body (r .kind) (r .rule) _ _ (λ q. rw (eq-eqb (r .kind) 0 q) (unmarked-nth used b (c .from) rank (s .body q) (s .bodies q ∙ here)))
 
-        pub taken-change : listChange held used e b t r i ≡ put (entryWord (live t) (r .kind) (r .label) (r .first + j)) x
+        pub taken-change : (v : ℕ) → v ≡ secondWord (r .kind) (r .rule) x → listChange held used e b t r i ≡ put (entryWord (live t) (r .kind) (r .label) (r .first + j)) v
         unfolding listChange
-        taken-change =
+        taken-change v q =
             rw (
               free,
               lt-ltb rank (newIn held (live t) r) ranked,
               found ∙ cell-at held (live t) (r .first) (r .count) (c .at) rank (s .cell) cells-here,
-              body ∙ body-is,
+              q ∙ ap (secondWord (r .kind) (r .rule)) body ∙ second-is,
             )
 
         pub taken-stands : (r .kind ≡ 0 → newIn held (live t) r ≤ count b (unmarked used)) → Stands held used e b t r (i + 1) (record { at = j + 1; from = x + 1 })

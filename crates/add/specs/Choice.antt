@@ -17,14 +17,14 @@ pub record Choice (e b : ℕ) (t : List ℕ) (first n k : ℕ) (slot body : ℕ 
   pub bodies : k ≡ 0 → TakesFree n (isNew e t first) b (bodyFree e t) body
 
 -- the add that takes these places
-unfoldable pub addWith : (slot body : ℕ → ℕ) (h first n k l : ℕ) → Buffers → Call
-addWith slot body h first n k l b =
-    unless (addCheck b h first n k l)
+unfoldable pub addWith : (slot body : ℕ → ℕ) (h first n k r l : ℕ) → Buffers → Call
+addWith slot body h first n k r l b =
+    unless (addCheck b h first n k r l)
     (perform (changePlan (pairsAt (slotsOf (length (b .table)))) (bytesWith (b .memory) (b .table) first n k body)
-    (wordsWith (b .table) first n k l slot body)) 0)
+    (wordsWith (b .table) first n k r l slot body)) 0)
 
 -- the places are a choice, asked for where no question refuses the call
-abbrev pub MayTake : (h first n k l : ℕ) → Buffers → (slot body : ℕ → ℕ) → Type 0
-MayTake h first n k l b slot body =
-    addCheck b h first n k l ≡ 0
+abbrev pub MayTake : (h first n k r l : ℕ) → Buffers → (slot body : ℕ → ℕ) → Type 0
+MayTake h first n k r l b slot body =
+    addCheck b h first n k r l ≡ 0
     → Choice (slotsOf (length (b .table))) (bodiesOf (length (b .bodies))) (b .table) first n k slot body

@@ -21,6 +21,8 @@ use marks::has_depth;
 use marks::many_marks;
 use marks::mark_of;
 use marks::some_marks;
+use patterns::MAX_RULE;
+use patterns::pattern_bytes;
 use search::Held;
 use search::count_used;
 use search::find_value;
@@ -40,6 +42,7 @@ use table::fields::cell_of;
 use table::fields::depth_of;
 use table::fields::entry_word;
 use table::fields::raise;
+use table::fields::second_of;
 use table::fields::writable_of;
 use table::first_word;
 use table::no_bodies;
@@ -62,30 +65,31 @@ ghost use lib.ListN.{length, take};
 ghost use lib.Dec.{eqb};
 ghost use Rattle.words.specs.Layout.{cellAt, cellsOf, bodiesOf, slotsOf, pairsAt, handleAt, maxLive, maxSlots, maxCells, maxBodies, cellSize};
 ghost use Rattle.words.specs.Scan.{all, count};
-ghost use Rattle.words.specs.Cells.{cellBytes, sameCell, cellPlan};
+ghost use Rattle.words.specs.Cells.{cellPlan};
 ghost use Rattle.words.specs.Stores.{stores};
 ghost use Rattle.words.specs.Journal.{journal};
 ghost use Rattle.table.specs.Entry.{live, word1, word2, parent};
 ghost use Rattle.marks.specs.Blocks.{cellsIn, Enough};
 ghost use Rattle.table.specs.Marks.{CellsOnce, EndsAt, Reached, RoomForMarks, Marked, AllMarked};
-ghost use Rattle.search.specs.Search.{valueIn};
 ghost use Rattle.search.specs.Free.{unmarked, unmarkedFrom};
 ghost use Rattle.changes.specs.Staged.{RoomFor, Stages, Journaled};
-ghost use Rattle.model.specs.Answer.{stepsOf};
+ghost use Rattle.model.specs.Answer.{ask, orElse, stepsOf};
 ghost use Rattle.store.specs.Checks.{storeCheck, lent};
 ghost use Rattle.store.specs.Outcome.{buffers, report, Makes};
 ghost use Rattle.store.specs.Means.{Shows};
 ghost use Rattle.add.specs.Add.{addCheck, addCall, addMeans, rises, raiseChange};
-ghost use Rattle.add.specs.Walking.{lacks, newIn, nextUnheld, rangeCheck, parentCheck, roomCheck, heldCheck, backed, alike, Source, Comparable, copyBytes};
+ghost use Rattle.add.specs.Walking.{lacks, newIn, nextUnheld, rangeCheck, parentCheck, ruleCheck, valueCheck, roomCheck, heldCheck, backed, follows};
+ghost use Rattle.add.specs.Walking.{valueNumber, cellNumber, rangeNumber, Source, Comparable, copyBytes};
 ghost use Rattle.add.specs.Walking.{bodyBeyond, listChange, NoneBelow, StagesOn, Walkable, Walked, Stageable, Skips, Ready, bytesOfRange, wordsOf, callOf};
 ghost use Rattle.add.specs.Walking.{rangeWords, endOf};
 
-// What an add names: `count` cells from `first` on, to be held as copies (kind 0) or via parent (kind 1), read-only (label 0) or read-write
-// (label 1).
+// What an add names: `count` cells from `first` on, to be held as copies (kind 0), via parent (kind 1) or by a rule (kind 2), which other kinds
+// ignore, read-only (label 0) or read-write (label 1).
 pub struct Range {
     pub first: usize,
     pub count: usize,
     pub kind: u32,
+    pub rule: u32,
     pub label: u32,
 }
 
@@ -100,7 +104,7 @@ fn range_check(table: &[u32], cells: usize, handle: u32, range: Range) -> u32
     if no != 0 {
         return no;
     }
-    if !((range.kind <= 1) & (range.label <= 1)) {
+    if !((range.kind <= 2) & (range.label <= 1)) {
         return 7;
     }
     if !range_ok(cells, range.first, range.count) {
@@ -155,8 +159,16 @@ fn parent_holds(held: &[u8], depth: u32, range: Range) -> bool
     true
 }
 
-// Has memory the value of a cell that the domain at this depth holds? `last` and `before` are notes of where to begin the search.
-fn same_value(
+// 12 where memory has not the bytes that it should have, else `no`.
+fn number_of(same: bool, no: u32) -> u32
+    ensures { λ r. ⌜ r ≡ ask same 12 no ⌝ }
+{
+    if same { no } else { 12 }
+}
+
+// Questions 12 and 19 of a cell that the domain at this depth holds: has memory its value, and does that come from no rule? `last` and `before`
+// are notes of where to begin the search.
+fn value_number(
     memory: &[u8],
     bodies: &[u8],
     table: &[u32],
@@ -166,20 +178,24 @@ fn same_value(
     before: &[u16],
     depth: u32,
     cell: usize,
-) -> bool
+) -> u32
     requires { ⌜ (slots ≤ maxSlots) × (pairsAt slots ≤ length (now table)) × (depth ≤ live (now table)) × (live (now table) ≤ maxLive)
         × CellsOnce slots (now table) slots × EndsAt slots (now table) top ⌝ }
     requires { ⌜ (cell < maxCells) × (cellAt cell + cellSize ≤ length (now memory)) × Source slots (now table) (now bodies) depth cell ⌝ }
-    ensures { λ r. ⌜ r ≡ sameCell (valueIn slots (now (table .entry)) (now (bodies .entry)) depth cell) (cellBytes (now (memory .entry)) cell) ⌝ }
+    ensures { λ r. ⌜ r ≡ valueNumber (now (memory .entry)) (now (bodies .entry)) slots (now (table .entry)) depth cell ⌝ }
 {
     match find_value(table, slots, top, depth, cell as u32, last, before) {
-        Held::Nowhere => false,
-        Held::InBody(_, body) => same_cell(bodies, wide(body), memory, cell),
+        Held::Nowhere => 12,
+        Held::InBody(_, body) => number_of(same_cell(bodies, wide(body), memory, cell), 0),
+        Held::ByRule(_, rule) => {
+            let bytes = pattern_bytes(rule);
+            number_of(same_cell(&bytes, 0, memory, cell), 19)
+        }
     }
 }
 
-// Has memory the parent's value of a cell? Of one that is not new this is not asked.
-fn cell_agrees(
+// The same of the parent's value of a cell. Of one that is not new this is not asked.
+fn cell_number(
     memory: &[u8],
     bodies: &[u8],
     table: &[u32],
@@ -190,17 +206,17 @@ fn cell_agrees(
     held: &[u8],
     depth: u32,
     cell: usize,
-) -> bool
+) -> u32
     requires { ⌜ (slots ≤ maxSlots) × (pairsAt slots ≤ length (now table)) × (1 ≤ depth) × (depth ≤ live (now table)) × (live (now table) ≤ maxLive)
         × CellsOnce slots (now table) slots × EndsAt slots (now table) top ⌝ }
     requires { ⌜ (cell < maxCells) × (cellAt cell + cellSize ≤ length (now memory)) × (cell < cellsIn (now held)) ⌝ }
     requires { ⌜ (lacks (now held) depth cell ≡ true → Source slots (now table) (now bodies) (parent depth) cell) ⌝ }
-    ensures { λ r. ⌜ r ≡ alike (now (memory .entry)) (now (bodies .entry)) slots (now (table .entry)) (now (held .entry)) depth cell ⌝ }
+    ensures { λ r. ⌜ r ≡ cellNumber (now (memory .entry)) (now (bodies .entry)) slots (now (table .entry)) (now (held .entry)) depth cell ⌝ }
 {
     if !is_new(held, depth, cell) {
-        return true;
+        return 0;
     }
-    same_value(
+    value_number(
         memory,
         bodies,
         table,
@@ -213,8 +229,16 @@ fn cell_agrees(
     )
 }
 
-// Has memory the parent's value in every new cell of the range?
-fn parent_agrees(
+// The first of two numbers of questions that is a no.
+fn first_no(a: u32, b: u32) -> u32
+    ensures { λ r. ⌜ r ≡ orElse a b ⌝ }
+{
+    if a != 0 { a } else { b }
+}
+
+// The same of every new cell of the range: 12 where memory has not the parent's value of one of them; if it has all of them, 19 where one comes
+// from a rule.
+fn parent_number(
     memory: &[u8],
     bodies: &[u8],
     table: &[u32],
@@ -225,15 +249,15 @@ fn parent_agrees(
     held: &[u8],
     depth: u32,
     range: Range,
-) -> bool
+) -> u32
     requires { ⌜ Comparable (now memory) (now bodies) slots (now table) top (now held) depth range ⌝ }
-    ensures { λ r. ⌜ r ≡ all (range .count) (λ j.
-        alike (now (memory .entry)) (now (bodies .entry)) slots (now (table .entry)) (now (held .entry)) depth (range .first + j)) ⌝ }
+    ensures { λ r. ⌜ r ≡ rangeNumber (now (memory .entry)) (now (bodies .entry)) slots (now (table .entry)) (now (held .entry)) depth (range .first) (range .count) ⌝ }
 {
+    let mut ruled: u32 = 0;
     let mut j: usize = 0;
     while j < range.count {
         let cell = range.first + j;
-        if !cell_agrees(
+        let no = cell_number(
             memory,
             bodies,
             table,
@@ -244,16 +268,18 @@ fn parent_agrees(
             held,
             depth,
             cell,
-        ) {
-            return false;
+        );
+        if no == 12 {
+            return 12;
         }
+        ruled = first_no(ruled, no);
         j += 1;
     }
-    true
+    ruled
 }
 
 // The same with no notes.
-fn agrees_plain(
+fn number_plain(
     memory: &[u8],
     bodies: &[u8],
     table: &[u32],
@@ -262,13 +288,12 @@ fn agrees_plain(
     held: &[u8],
     depth: u32,
     range: Range,
-) -> bool
+) -> u32
     requires { ⌜ Comparable (now memory) (now bodies) slots (now table) top (now held) depth range ⌝ }
-    ensures { λ r. ⌜ r ≡ all (range .count) (λ j.
-        alike (now (memory .entry)) (now (bodies .entry)) slots (now (table .entry)) (now (held .entry)) depth (range .first + j)) ⌝ }
+    ensures { λ r. ⌜ r ≡ rangeNumber (now (memory .entry)) (now (bodies .entry)) slots (now (table .entry)) (now (held .entry)) depth (range .first) (range .count) ⌝ }
 {
     let notes = no_notes();
-    parent_agrees(
+    parent_number(
         memory,
         bodies,
         table,
@@ -283,7 +308,7 @@ fn agrees_plain(
 }
 
 // With notes of few entries.
-fn agrees_few(
+fn number_few(
     memory: &[u8],
     bodies: &[u8],
     table: &[u32],
@@ -292,15 +317,14 @@ fn agrees_few(
     held: &[u8],
     depth: u32,
     range: Range,
-) -> bool
+) -> u32
     requires { ⌜ Comparable (now memory) (now bodies) slots (now table) top (now held) depth range ⌝ }
-    ensures { λ r. ⌜ r ≡ all (range .count) (λ j.
-        alike (now (memory .entry)) (now (bodies .entry)) slots (now (table .entry)) (now (held .entry)) depth (range .first + j)) ⌝ }
+    ensures { λ r. ⌜ r ≡ rangeNumber (now (memory .entry)) (now (bodies .entry)) slots (now (table .entry)) (now (held .entry)) depth (range .first) (range .count) ⌝ }
 {
     let mut last = few_notes();
     let mut before = few_notes();
     note_entries(table, slots, top, &mut last, &mut before);
-    parent_agrees(
+    parent_number(
         memory,
         bodies,
         table,
@@ -315,7 +339,7 @@ fn agrees_few(
 }
 
 // With notes of as many as there can be.
-fn agrees_many(
+fn number_many(
     memory: &[u8],
     bodies: &[u8],
     table: &[u32],
@@ -324,15 +348,14 @@ fn agrees_many(
     held: &[u8],
     depth: u32,
     range: Range,
-) -> bool
+) -> u32
     requires { ⌜ Comparable (now memory) (now bodies) slots (now table) top (now held) depth range ⌝ }
-    ensures { λ r. ⌜ r ≡ all (range .count) (λ j.
-        alike (now (memory .entry)) (now (bodies .entry)) slots (now (table .entry)) (now (held .entry)) depth (range .first + j)) ⌝ }
+    ensures { λ r. ⌜ r ≡ rangeNumber (now (memory .entry)) (now (bodies .entry)) slots (now (table .entry)) (now (held .entry)) depth (range .first) (range .count) ⌝ }
 {
     let mut last = many_notes();
     let mut before = many_notes();
     note_entries(table, slots, top, &mut last, &mut before);
-    parent_agrees(
+    parent_number(
         memory,
         bodies,
         table,
@@ -351,7 +374,7 @@ fn agrees_many(
 const NOTED_CELLS: usize = 8;
 
 // The same with notes where they pay, as many as the entries below `top` need.
-fn range_agrees(
+fn range_number(
     memory: &[u8],
     bodies: &[u8],
     table: &[u32],
@@ -360,21 +383,20 @@ fn range_agrees(
     held: &[u8],
     depth: u32,
     range: Range,
-) -> bool
+) -> u32
     requires { ⌜ Comparable (now memory) (now bodies) slots (now table) top (now held) depth range ⌝ }
-    ensures { λ r. ⌜ r ≡ all (range .count) (λ j.
-        alike (now (memory .entry)) (now (bodies .entry)) slots (now (table .entry)) (now (held .entry)) depth (range .first + j)) ⌝ }
+    ensures { λ r. ⌜ r ≡ rangeNumber (now (memory .entry)) (now (bodies .entry)) slots (now (table .entry)) (now (held .entry)) depth (range .first) (range .count) ⌝ }
 {
     if range.count < NOTED_CELLS {
-        return agrees_plain(memory, bodies, table, slots, top, held, depth, range);
+        return number_plain(memory, bodies, table, slots, top, held, depth, range);
     }
     if top <= FEW_SLOTS {
-        return agrees_few(memory, bodies, table, slots, top, held, depth, range);
+        return number_few(memory, bodies, table, slots, top, held, depth, range);
     }
-    agrees_many(memory, bodies, table, slots, top, held, depth, range)
+    number_many(memory, bodies, table, slots, top, held, depth, range)
 }
 
-// Questions 11 and 12, which are put for via parent alone.
+// Questions 11, 12 and 19, which are put for via parent.
 fn parent_check(
     memory: &[u8],
     bodies: &[u8],
@@ -388,20 +410,83 @@ fn parent_check(
     requires { ⌜ (range .first + range .count ≤ cellsIn (now held))
         × Marked (slotsOf (length (now table))) (now table) (slotsOf (length (now table))) (now held) ⌝ }
     ensures { λ r. ⌜ r ≡ parentCheck (now (memory .entry)) (now (bodies .entry)) (slotsOf (length (now (table .entry)))) (now (table .entry))
-        (range .first) (range .count) (range .kind) ⌝ }
+        (range .first) (range .count) ⌝ }
 {
-    if range.kind == 0 {
-        return 0;
-    }
     let depth = table[LIVE_AT];
     if !parent_holds(held, depth, range) {
         return 11;
     }
     let slots = slots_of(table.len());
-    if !range_agrees(memory, bodies, table, slots, top, held, depth, range) {
-        return 12;
+    range_number(memory, bodies, table, slots, top, held, depth, range)
+}
+
+// Has memory these 64 bytes in a cell? Of one that is not new this is not asked.
+fn cell_follows(memory: &[u8], bytes: &[u8], held: &[u8], depth: u32, cell: usize) -> bool
+    requires { ⌜ (length (now bytes) ≡ cellSize) × (cellAt cell + cellSize ≤ length (now memory)) × (cell < cellsIn (now held)) × (depth ≤ maxLive) ⌝ }
+    ensures { λ r. ⌜ r ≡ follows (now (memory .entry)) (now (bytes .entry)) (now (held .entry)) depth cell ⌝ }
+{
+    if !is_new(held, depth, cell) {
+        return true;
+    }
+    same_cell(bytes, 0, memory, cell)
+}
+
+// The same of every new cell of the range.
+fn range_follows(memory: &[u8], bytes: &[u8], held: &[u8], depth: u32, range: Range) -> bool
+    requires { ⌜ (length (now bytes) ≡ cellSize) × (cellAt (range .first + range .count) ≤ length (now memory))
+        × (range .first + range .count ≤ cellsIn (now held)) × (depth ≤ maxLive) × (range .first + range .count ≤ maxCells) ⌝ }
+    ensures { λ r. ⌜ r ≡ all (range .count) (λ j. follows (now (memory .entry)) (now (bytes .entry)) (now (held .entry)) depth (range .first + j)) ⌝ }
+{
+    let mut j: usize = 0;
+    while j < range.count {
+        if !cell_follows(memory, bytes, held, depth, range.first + j) {
+            return false;
+        }
+        j += 1;
+    }
+    true
+}
+
+// Question 18, which is put for a rule: is there such a rule, and has memory its bytes in every new cell? The bytes are made once.
+fn rule_check(memory: &[u8], bodies: &[u8], table: &[u32], held: &[u8], range: Range) -> u32
+    requires { ⌜ (storeCheck (lent (length (now memory)) (length (now bodies)) (now table)) ≡ 0) × (1 ≤ live (now table))
+        × (range .first + range .count ≤ cellsOf (length (now memory))) ⌝ }
+    requires { ⌜ (range .first + range .count ≤ cellsIn (now held))
+        × Marked (slotsOf (length (now table))) (now table) (slotsOf (length (now table))) (now held) ⌝ }
+    ensures { λ r. ⌜ r ≡ ruleCheck (now (memory .entry)) (slotsOf (length (now (table .entry)))) (now (table .entry)) (range .first) (range .count) (range .rule) ⌝ }
+{
+    if MAX_RULE < range.rule {
+        return 18;
+    }
+    let bytes = pattern_bytes(range.rule);
+    if !range_follows(memory, &bytes, held, table[LIVE_AT], range) {
+        return 18;
     }
     0
+}
+
+// Questions 11, 12, 18 and 19: those on values, by the kind. A copy is put none of them.
+fn value_check(
+    memory: &[u8],
+    bodies: &[u8],
+    table: &[u32],
+    top: usize,
+    held: &[u8],
+    range: Range,
+) -> u32
+    requires { ⌜ (storeCheck (lent (length (now memory)) (length (now bodies)) (now table)) ≡ 0) × (1 ≤ live (now table))
+        × (range .first + range .count ≤ cellsOf (length (now memory))) × EndsAt (slotsOf (length (now table))) (now table) top ⌝ }
+    requires { ⌜ (range .first + range .count ≤ cellsIn (now held))
+        × Marked (slotsOf (length (now table))) (now table) (slotsOf (length (now table))) (now held) ⌝ }
+    ensures { λ r. ⌜ r ≡ valueCheck (now (memory .entry)) (now (bodies .entry)) (slotsOf (length (now (table .entry)))) (now (table .entry))
+        (range .first) (range .count) (range .kind) (range .rule) ⌝ }
+{
+    let kind = range.kind;
+    match kind {
+        0 => 0,
+        1 => parent_check(memory, bodies, table, top, held, range),
+        _ => rule_check(memory, bodies, table, held, range),
+    }
 }
 
 // Questions 16 and 17, for so many new cells.
@@ -413,7 +498,7 @@ fn room_check(table: &[u32], slots: usize, top: usize, bodies: usize, new: usize
     if slots < in_use.entries + new {
         return 16;
     }
-    if kind == 1 {
+    if kind != 0 {
         return 0;
     }
     if bodies < in_use.copies + new {
@@ -422,7 +507,7 @@ fn room_check(table: &[u32], slots: usize, top: usize, bodies: usize, new: usize
     0
 }
 
-// Questions 11, 12, 16 and 17: those that ask which cells are new.
+// Questions 11, 12, 18, 19, 16 and 17: those that ask which cells are new.
 fn held_check(
     memory: &[u8],
     bodies: &[u8],
@@ -435,9 +520,9 @@ fn held_check(
         × (range .first + range .count ≤ cellsOf (length (now memory))) × EndsAt (slotsOf (length (now table))) (now table) top ⌝ }
     requires { ⌜ (range .first + range .count ≤ cellsIn (now held))
         × Marked (slotsOf (length (now table))) (now table) (slotsOf (length (now table))) (now held) ⌝ }
-    ensures { λ r. ⌜ r ≡ heldCheck (now (memory .entry)) (now (bodies .entry)) (now (table .entry)) (range .first) (range .count) (range .kind) ⌝ }
+    ensures { λ r. ⌜ r ≡ heldCheck (now (memory .entry)) (now (bodies .entry)) (now (table .entry)) (range .first) (range .count) (range .kind) (range .rule) ⌝ }
 {
-    let no = parent_check(memory, bodies, table, top, held, range);
+    let no = value_check(memory, bodies, table, top, held, range);
     if no != 0 {
         return no;
     }
@@ -465,7 +550,7 @@ fn add_check(
 ) -> u32
     requires { ⌜ RoomForMarks (now table) (cellsOf (length (now memory))) top (now seen) (now used) ⌝ }
     ensures no { λ r. ⌜ r ≡ addCheck (buffers (now (memory .entry)) (now (bodies .entry)) (now (table .entry))) handle
-        (range .first) (range .count) (range .kind) (range .label) ⌝ }
+        (range .first) (range .count) (range .kind) (range .rule) (range .label) ⌝ }
     ensures marks { λ r. ⌜ (r ≡ 0 → AllMarked (slotsOf (length (now (table .entry)))) (now (table .entry)) (now (seen .exit)) (now (used .exit))) ⌝ }
 {
     let no = store_check(memory.len(), bodies.len(), table, top, seen, used);
@@ -508,7 +593,7 @@ fn copy_one(
     body + 1
 }
 
-// The bytes of the new copies, rising by cell, into the free bodies from `start` on; none for via parent. Returns how many they are, uncut.
+// The bytes of the new copies, rising by cell, into the free bodies from `start` on; none for other kinds. Returns how many they are, uncut.
 fn copy_new(
     memory: &[u8],
     bodies: &mut [u8],
@@ -575,7 +660,7 @@ fn next_new(held: &[u8], depth: u32, range: Range, at: usize) -> usize
     j
 }
 
-// The body of a new entry: the lowest without a mark from `from` on; via parent has none, which is 0.
+// The body of a new entry: the lowest without a mark from `from` on; other kinds have none, which is 0.
 fn take_body(used: &[u8], bodies: usize, kind: u32, from: usize) -> usize
     requires { ⌜ (kind ≡ 0 → (bodies ≤ length (now used)) × (from ≤ bodies)) ⌝ }
     ensures { λ r. ⌜ r ≡ bodyBeyond (now (used .entry)) bodies kind from ⌝ }
@@ -655,7 +740,8 @@ fn pass_entry(
     let body = take_body(used, bodies, range.kind, walk.from);
     let cell = (range.first + at) as u32;
     let word = entry_word(depth, range.kind, range.label, cell);
-    stage_entry(words, changed, i, word, body as u32);
+    let second = second_of(range.kind, range.rule, body as u32);
+    stage_entry(words, changed, i, word, second);
     Cursors {
         at: at + 1,
         from: body + 1,
@@ -877,7 +963,7 @@ fn add_stores(
     range: Range,
     budget: usize,
 ) -> usize
-    requires ready { ⌜ Ready (now memory) (now bodies) (now table) (range .first) (range .count) (range .kind) (range .label) ⌝ }
+    requires ready { ⌜ Ready (now memory) (now bodies) (now table) (range .first) (range .count) (range .kind) (range .rule) (range .label) ⌝ }
     requires marks { ⌜ (range .first + range .count ≤ cellsIn (now held)) × (length (now used) ≡ maxBodies)
         × AllMarked (slotsOf (length (now table))) (now table) (now held) (now used) × EndsAt (slotsOf (length (now table))) (now table) top ⌝ }
     ensures steps { λ r. ⌜ r ≡ stepsOf (length (bytesOfRange (now (memory .entry)) (now (bodies .entry)) (now (table .entry)) range))
@@ -1008,8 +1094,8 @@ fn add_many(
     )
 }
 
-// Adds `count` cells from `first` on to the innermost domain, as copies (kind 0) or via parent (kind 1), read-only (label 0) or
-// read-write (label 1): all of them, or none.
+// Adds `count` cells from `first` on to the innermost domain, as copies (kind 0), via parent (kind 1) or by a rule (kind 2), read-only (label 0)
+// or read-write (label 1): all of them, or none.
 pub fn add(
     memory: &[u8],
     bodies: &mut [u8],
@@ -1018,18 +1104,20 @@ pub fn add(
     first: u32,
     count: u32,
     kind: u32,
+    rule: u32,
     label: u32,
     budget: usize,
 ) -> Answer
-    ensures made { λ r. ⌜ Makes (addCall handle first count kind label) budget (buffers (now (memory .entry)) (now (bodies .entry)) (now (table .entry)))
+    ensures made { λ r. ⌜ Makes (addCall handle first count kind rule label) budget (buffers (now (memory .entry)) (now (bodies .entry)) (now (table .entry)))
         (report r) (buffers (now (memory .entry)) (now (bodies .exit)) (now (table .exit))) ⌝ }
-    ensures means { λ r. ⌜ Shows (addMeans handle first count kind label) budget (buffers (now (memory .entry)) (now (bodies .entry)) (now (table .entry)))
+    ensures means { λ r. ⌜ Shows (addMeans handle first count kind rule label) budget (buffers (now (memory .entry)) (now (bodies .entry)) (now (table .entry)))
         (report r) (buffers (now (memory .entry)) (now (bodies .exit)) (now (table .exit))) ⌝ }
 {
     let range = Range {
         first: wide(first),
         count: wide(count),
         kind,
+        rule,
         label,
     };
     let top = reach_of(table);

@@ -14,12 +14,11 @@ use lib.Pow.{shr-shr, shr-lt}
 use lib.Seq.{set-getD}
 use Rattle.words.specs.Layout.{groupAt, groupOf}
 use Rattle.words.specs.Scan.{count}
-use Rattle.words.proofs.Scan.{by-bool, by-le, is-false, and-split, and-join, true≢, count-ext}
+use Rattle.words.proofs.Scan.{by-bool, by-le, is-false, and-split, and-join, true≢, count-ext, count-stop}
 use Rattle.words.proofs.Nth.{count-below}
 use Rattle.table.specs.Entry.{word1, cellOf}
 use Rattle.table.specs.Marks.{Blank}
 use Rattle.table.proofs.Marks.{split}
-use Rattle.search.proofs.From.{count-stop}
 use Rattle.changes.specs.Staged.{bitAt, isSet, Inside}
 use Rattle.changes.proofs.Bits.{bit-none, bit-kept, set-at, more-here, more-other}
 use Rattle.advance.specs.Advance.{turns}

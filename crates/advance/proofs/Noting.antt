@@ -11,7 +11,7 @@ use Rattle.words.specs.Layout.{maxCells, slotsOf}
 use Rattle.words.specs.Scan.{all, count, nth}
 use Rattle.words.specs.Stores.{gather}
 use Rattle.words.specs.Cells.{cellPlan}
-use Rattle.words.proofs.Scan.{by-bool, by-le, is-false, is-true, true≢, and-split, and-join, all-at, all-make, all-ext, all-stop, count-ext, count-le}
+use Rattle.words.proofs.Scan.{by-bool, by-le, is-false, is-true, true≢, and-split, and-join, all-at, all-make, all-ext, all-stop, count-ext, count-le, count-stop}
 use Rattle.words.proofs.Gather.{gather-ext}
 use Rattle.words.proofs.Nth.{count-below, nth-holds, nth-rank, nth-ext}
 use Rattle.table.specs.Entry.{live, word1, word2, depthOf, writableOf, cellOf, parent, findIn, holdsIn, ownsBody}
@@ -21,7 +21,6 @@ use Rattle.table.proofs.Rule.{Rule}
 use Rattle.table.proofs.Single.{only-one}
 use Rattle.table.proofs.Marks.{marked-holds}
 use Rattle.search.specs.Free.{isCopy, bodyFree, copies, lowestFree, unmarked}
-use Rattle.search.proofs.From.{count-stop}
 use Rattle.search.proofs.Counts.{count-front, count-entries}
 use Rattle.search.proofs.Free.{unmarked-free}
 use Rattle.changes.specs.Staged.{isSet, Inside}

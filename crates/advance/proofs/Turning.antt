@@ -133,7 +133,7 @@ module _ (m e b : ℕ) (t : List ℕ) (ok : Rule m e b t) (long : pairsAt e ≤ 
           spare = made .rest ∙ k .spare;
           cell = rw (made .cell) (k .cell);
           place = there (turn-used m e b t ok i z) (made .depth) (made .cell);
-          value = took (made .kind) (z, refl) (choice .below (cellOf w) (k .cell) goes) (choice .was-free (cellOf w) (k .cell) goes)
+          value = took (made .kind) (made .rule) (z, refl) (choice .below (cellOf w) (k .cell) goes) (choice .was-free (cellOf w) (k .cell) goes)
               (rw (made .depth, made .cell, made .label, eq-eqb (depthOf w) (live t) (turn-depth m e b t ok i z), q, turn-writable m e b t ok i z, filled (cellOf w) goes));
         })))
         (λ z.

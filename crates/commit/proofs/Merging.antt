@@ -12,7 +12,7 @@ use lib.ListN.{length}
 use Rattle.words.specs.Layout.{pairsAt}
 use Rattle.words.specs.Stores.{Store, stores}
 use Rattle.words.proofs.Scan.{by-bool, and-split, true≢, not-lt}
-use Rattle.table.specs.Entry.{live, word1, word2, depthOf, cellOf, writableOf, viaOf, parent, names, findIn, holdsIn, outward, writesIn, parentHas}
+use Rattle.table.specs.Entry.{live, word1, word2, depthOf, cellOf, writableOf, viaOf, patternOf, parent, names, findIn, holdsIn, outward, writesIn, parentHas}
 use Rattle.table.specs.Changes.{Change, put, newFirst, entryChanges}
 use Rattle.table.proofs.Entry.{names-make, find-hit, holds-true, holds-found}
 use Rattle.table.proofs.Made.{outward-made}
@@ -23,7 +23,7 @@ use Rattle.model.specs.State.{Label, readOnly, readWrite, Holding}
 use Rattle.model.specs.Holdings.{heldWritable, merged, commit}
 use Rattle.store.specs.State.{labelOf, heldIn, stateIn}
 use Rattle.store.proofs.Domains.{held-none, held-writable, commit-state}
-use Rattle.store.proofs.Becoming.{told, Never, Stays, came, had, Fate, keeps, raises, frees, turns, Becomes, becomes-rule, becomes-held}
+use Rattle.store.proofs.Becoming.{told, told-rule, Never, Stays, came, had, follows, Fate, keeps, raises, frees, turns, Becomes, becomes-rule, becomes-held}
 use Rattle.commit.specs.Commit.{commitChange}
 use Rattle.commit.specs.Parts.{headWords, endingWords}
 
@@ -64,6 +64,16 @@ module _ (m e b : ℕ) (t : List ℕ) (ok : Rule m e b t) (long : pairsAt e ≤ 
         rw (eq-eqb (depthOf (word1 e t i)) (live t - 1) d, q)
         (merged-label _ (heldIn e t bodies (live t) (cellOf (word1 e t i))) ∙ rw (held-writable e t bodies (live t) (cellOf (word1 e t i))))
 
+    -- a slot that moves holds further out what it held
+    goes : (i : ℕ) → depthOf (word1 e t i) ≡ live t → 2 ≤ live t → holdsIn e t (live t - 1) (cellOf (word1 e t i)) ≡ false
+        → heldIn e t bodies (depthOf (word1 e t i)) (cellOf (word1 e t i)) ≡ told e t bodies i (labelOf (word1 e t i))
+        → held (depthOf (outward (word1 e t i))) (cellOf (outward (word1 e t i))) ≡ told e t bodies i (labelOf (outward (word1 e t i)))
+    goes i d two lacks q =
+        let w = word1 e t i in
+        let made = outward-made w (omega arith) in
+        let dp : depthOf (outward w) ≡ live t - 1 = made .depth ∙ ap parent d in
+        rw (dp, made .cell, eq-eqb (live t - 1) (live t - 1) refl, held-none e t bodies (live t - 1) (cellOf w) lacks, made .label) (ap (λ (x : ℕ). heldIn e t bodies x (cellOf w)) (sym d) ∙ q)
+
     -- the slots of the innermost domain move or are freed
     moved : (i : ℕ) → i < e → depthOf (word1 e t i) ≡ live t → 2 ≤ live t → holdsIn e t (live t - 1) (cellOf (word1 e t i)) ≡ false
         → FateOf i (put (outward (word1 e t i)) (word2 e t i))
@@ -83,8 +93,14 @@ module _ (m e b : ℕ) (t : List ℕ) (ok : Rule m e b t) (long : pairsAt e ≤ 
           spare = made .rest ∙ k .spare;
           cell = rw (made .cell) (k .cell);
           place = came (names-make e t (live t) (cellOf (outward w)) w d (sym (made .cell))) (rw (dp, made .cell) lacks) (λ h. omega arith);
-          value = had (made .kind ∙ via) (record { slot = l; used = λ z. omega (arith, z, d); copy = via }) refl
-              (rw (dp, made .cell, eq-eqb (live t - 1) (live t - 1) refl, held-none e t bodies (live t - 1) (cellOf w) lacks, made .label) (ap (λ (x : ℕ). heldIn e t bodies x (cellOf w)) (sym d) ∙ q));
+          value = by-bool (eqb (patternOf w) 0)
+              (λ z.
+              let p = eqb-true (patternOf w) 0 z in
+              had (made .kind ∙ via) (made .rule ∙ p) (record { slot = l; used = λ z. omega (arith, z, d); copy = via; plain = p }) refl (goes i d two lacks q))
+              (λ z.
+              let none = eqb-false (patternOf w) 0 z in
+              let p : patternOf w ≡ 1 = omega (arith, none) in
+              follows (made .kind ∙ via) (made .rule ∙ p) (k .rule p) (goes i d two lacks q ∙ told-rule m e b t bodies ok i (labelOf (outward w)) l (k .low) via p));
         })
 
     -- the other slots stay, and those of the parent are read-write where the innermost domain's were

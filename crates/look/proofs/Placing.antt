@@ -2,6 +2,7 @@
 use Prim.Native.Nat.{ℕ, zero, suc, _+_, _≤_, _<_}
 use mathlib.Core.Bool.{true, false}
 use mathlib.Core.List.{List}
+use mathlib.Core.Option.{Option, none, some}
 use mathlib.Core.Path.{_≡_, refl, sym, ap, subst, _∙_}
 use native.Mathlib.Omega.{arith}
 use borrow.Author.Tests.{leb-true, ltb-true}
@@ -9,17 +10,18 @@ use lib.Dec.{ltb}
 use lib.ListN.{length}
 use Rattle.words.specs.Layout.{cellAt, cellsOf, bodiesOf, slotsOf, pairsAt, maxSlots, maxLive}
 use Rattle.words.specs.Cells.{cellBytes}
-use Rattle.words.proofs.Scan.{by-bool}
-use Rattle.table.specs.Entry.{live}
+use Rattle.patterns.specs.Pattern.{maxRule}
+use Rattle.table.specs.Entry.{live, word1, word2, isPattern}
+use Rattle.table.proofs.Entry.{pattern-one}
 use Rattle.table.specs.Marks.{CellsOnce, EndsAt, Reached}
-use Rattle.search.specs.Search.{heldFrom, bodyFrom, HasSource, valueFrom}
+use Rattle.search.specs.Search.{heldFrom, sourceFrom, valueIn, HasSource, valueFrom}
 use Rattle.search.specs.Domain.{depthNamed}
 use Rattle.search.specs.declared.Held.{Held}
-use Rattle.search.specs.declared.Held.the-variants.{Nowhere, InBody}
-use Rattle.search.proofs.Behind.{value-none, value-some, from-slot, from-fits}
-use Rattle.model.specs.Answer.{done, refused, ask, orElse}
-use Rattle.model.specs.Holdings.{rangeOk}
-use Rattle.model.specs.Restore.{Looked, lookedBy, looked, restoredCell}
+use Rattle.search.specs.declared.Held.the-variants.{Nowhere, InBody, ByRule}
+use Rattle.search.proofs.Behind.{Answered, nowhere, in-body, by-rule, answered, from-own, from-slot, from-fits}
+use Rattle.model.specs.Answer.{done, ask, orElse}
+use Rattle.model.specs.Holdings.{rangeOk, heldRule}
+use Rattle.model.specs.Restore.{Looked, lookedBy, looked, outermost, restoredCell}
 use Rattle.store.specs.Outcome.{Buffers, buffers}
 use Rattle.store.specs.Checks.{storeCheck, lent, lentOf}
 use Rattle.store.specs.State.{stateOf}
@@ -27,23 +29,32 @@ use Rattle.store.proofs.Checks.{ask-yes, ask-rest, orElse-both, store-lengths}
 use Rattle.store.proofs.Means.{by-check}
 use Rattle.store.proofs.Raw.{raw-named, check-rule, live-within}
 use Rattle.store.proofs.Checked.{checked-once, checked-ends}
-use Rattle.store.proofs.Outermost.{store-bytes}
-use Rattle.look.specs.Look.{lookCheck, placeShown, placeIn, placedBy, lookPlace, placeReport, placePart, placeWithin, shownAt, orLookRefused, lookMeans}
+use Rattle.store.proofs.Outermost.{store-bytes, store-rule, store-none}
+use Rattle.look.specs.Look.{lookCheck, placeShown, placeIn, placedBy, lookPlace, placeReport, placePart, placeRule, placeWithin, shownAt, answerReport, answerRule, orLookRefused, lookMeans}
 use Rattle.look.specs.declared.Place.{Place}
-use Rattle.look.specs.declared.Place.the-variants.{Refused, Memory, Bodies}
+use Rattle.look.specs.declared.Place.the-variants.{Refused, Memory, Bodies, Rule}
+use Rattle.look.specs.declared.LookAnswer.{LookAnswer}
+use Rattle.look.specs.declared.LookAnswer.the-variants as answers
 
 -- ---- the place in the words of a table
 
 module _ (e : ℕ) (t : List ℕ) (d c : ℕ) where
-  pub place-memory : heldFrom e t d c ≡ false → placeIn e t d c ≡ Memory (cellAt c)
-  unfolding placeIn
-  place-memory h = ap (placeShown c) (value-none e t d c h)
+  -- by the cases of the search
+  pub data PlaceFound : Type 0 where
+    in-memory : heldFrom e t d c ≡ false → placeIn e t d c ≡ Memory (cellAt c) → PlaceFound
+    in-bodies : heldFrom e t d c ≡ true → isPattern (word1 e t (sourceFrom e t d c)) ≡ false → placeIn e t d c ≡ Bodies (cellAt (word2 e t (sourceFrom e t d c))) → PlaceFound
+    in-rule : heldFrom e t d c ≡ true → isPattern (word1 e t (sourceFrom e t d c)) ≡ true → placeIn e t d c ≡ Rule (word2 e t (sourceFrom e t d c)) → PlaceFound
 
-  pub place-bodies : heldFrom e t d c ≡ true → placeIn e t d c ≡ Bodies (cellAt (bodyFrom e t d c))
+  place-by : Answered e t d c → PlaceFound
   unfolding placeIn
-  place-bodies h = ap (placeShown c) (value-some e t d c h)
+  place-by (nowhere h q) = in-memory h (ap (placeShown c) q)
+  place-by (in-body h p q) = in-bodies h p (ap (placeShown c) q)
+  place-by (by-rule h p q) = in-rule h p (ap (placeShown c) q)
 
-  -- the code's two exits, by what the search answered
+  pub place-found : PlaceFound
+  place-found = place-by (answered e t d c)
+
+  -- the code's exits, by what the search answered
   module _ (v : Held) (q : v ≡ valueFrom e t d c) (w at : ℕ) (p : at ≡ cellAt w) where
     pub at-memory : v ≡ Nowhere → w ≡ c → Memory at ≡ placeIn e t d c
     unfolding placeIn
@@ -52,6 +63,10 @@ module _ (e : ℕ) (t : List ℕ) (d c : ℕ) where
     pub at-bodies : (x k : ℕ) → v ≡ InBody x k → w ≡ k → Bodies at ≡ placeIn e t d c
     unfolding placeIn
     at-bodies x k n r = ap Bodies (p ∙ ap cellAt r) ∙ ap (placeShown c) (sym n ∙ q)
+
+  pub at-rule : (v : Held) → v ≡ valueFrom e t d c → (x r : ℕ) → v ≡ ByRule x r → Rule r ≡ placeIn e t d c
+  unfolding placeIn
+  at-rule v q x r n = ap (placeShown c) (sym n ∙ q)
 
 -- ---- the questions
 
@@ -89,13 +104,22 @@ store-room memory bodies t pass =
 
 -- ---- the place that look finds
 
--- in a table that passes the questions, the copy behind the first holder has an entry, and its body fits
+-- in a table that passes the questions, the chain of the first holder ends in an entry, a copy's body fits, and a rule is one that there is
 module _ (memory bodies : ℕ) (t : List ℕ) (h c : ℕ) (p : Accepted memory bodies t h c) where
   found-slot : HasSource (slotsOf (length t)) t (depthNamed t h) c
   found-slot = from-slot (cellsOf memory) (slotsOf (length t)) (bodiesOf bodies) t (check-rule memory bodies t (p .store)) (depthNamed t h) c (p .live)
 
-  found-body : heldFrom (slotsOf (length t)) t (depthNamed t h) c ≡ true → bodyFrom (slotsOf (length t)) t (depthNamed t h) c < bodiesOf bodies
-  found-body = from-fits (cellsOf memory) (slotsOf (length t)) (bodiesOf bodies) t (check-rule memory bodies t (p .store)) (depthNamed t h) c (p .live)
+  module _ (held : heldFrom (slotsOf (length t)) t (depthNamed t h) c ≡ true) where
+    found-body : isPattern (word1 (slotsOf (length t)) t (sourceFrom (slotsOf (length t)) t (depthNamed t h) c)) ≡ false
+        → word2 (slotsOf (length t)) t (sourceFrom (slotsOf (length t)) t (depthNamed t h) c) < bodiesOf bodies
+    found-body = from-fits (cellsOf memory) (slotsOf (length t)) (bodiesOf bodies) t (check-rule memory bodies t (p .store)) (depthNamed t h) c (p .live) held
+
+    found-rule : isPattern (word1 (slotsOf (length t)) t (sourceFrom (slotsOf (length t)) t (depthNamed t h) c)) ≡ true
+        → word2 (slotsOf (length t)) t (sourceFrom (slotsOf (length t)) t (depthNamed t h) c) ≤ maxRule
+    found-rule r =
+        let ok = check-rule memory bodies t (p .store) in
+        let o = from-own (cellsOf memory) (slotsOf (length t)) (bodiesOf bodies) t ok (depthNamed t h) c (p .live) held in
+        ok .used (sourceFrom (slotsOf (length t)) t (depthNamed t h) c) (o .slot) (o .used) .rule (pattern-one _ r)
 
 -- what `find_place` asks, by the numbers that the code has
 pub place-requires : (memory bodies : ℕ) (t : List ℕ) (h c slots top d : ℕ) → Accepted memory bodies t h c → slots ≡ slotsOf (length t) → Reached t top → d ≡ depthNamed t h
@@ -126,11 +150,14 @@ module _ (h c : ℕ) (b : Buffers) where
 
 -- ---- what look means
 
-shown-memory : (b : Buffers) (c : ℕ) (part : List ℕ) → cellBytes (b .memory) c ≡ part → shownAt (Memory (cellAt c)) b ≡ lookedBy 0 part
-shown-memory b c part h = λ i. record { report = done 0 0; part = h i }
+shown-memory : (b : Buffers) (c : ℕ) (rule : Option ℕ) (part : List ℕ) → rule ≡ none → cellBytes (b .memory) c ≡ part → shownAt (Memory (cellAt c)) b ≡ lookedBy 0 rule part
+shown-memory b c rule part n h = rw n (λ i. record { report = done 0 0; part = h i; rule = none })
 
-shown-bodies : (b : Buffers) (k : ℕ) (part : List ℕ) → cellBytes (b .bodies) k ≡ part → shownAt (Bodies (cellAt k)) b ≡ lookedBy 0 part
-shown-bodies b k part h = λ i. record { report = done 0 0; part = h i }
+shown-bodies : (b : Buffers) (k : ℕ) (rule : Option ℕ) (part : List ℕ) → rule ≡ none → cellBytes (b .bodies) k ≡ part → shownAt (Bodies (cellAt k)) b ≡ lookedBy 0 rule part
+shown-bodies b k rule part n h = rw n (λ i. record { report = done 0 0; part = h i; rule = none })
+
+shown-rule : (b : Buffers) (k : ℕ) (rule : Option ℕ) (part : List ℕ) → rule ≡ some k → shownAt (Rule k) b ≡ lookedBy 0 rule part
+shown-rule b k rule part n = rw n
 
 module _ (memory bodies t : List ℕ) (h c : ℕ) (yes : storeCheck (lent (length memory) (length bodies) t) ≡ 0) (live : 1 ≤ depthNamed t h) where
   abbrev b : Buffers
@@ -139,17 +166,27 @@ module _ (memory bodies t : List ℕ) (h c : ℕ) (yes : storeCheck (lent (lengt
   abbrev part : List ℕ
   part = restoredCell (depthNamed t h) (stateOf (buffers memory bodies t)) memory c
 
-  pub place-shown : shownAt (placeIn (slotsOf (length t)) t (depthNamed t h) c) (buffers memory bodies t)
-      ≡ lookedBy 0 (restoredCell (depthNamed t h) (stateOf (buffers memory bodies t)) memory c)
-  place-shown =
+  -- of the state: the rule that the first holder follows
+  abbrev told : Option ℕ
+  told = heldRule (outermost (depthNamed t h) c (stateOf (buffers memory bodies t)))
+
+  shown-by : PlaceFound (slotsOf (length t)) t (depthNamed t h) c → shownAt (placeIn (slotsOf (length t)) t (depthNamed t h) c) (buffers memory bodies t) ≡ lookedBy 0 told part
+  unfolding valueIn
+  shown-by (in-memory p q) =
+      ap (λ (x : Place). shownAt x b) q
+      ∙ shown-memory b c told part (ap heldRule (store-none memory bodies t yes (depthNamed t h) c live p)) (sym (rw p at (store-bytes memory bodies t yes (depthNamed t h) c live (cellBytes memory c))))
+  shown-by (in-bodies p r q) =
       let bytes = store-bytes memory bodies t yes (depthNamed t h) c live (cellBytes memory c) in
-      by-bool (heldFrom (slotsOf (length t)) t (depthNamed t h) c)
-      (λ p.
-      ap (λ (x : Place). shownAt x b) (place-bodies (slotsOf (length t)) t (depthNamed t h) c p)
-      ∙ shown-bodies b (bodyFrom (slotsOf (length t)) t (depthNamed t h) c) part (sym (rw p at bytes)))
-      (λ p.
-      ap (λ (x : Place). shownAt x b) (place-memory (slotsOf (length t)) t (depthNamed t h) c p)
-      ∙ shown-memory b c part (sym (rw p at bytes)))
+      ap (λ (x : Place). shownAt x b) q
+      ∙ shown-bodies b (word2 (slotsOf (length t)) t (sourceFrom (slotsOf (length t)) t (depthNamed t h) c)) told part
+      (store-rule memory bodies t yes (depthNamed t h) c live p ∙ rw r) (sym (rw (p, r) at bytes))
+  shown-by (in-rule p r q) =
+      ap (λ (x : Place). shownAt x b) q
+      ∙ shown-rule b (word2 (slotsOf (length t)) t (sourceFrom (slotsOf (length t)) t (depthNamed t h) c)) told part (store-rule memory bodies t yes (depthNamed t h) c live p ∙ rw r)
+
+  pub place-shown : shownAt (placeIn (slotsOf (length t)) t (depthNamed t h) c) (buffers memory bodies t)
+      ≡ lookedBy 0 (heldRule (outermost (depthNamed t h) c (stateOf (buffers memory bodies t)))) (restoredCell (depthNamed t h) (stateOf (buffers memory bodies t)) memory c)
+  place-shown = shown-by (place-found (slotsOf (length t)) t (depthNamed t h) c)
 
 asked-live : (memory : ℕ) (t : List ℕ) (h c : ℕ) → asked memory t h c ≡ 0 → 1 ≤ depthNamed t h
 asked-live memory t h c q =
@@ -167,10 +204,10 @@ look-means h c b =
     (λ n e. refl)
     (λ yes.
     subst (λ (d : ℕ). shownAt (placedBy (asked (length (b .memory)) (b .table) h c) (placeIn (slotsOf (length (b .table))) (b .table) (depthNamed (b .table) h) c)) b
-    ≡ lookedBy (ask (ltb 0 d) 5 (ask (rangeOk (cellsOf (length (b .memory))) c 1) 8 0)) (restoredCell d (stateOf b) (b .memory) c))
+    ≡ lookedBy (ask (ltb 0 d) 5 (ask (rangeOk (cellsOf (length (b .memory))) c 1) 8 0)) (heldRule (outermost d c (stateOf b))) (restoredCell d (stateOf b) (b .memory) c))
     (sym (raw-named (b .memory) (b .bodies) (b .table) yes h))
     (by-check (λ q. shownAt (placedBy q (placeIn (slotsOf (length (b .table))) (b .table) (depthNamed (b .table) h) c)) b
-    ≡ lookedBy q (restoredCell (depthNamed (b .table) h) (stateOf b) (b .memory) c))
+    ≡ lookedBy q (heldRule (outermost (depthNamed (b .table) h) c (stateOf b))) (restoredCell (depthNamed (b .table) h) (stateOf b) (b .memory) c))
     (asked (length (b .memory)) (b .table) h c)
     (λ n e. refl)
     (λ e. place-shown (b .memory) (b .bodies) (b .table) h c yes (asked-live (length (b .memory)) (b .table) h c e))))
@@ -179,17 +216,19 @@ look-means h c b =
 
 -- the 64 bytes at a place lie in their buffer
 module _ (h c : ℕ) (b : Buffers) where
-  place-within : Accepted (length (b .memory)) (length (b .bodies)) (b .table) h c → placeWithin (placeIn (slotsOf (length (b .table))) (b .table) (depthNamed (b .table) h) c) b
-  place-within p =
-      let t : List ℕ = b .table in
+  within-by : Accepted (length (b .memory)) (length (b .bodies)) (b .table) h c → PlaceFound (slotsOf (length (b .table))) (b .table) (depthNamed (b .table) h) c
+      → placeWithin (placeIn (slotsOf (length (b .table))) (b .table) (depthNamed (b .table) h) c) b
+  within-by p (in-memory free q) =
       let f = store-lengths (length (b .memory)) (length (b .bodies)) (b .table) (p .store) in
-      by-bool (heldFrom (slotsOf (length (b .table))) (b .table) (depthNamed (b .table) h) c)
-      (λ held.
-      subst (λ (x : Place). placeWithin x b) (sym (place-bodies (slotsOf (length (b .table))) (b .table) (depthNamed (b .table) h) c held))
-      (omega (arith, f .bodies-exact, found-body (length (b .memory)) (length (b .bodies)) (b .table) h c p held)))
-      (λ free.
-      subst (λ (x : Place). placeWithin x b) (sym (place-memory (slotsOf (length (b .table))) (b .table) (depthNamed (b .table) h) c free))
-      (omega (arith, f .memory-exact, p .cell)))
+      subst (λ (x : Place). placeWithin x b) (sym q) (omega (arith, f .memory-exact, p .cell))
+  within-by p (in-bodies held r q) =
+      let f = store-lengths (length (b .memory)) (length (b .bodies)) (b .table) (p .store) in
+      subst (λ (x : Place). placeWithin x b) (sym q) (omega (arith, f .bodies-exact, found-body (length (b .memory)) (length (b .bodies)) (b .table) h c p held r))
+  within-by p (in-rule held r q) =
+      subst (λ (x : Place). placeWithin x b) (sym q) (found-rule (length (b .memory)) (length (b .bodies)) (b .table) h c p held r)
+
+  place-within : Accepted (length (b .memory)) (length (b .bodies)) (b .table) h c → placeWithin (placeIn (slotsOf (length (b .table))) (b .table) (depthNamed (b .table) h) c) b
+  place-within p = within-by p (place-found (slotsOf (length (b .table))) (b .table) (depthNamed (b .table) h) c)
 
   pub look-within : placeWithin (lookPlace h c b) b
   unfolding lookPlace
@@ -218,16 +257,8 @@ memory-within b p at q w = subst (λ (x : Place). placeWithin x b) q w
 pub bodies-within : (b : Buffers) (p : Place) (at : ℕ) → p ≡ Bodies at → placeWithin p b → at + 64 ≤ length (b .bodies)
 bodies-within b p at q w = subst (λ (x : Place). placeWithin x b) q w
 
--- look's answer
-pub answer-refused : (h c q : ℕ) (b : Buffers) → q ≡ lookCheck (lentOf b) h c → (q ≡ 0 → ⊥) → refused q ≡ lookMeans h c b .report
-answer-refused h c q b e n =
-    ap placeReport (look-refused h c b q e n) ∙ ap (λ (l : Looked). l .report) (look-means h c b)
-
-pub answer-done : (h c : ℕ) (b : Buffers) → lookCheck (lentOf b) h c ≡ 0 → done 0 0 ≡ lookMeans h c b .report
-answer-done h c b pass = shown ∙ ap placeReport (sym (look-placed h c b pass)) ∙ ap (λ (l : Looked). l .report) (look-means h c b)
-  where
-    shown : done 0 0 ≡ placeReport (placeIn (slotsOf (length (b .table))) (b .table) (depthNamed (b .table) h) c)
-    shown =
-        by-bool (heldFrom (slotsOf (length (b .table))) (b .table) (depthNamed (b .table) h) c)
-        (λ p. ap placeReport (sym (place-bodies (slotsOf (length (b .table))) (b .table) (depthNamed (b .table) h) c p)))
-        (λ p. ap placeReport (sym (place-memory (slotsOf (length (b .table))) (b .table) (depthNamed (b .table) h) c p)))
+-- look's answer, by the place that was found
+pub answer-of : (h c : ℕ) (b : Buffers) (p q : Place) (a : LookAnswer) → p ≡ q → shownAt p b ≡ lookMeans h c b → answerReport a ≡ placeReport q → answerRule a ≡ placeRule q
+    → (answerReport a ≡ lookMeans h c b .report) × (answerRule a ≡ lookMeans h c b .rule)
+answer-of h c b p q a same means report rule =
+    (report ∙ ap placeReport (sym same) ∙ ap (λ (l : Looked). l .report) means, rule ∙ ap placeRule (sym same) ∙ ap (λ (l : Looked). l .rule) means)

@@ -1,35 +1,38 @@
--- What look shows: the 64 bytes that restore of the same handle leaves in that cell, from bodies where a domain from the named one inwards holds
--- the cell, else from memory. Assumes nothing.
+-- What look tells: the 64 bytes that restore of the same handle leaves in that cell, shown from bodies or told as a rule where a domain from the
+-- named one inwards holds the cell, else shown from memory. Assumes nothing.
 use Prim.Native.Nat.{ℕ, _+_, _*_, _≤_, _<_}
 use mathlib.Core.Bool.{true, cond}
 use mathlib.Core.List.{List}
+use mathlib.Core.Option.{Option, none, some}
 use mathlib.Core.Path.{_≡_, refl, sym, ap, subst, _∙_}
 use native.Mathlib.Omega.{arith}
-use borrow.Author.Tests.{eqb-true, eqb-false}
-use lib.Dec.{ltb, eqb}
+use lib.Dec.{ltb}
 use lib.ListN.{length, getD, take, drop, length-take, length-drop}
 use lib.Seq.{ext-getD, getD-take, getD-drop}
 use Rattle.words.specs.Layout.{cellAt, cellsOf, slotsOf}
 use Rattle.words.specs.Stores.{tab}
 use Rattle.words.specs.Cells.{cellBytes}
-use Rattle.words.proofs.Scan.{by-bool}
+use Rattle.words.proofs.Scan.{true≢}
 use Rattle.words.proofs.Plans.{length-tab, getD-tab}
 use Rattle.words.proofs.Cells.{cellBytes-length}
-use Rattle.search.specs.Search.{heldFrom, bodyFrom}
+use Rattle.patterns.specs.Pattern.{pattern}
+use Rattle.patterns.proofs.Bytes.{pattern-length}
+use Rattle.table.specs.Entry.{word2}
+use Rattle.search.specs.Search.{heldFrom, sourceFrom, valueIn, bytesFrom}
 use Rattle.search.specs.Domain.{depthNamed}
-use Rattle.model.specs.State.{State}
-use Rattle.model.specs.Holdings.{named, isHeld, isLive, rangeOk}
-use Rattle.model.specs.Restore.{Looked, cellOfByte, placeInCell, outermost, restoredCell, restoredByte, restoredMemory}
+use Rattle.model.specs.State.{Holding, State}
+use Rattle.model.specs.Holdings.{named, isHeld, heldRule, isLive, rangeOk}
+use Rattle.model.specs.Restore.{Looked, bytesTold, cellOfByte, placeInCell, outermost, restoredCell, restoredByte, restoredMemory}
 use Rattle.store.specs.Outcome.{Buffers}
 use Rattle.store.specs.Checks.{storeCheck, lentOf}
 use Rattle.store.specs.State.{slots, stateOf}
 use Rattle.store.proofs.Checks.{orElse-go, ask-go, store-lengths}
 use Rattle.store.proofs.Raw.{raw-named}
-use Rattle.store.proofs.Outermost.{store-held}
-use Rattle.look.specs.Look.{lookCheck, lookPlace, placePart, placeWithin, lookMeans, placeByState}
+use Rattle.store.proofs.Outermost.{store-held, store-bytes, store-rule, store-none}
+use Rattle.look.specs.Look.{lookCheck, placeIn, lookPlace, placePart, placeWithin, shownAt, lookMeans, placeOfRule, placeOf, placeByState}
 use Rattle.look.specs.declared.Place.{Place}
-use Rattle.look.specs.declared.Place.the-variants.{Memory, Bodies}
-use Rattle.look.proofs.Placing.{Accepted, check-passed, place-memory, place-bodies, place-shown, look-refused, look-placed, look-means, look-within}
+use Rattle.look.specs.declared.Place.the-variants.{Refused, Memory, Bodies, Rule}
+use Rattle.look.proofs.Placing.{PlaceFound, in-memory, in-bodies, in-rule, place-found, Accepted, check-passed, look-placed, look-means, look-within}
 
 -- look's number, of its buffers
 abbrev pub checked : (h c : ℕ) → Buffers → ℕ
@@ -37,32 +40,24 @@ checked h c b = lookCheck (lentOf b) h c
 
 -- ---- the length of the part
 
-shown-part : (h c : ℕ) (b : Buffers) → lookMeans h c b .part ≡ placePart (lookPlace h c b) b
-shown-part h c b = ap (λ (l : Looked). l .part) (sym (look-means h c b))
-
 part-length : (s : List ℕ) (at : ℕ) → at + 64 ≤ length s → length (take 64 (drop at s)) ≡ 64
 part-length s at l = simp (length-take, length-drop) (omega arith)
 
--- "when it is refused, the part has length 0"; else 64
-pub look-length : (h c : ℕ) (b : Buffers) → length (lookMeans h c b .part) ≡ cond (eqb (checked h c b) 0) 64 0
-look-length h c b =
-    by-bool (eqb (checked h c b) 0)
-    (λ z. rw z (ap length (shown-part h c b) ∙ shown (eqb-true (checked h c b) 0 z)))
-    (λ z.
-    rw z
-    (ap length (shown-part h c b)
-    ∙ ap (λ (p : Place). length (placePart p b)) (sym (look-refused h c b (checked h c b) refl (eqb-false (checked h c b) 0 z)))))
-  where
-    shown : checked h c b ≡ 0 → length (placePart (lookPlace h c b) b) ≡ 64
-    shown pass =
-        by-bool (heldFrom (slotsOf (length (b .table))) (b .table) (depthNamed (b .table) h) c)
-        (λ p.
-        let at : ℕ = cellAt (bodyFrom (slotsOf (length (b .table))) (b .table) (depthNamed (b .table) h) c) in
-        let q = look-placed h c b pass ∙ place-bodies (slotsOf (length (b .table))) (b .table) (depthNamed (b .table) h) c p in
-        ap (λ (x : Place). length (placePart x b)) q ∙ part-length (b .bodies) at (subst (λ (x : Place). placeWithin x b) q (look-within h c b)))
-        (λ p.
-        let q = look-placed h c b pass ∙ place-memory (slotsOf (length (b .table))) (b .table) (depthNamed (b .table) h) c p in
-        ap (λ (x : Place). length (placePart x b)) q ∙ part-length (b .memory) (cellAt c) (subst (λ (x : Place). placeWithin x b) q (look-within h c b)))
+-- "when it is refused, the part has length 0", and so it has where a rule is told; else 64
+abbrev pub lengthAt : Place → ℕ
+lengthAt (Refused n) = 0
+lengthAt (Memory at) = 64
+lengthAt (Bodies at) = 64
+lengthAt (Rule r) = 0
+
+place-length : (p : Place) (b : Buffers) → placeWithin p b → length (placePart p b) ≡ lengthAt p
+place-length (Refused n) b w = refl
+place-length (Memory at) b w = part-length (b .memory) at w
+place-length (Bodies at) b w = part-length (b .bodies) at w
+place-length (Rule r) b w = refl
+
+pub look-length : (h c : ℕ) (b : Buffers) → length (lookMeans h c b .part) ≡ lengthAt (lookPlace h c b)
+look-length h c b = ap (λ (l : Looked). length (l .part)) (sym (look-means h c b)) ∙ place-length (lookPlace h c b) b (look-within h c b)
 
 -- ---- what restore leaves in a cell
 
@@ -92,21 +87,54 @@ module _ (h c : ℕ) (b : Buffers) (pass : checked h c b ≡ 0) where
   passed : Accepted (length (b .memory)) (length (b .bodies)) (b .table) h c
   passed = check-passed (length (b .memory)) (length (b .bodies)) (b .table) h c pass
 
-  part-is : lookMeans h c b .part ≡ restoredCell (named h (stateOf b)) (stateOf b) (b .memory) c
-  part-is =
-      shown-part h c b
-      ∙ ap (λ (p : Place). placePart p b) (look-placed h c b pass)
-      ∙ ap (λ (l : Looked). l .part) (place-shown (b .memory) (b .bodies) (b .table) h c (passed .store) (passed .live))
-      ∙ ap (λ (d : ℕ). restoredCell d (stateOf b) (b .memory) c) (sym (raw-named (b .memory) (b .bodies) (b .table) (passed .store) h))
-
   exact : length (b .memory) ≡ 64 * cellsOf (length (b .memory))
   exact = store-lengths (length (b .memory)) (length (b .bodies)) (b .table) (passed .store) .memory-exact
 
+  abbrev e : ℕ
+  e = slotsOf (length (b .table))
+
+  abbrev d : ℕ
+  d = depthNamed (b .table) h
+
+  abbrev left : List ℕ
+  left = restoredCell (depthNamed (b .table) h) (stateOf b) (b .memory) c
+
+  bytes : left ≡ cond (heldFrom e (b .table) d c) (bytesFrom e (b .table) (b .bodies) d c) (cellBytes (b .memory) c)
+  bytes = store-bytes (b .memory) (b .bodies) (b .table) (passed .store) d c (passed .live) (cellBytes (b .memory) c)
+
+  -- what is told of a place, and that it has 64 bytes
+  record Told : Type 0 where
+    same : bytesTold (lookMeans h c b) ≡ left
+    size : length left ≡ 64
+
+  told-at : (p : Place) (v : List ℕ) → placeIn e (b .table) d c ≡ p → bytesTold (shownAt p b) ≡ v → left ≡ v → length v ≡ 64 → Told
+  told-at p v q r s l =
+      record {
+        same = ap bytesTold (sym (look-means h c b) ∙ ap (λ (x : Place). shownAt x b) (look-placed h c b pass ∙ q)) ∙ r ∙ sym s;
+        size = ap length s ∙ l;
+      }
+
+  told-by : PlaceFound e (b .table) d c → Told
+  unfolding valueIn
+  told-by (in-memory p q) =
+      told-at (Memory (cellAt c)) (cellBytes (b .memory) c) q refl (rw p at bytes) (cellBytes-length (b .memory) c (omega (arith, exact, passed .cell)))
+  told-by (in-bodies p r q) =
+      let k = word2 e (b .table) (sourceFrom e (b .table) d c) in
+      let within = subst (λ (x : Place). placeWithin x b) (look-placed h c b pass ∙ q) (look-within h c b) in
+      told-at (Bodies (cellAt k)) (cellBytes (b .bodies) k) q refl (rw (p, r) at bytes) (cellBytes-length (b .bodies) k within)
+  told-by (in-rule p r q) =
+      let k = word2 e (b .table) (sourceFrom e (b .table) d c) in
+      told-at (Rule k) (pattern k) q refl (rw (p, r) at bytes) (pattern-length k)
+
+  told : Told
+  told = told-by (place-found e (b .table) d c)
+
   -- "the 64 bytes that restore would leave there"
-  pub look-restores : lookMeans h c b .part ≡ cellBytes (restoredMemory (named h (stateOf b)) (stateOf b) (b .memory)) c
+  pub look-restores : bytesTold (lookMeans h c b) ≡ cellBytes (restoredMemory (named h (stateOf b)) (stateOf b) (b .memory)) c
   look-restores =
-      let size : length (restoredCell (named h (stateOf b)) (stateOf b) (b .memory) c) ≡ 64 = ap length (sym part-is) ∙ look-length h c b ∙ rw pass in
-      part-is ∙ sym (restored-cell (named h (stateOf b)) c (stateOf b) (b .memory) (omega (arith, exact, passed .cell)) size)
+      subst (λ (x : ℕ). bytesTold (lookMeans h c b) ≡ cellBytes (restoredMemory x (stateOf b) (b .memory)) c)
+      (sym (raw-named (b .memory) (b .bodies) (b .table) (passed .store) h))
+      (told .same ∙ sym (restored-cell d c (stateOf b) (b .memory) (omega (arith, exact, passed .cell)) (told .size)))
 
 -- ---- "a part of the lent bodies, or of the lent memory where nobody from that domain inwards holds the cell": which of them, and at which offset
 
@@ -129,14 +157,27 @@ look-tells h c b store live range = found ∙ ap place (sym same)
 
     -- the place by the state, of a domain at depth d
     place : ℕ → Place
-    place d = cond (isHeld (outermost d c (stateOf b))) (Bodies (cellAt (bodyFrom (slots b) (b .table) d c))) (Memory (cellAt c))
+    place d = placeOf c (outermost d c (stateOf b)) (word2 (slots b) (b .table) (sourceFrom (slots b) (b .table) d c))
 
-    held : isHeld (outermost (depthNamed (b .table) h) c (stateOf b)) ≡ heldFrom (slots b) (b .table) (depthNamed (b .table) h) c
-    held = store-held (b .memory) (b .bodies) (b .table) store (depthNamed (b .table) h) c (passed h c b pass .live)
+    live-there : 1 ≤ (depthNamed (b .table) h)
+    live-there = passed h c b pass .live
+
+    -- what is held tells the place by its rule
+    by-holding : (o : Option Holding) (k : ℕ) (r : Option ℕ) → isHeld o ≡ true → heldRule o ≡ r → placeOfRule r k ≡ placeOf c o k
+    by-holding none k r held is = absurd (true≢ held refl)
+    by-holding (some x) k r held is = ap (λ (y : Option ℕ). placeOfRule y k) (sym is)
+
+    found-by : PlaceFound (slots b) (b .table) (depthNamed (b .table) h) c → placeIn (slots b) (b .table) (depthNamed (b .table) h) c ≡ place (depthNamed (b .table) h)
+    found-by (in-memory p q) =
+        q ∙ ap (λ (o : Option Holding). placeOf c o (word2 (slots b) (b .table) (sourceFrom (slots b) (b .table) (depthNamed (b .table) h) c)))
+        (sym (store-none (b .memory) (b .bodies) (b .table) store (depthNamed (b .table) h) c live-there p))
+    found-by (in-bodies p r q) =
+        q ∙ by-holding (outermost (depthNamed (b .table) h) c (stateOf b)) (word2 (slots b) (b .table) (sourceFrom (slots b) (b .table) (depthNamed (b .table) h) c)) none
+        (store-held (b .memory) (b .bodies) (b .table) store (depthNamed (b .table) h) c live-there ∙ p) (store-rule (b .memory) (b .bodies) (b .table) store (depthNamed (b .table) h) c live-there p ∙ rw r)
+    found-by (in-rule p r q) =
+        q ∙ by-holding (outermost (depthNamed (b .table) h) c (stateOf b)) (word2 (slots b) (b .table) (sourceFrom (slots b) (b .table) (depthNamed (b .table) h) c))
+        (some (word2 (slots b) (b .table) (sourceFrom (slots b) (b .table) (depthNamed (b .table) h) c)))
+        (store-held (b .memory) (b .bodies) (b .table) store (depthNamed (b .table) h) c live-there ∙ p) (store-rule (b .memory) (b .bodies) (b .table) store (depthNamed (b .table) h) c live-there p ∙ rw r)
 
     found : lookPlace h c b ≡ place (depthNamed (b .table) h)
-    found =
-        look-placed h c b pass
-        ∙ by-bool (heldFrom (slots b) (b .table) (depthNamed (b .table) h) c)
-        (λ p. rw (held, p) (place-bodies (slots b) (b .table) (depthNamed (b .table) h) c p))
-        (λ p. rw (held, p) (place-memory (slots b) (b .table) (depthNamed (b .table) h) c p))
+    found = look-placed h c b pass ∙ found-by (place-found (slots b) (b .table) (depthNamed (b .table) h) c)

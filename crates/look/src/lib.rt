@@ -1,9 +1,9 @@
-// Look: the 64 bytes that restore would leave in a cell, shown as a part of the lent bodies or of the lent memory. It changes nothing.
+// Look: the 64 bytes that restore would leave in a cell, shown as a part of the lent bodies or of the lent memory, or told as a rule's number.
+// It changes nothing.
 use search::Held;
 use search::find_domain;
 use search::find_value;
 use search::notes::no_notes;
-use store::Answer;
 use store::range_ok;
 use store::reached_check;
 use table::reach_of;
@@ -20,14 +20,23 @@ ghost use Rattle.words.specs.Layout.{pairsAt, maxSlots, maxLive};
 ghost use Rattle.table.specs.Entry.{live};
 ghost use Rattle.table.specs.Marks.{CellsOnce, EndsAt, Reached};
 ghost use Rattle.search.specs.Search.{HasSource};
-ghost use Rattle.store.specs.Outcome.{buffers, report};
-ghost use Rattle.look.specs.Look.{lookCheck, placeIn, lookPlace, placePart, placeWithin, shownAt, lookMeans};
+ghost use Rattle.store.specs.Outcome.{buffers};
+ghost use Rattle.look.specs.Look.{lookCheck, placeIn, lookPlace, placePart, placeWithin, shownAt, answerReport, answerRule, lookMeans};
 
-// Where the 64 bytes stand: refused by a question's number, or at this offset of the lent memory, or of the lent bodies.
+// Where the 64 bytes stand: refused by a question's number, or at this offset of the lent memory, or of the lent bodies; or the rule that they
+// follow, which has none.
 pub enum Place {
     Refused(u32),
     Memory(usize),
     Bodies(usize),
+    Rule(u32),
+}
+
+// Look's answer: refused by a question's number; done, with bytes to show; or done, with a rule to tell.
+pub enum LookAnswer {
+    Refused(u32),
+    Bytes,
+    Rule(u32),
 }
 
 // The questions put to look: 0, or the number of the first no. `top` is how many entries there are to pass.
@@ -66,10 +75,11 @@ fn find_place(table: &[u32], slots: usize, top: usize, depth: u32, cell: u32) ->
     match find_value(table, slots, top, depth, cell, &notes, &notes) {
         Held::Nowhere => Place::Memory(cell_at(wide(cell))),
         Held::InBody(_, body) => Place::Bodies(cell_at(wide(body))),
+        Held::ByRule(_, rule) => Place::Rule(rule),
     }
 }
 
-// Where restore would take the bytes of this cell from: 64 bytes that lie inside the buffer named.
+// Where restore would take the bytes of this cell from: 64 bytes that lie inside the buffer named, or a rule.
 pub fn look_place(memory: &[u8], bodies: &[u8], table: &[u32], handle: u32, cell: u32) -> Place
     ensures found { λ r. ⌜ r ≡ lookPlace handle cell (buffers (now (memory .entry)) (now (bodies .entry)) (now (table .entry))) ⌝ }
     ensures means { λ r. ⌜ shownAt r (buffers (now (memory .entry)) (now (bodies .entry)) (now (table .entry)))
@@ -92,28 +102,26 @@ pub fn look_place(memory: &[u8], bodies: &[u8], table: &[u32], handle: u32, cell
 }
 
 // Look's answer.
-pub fn look_answer(memory: &[u8], bodies: &[u8], table: &[u32], handle: u32, cell: u32) -> Answer
-    ensures { λ r. ⌜ report r ≡ lookMeans handle cell (buffers (now (memory .entry)) (now (bodies .entry)) (now (table .entry))) .report ⌝ }
+pub fn look_answer(
+    memory: &[u8],
+    bodies: &[u8],
+    table: &[u32],
+    handle: u32,
+    cell: u32,
+) -> LookAnswer
+    ensures report { λ r. ⌜ answerReport r ≡ lookMeans handle cell (buffers (now (memory .entry)) (now (bodies .entry)) (now (table .entry))) .report ⌝ }
+    ensures rule { λ r. ⌜ answerRule r ≡ lookMeans handle cell (buffers (now (memory .entry)) (now (bodies .entry)) (now (table .entry))) .rule ⌝ }
 {
-    let no = look_check(
-        memory.len(),
-        bodies.len(),
-        table,
-        reach_of(table),
-        handle,
-        cell,
-    );
-    if no != 0 {
-        return Answer::Refused(no);
-    }
-    Answer::Done {
-        steps: 0,
-        handle: 0,
+    match look_place(memory, bodies, table, handle, cell) {
+        Place::Refused(no) => LookAnswer::Refused(no),
+        Place::Memory(_) => LookAnswer::Bytes,
+        Place::Bodies(_) => LookAnswer::Bytes,
+        Place::Rule(rule) => LookAnswer::Rule(rule),
     }
 }
 
 // The 64 bytes that restore of this handle would leave in this cell: a part of the lent bodies, or of the lent memory where nobody from that
-// domain inwards holds the cell; of length 0 where look is refused.
+// domain inwards holds the cell; of length 0 where look is refused, and where the bytes follow a rule.
 pub fn look<'a>(
     memory: &'a [u8],
     bodies: &'a [u8],
@@ -129,5 +137,6 @@ pub fn look<'a>(
         Place::Refused(_) => &memory[0..0],
         Place::Memory(at) => &memory[at..at + CELL_SIZE],
         Place::Bodies(at) => &bodies[at..at + CELL_SIZE],
+        Place::Rule(_) => &memory[0..0],
     }
 }

@@ -6,15 +6,15 @@ use mathlib.Core.Path.{_≡_, sym, ap, subst, _∙_}
 use native.Mathlib.Omega.{arith}
 use borrow.Author.Tests.{lt-ltb}
 use lib.Dec.{ltb}
-use lib.ListN.{length, getD, take, drop}
-use lib.Seq.{ext-getD, getD-take, getD-drop}
+use lib.ListN.{length, getD, take}
+use lib.Seq.{ext-getD}
 use Rattle.words.specs.Layout.{cellAt, slotsOf}
 use Rattle.words.specs.Scan.{count}
 use Rattle.words.specs.Stores.{stores, tab}
 use Rattle.words.specs.Cells.{cellBytes}
 use Rattle.words.proofs.Scan.{by-bool, count-ext}
 use Rattle.words.proofs.Plans.{length-tab, getD-tab, length-stores}
-use Rattle.search.specs.Search.{heldFrom, bodyFrom}
+use Rattle.search.specs.Search.{heldFrom, bytesFrom}
 use Rattle.model.specs.State.{State}
 use Rattle.model.specs.Holdings.{isHeld}
 use Rattle.model.specs.Restore.{cellOfByte, placeInCell, outermost, restoredByte, cellsPutBack, memoryAfterSteps}
@@ -31,14 +31,9 @@ module _ (t bodies : List ℕ) (d : ℕ) (low : 1 ≤ d) (memory : List ℕ) whe
   abbrev s : State
   s = stateIn (slotsOf (length t)) t bodies
 
-  -- the byte to be put back is one of the body behind the first holder
-  held-byte : (x : ℕ) → heldFrom e t d (cellOfByte x) ≡ true → restoredByte d s memory x ≡ getD bodies (cellAt (bodyFrom e t d (cellOfByte x)) + placeInCell x) 0
-  held-byte x h =
-      let c : ℕ = cellOfByte x in
-      let small : placeInCell x < 64 = omega arith in
-      ap (λ (v : List ℕ). getD v (placeInCell x) 0) (outermost-value e t d (cellOfByte x) bodies low (cellBytes memory (cellOfByte x)) h)
-      ∙ getD-take 64 (drop (cellAt (bodyFrom e t d (cellOfByte x))) bodies) (placeInCell x) 0 small
-      ∙ getD-drop (cellAt (bodyFrom e t d (cellOfByte x))) bodies (placeInCell x) 0
+  -- the byte to be put back is one of those that the first holder has
+  held-byte : (x : ℕ) → heldFrom e t d (cellOfByte x) ≡ true → restoredByte d s memory x ≡ getD (bytesFrom e t bodies d (cellOfByte x)) (placeInCell x) 0
+  held-byte x h = ap (λ (v : List ℕ). getD v (placeInCell x) 0) (outermost-value e t d (cellOfByte x) bodies low (cellBytes memory (cellOfByte x)) h)
 
   other-byte : (x : ℕ) → heldFrom e t d (cellOfByte x) ≡ false → restoredByte d s memory x ≡ getD memory x 0
   other-byte x h =
@@ -54,7 +49,7 @@ module _ (t bodies : List ℕ) (d : ℕ) (low : 1 ≤ d) (memory : List ℕ) whe
   unfolding restoreBytes
   one-byte m k x size l =
       let inside : cellOfByte x < m = omega arith in
-      let stored = cells-stored bodies (heldFrom e t d) (bodyFrom e t d) k m x memory (omega arith) in
+      let stored = cells-stored (bytesFrom e t bodies d) (heldFrom e t d) k m x memory (omega arith) in
       let rank = same-rank (cellOfByte x) in
       by-bool (heldFrom e t d (cellOfByte x))
       (λ h. stored ∙ rw (lt-ltb (cellOfByte x) m inside, h, rank, held-byte x h))
@@ -68,7 +63,7 @@ module _ (t bodies : List ℕ) (d : ℕ) (low : 1 ≤ d) (memory : List ℕ) whe
       → getD (stores (take k (restoreBytes m d bodies t)) memory) x 0 ≡ getD memory x 0
   unfolding restoreBytes
   kept-byte m k x size h =
-      cells-stored bodies (heldFrom e t d) (bodyFrom e t d) k m x memory (omega arith)
+      cells-stored (bytesFrom e t bodies d) (heldFrom e t d) k m x memory (omega arith)
       ∙ rw h (by-bool (ltb (cellOfByte x) m) (λ z. rw z) (λ z. rw z))
 
   pub memory-after : (m k : ℕ) → length memory ≡ cellAt m

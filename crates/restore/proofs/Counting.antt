@@ -21,7 +21,7 @@ use Rattle.table.specs.Entry.{live, word1, depthOf, holdsIn}
 use Rattle.table.specs.Changes.{isChanged, entryChanges}
 use Rattle.table.proofs.Rule.{Rule}
 use Rattle.table.proofs.Entries.{changes-count, changes-names}
-use Rattle.search.specs.Search.{heldFrom, bodyFrom}
+use Rattle.search.specs.Search.{heldFrom, bytesFrom}
 use Rattle.model.specs.State.{Holding, Domain}
 use Rattle.model.specs.Holdings.{isHeld, countHeld}
 use Rattle.model.specs.Restore.{orInner, firstHeld, outermost, cellsPutBack, endedDomains, freedEntries}
@@ -157,5 +157,5 @@ module _ (t : List ℕ) (d : ℕ) where
   pub bytes-count : (m : ℕ) (bodies : List ℕ) → 1 ≤ d → length (restoreBytes m d bodies t) ≡ 64 * cellsPutBack m d (stateIn (slotsOf (length t)) t bodies)
   unfolding restoreBytes
   bytes-count m bodies low =
-      cells-length bodies (heldFrom e t d) (bodyFrom e t d) m
+      cells-length (bytesFrom e t bodies d) (heldFrom e t d) m
       ∙ ap (λ (x : ℕ). 64 * x) (count-ext m (heldFrom e t d) (λ c. isHeld (outermost d c (stateIn e t bodies))) (λ c l. sym (outermost-held e t d c bodies low)))

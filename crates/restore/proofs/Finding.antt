@@ -1,27 +1,28 @@
--- Cells put back, one after another: from the bytes of the body that the search answers to the bytes of restore. Assumes nothing.
+-- Cells put back, one after another: from the body or the rule that the search answers to the bytes of restore. Assumes nothing.
 use Prim.Native.Nat.{ℕ, _+_, _-_, _*_, _≤_, _<_, min}
 use mathlib.Core.Bool.{true, false}
 use mathlib.Core.List.{List}
 use mathlib.Core.Path.{_≡_, refl, sym, ap, subst, _∙_}
 use native.Mathlib.Omega.{arith}
 use borrow.Rule.Slice.PartMut.{putMid, midOf}
-use lib.ListN.{length, getD, take, drop}
-use lib.Seq.{take-all, getD-take, getD-drop}
+use lib.ListN.{length, take, drop}
+use lib.Seq.{take-all}
 use Rattle.words.specs.Layout.{cellAt, bodiesOf, slotsOf, maxLive}
-use Rattle.words.specs.Stores.{Store, _≔_, stores, gather}
-use Rattle.words.specs.Cells.{copyPlan, cellPlan}
-use Rattle.words.proofs.Plans.{stores-none, length-cellPlan, tab-below}
-use Rattle.words.proofs.Cells.{copy-part}
+use Rattle.words.specs.Stores.{stores, gather}
+use Rattle.words.specs.Cells.{cellBytes, copyPlan, cellPlan}
+use Rattle.words.proofs.Plans.{stores-none, length-cellPlan}
+use Rattle.words.proofs.Cells.{copy-part, part-from}
+use Rattle.patterns.specs.Pattern.{pattern}
 use Rattle.words.proofs.Gather.{gather-skip}
 use Rattle.table.specs.Entry.{live}
 use Rattle.table.specs.Marks.{CellsOnce}
 use Rattle.table.specs.Rule.{ruleOk}
 use Rattle.table.proofs.Parts.{rule-once}
 use Rattle.table.proofs.Rule.{Rule, ok-facts}
-use Rattle.search.specs.Search.{heldFrom, bodyFrom, HasSource, valueFrom}
+use Rattle.search.specs.Search.{heldFrom, valueIn, bytesFrom, HasSource, valueFrom}
 use Rattle.search.specs.declared.Held.{Held}
-use Rattle.search.specs.declared.Held.the-variants.{InBody}
-use Rattle.search.proofs.Behind.{ValueFacts, value-facts, from-slot, from-fits}
+use Rattle.search.specs.declared.Held.the-variants.{InBody, ByRule}
+use Rattle.search.proofs.Behind.{BodyFacts, body-facts, RuleFacts, rule-facts, from-slot, from-fits}
 use Rattle.restore.specs.Restore.{restoreBytes}
 use Rattle.restore.specs.Marks.{Holders, FirstDepth, Tells, Unheld}
 use Rattle.restore.specs.Parts.{backPlan}
@@ -37,14 +38,6 @@ put-bytes bytes memory y cell at k long q =
     (λ h.
     let whole : take 64 bytes ≡ bytes = take-all 64 bytes (omega arith) in
     copy-part bytes memory y 0 cell k (h ∙ ap (λ (l : List ℕ). stores (take k (copyPlan l)) (midOf (cellAt cell) (cellAt cell + 64 - cellAt cell) memory)) (sym whole)))
-
--- the part of the bodies that is lent has the body's bytes
-lent-bytes : (bodies : List ℕ) (body cell : ℕ) → cellPlan (take (cellAt body + 64 - cellAt body) (drop (cellAt body) bodies)) 0 cell ≡ cellPlan bodies body cell
-unfolding cellPlan
-lent-bytes bodies body cell =
-    let z : cellAt body + 64 - cellAt body ≡ 64 = omega arith in
-    tab-below (λ j. cellAt cell + j ≔ getD (take (cellAt body + 64 - cellAt body) (drop (cellAt body) bodies)) j 0) (λ j. cellAt cell + j ≔ getD bodies (cellAt body + j) 0) 64
-    (λ j l. rw (getD-take (cellAt body + 64 - cellAt body) (drop (cellAt body) bodies) j 0 (omega arith), getD-drop))
 
 -- ---- a cell, held or not
 
@@ -73,27 +66,47 @@ module _ (m e : ℕ) (t : List ℕ) (d c : ℕ) (bodies : List ℕ) (ok : ruleOk
     pub put-first : (r : ℕ) → FirstDepth held r → valueFrom e t r c ≡ valueFrom e t d c
     put-first r f = value-first m e (bodiesOf (length bodies)) t rule d c held low tell r f
 
+  -- it is put back with the bytes that its first holder has
+  put-some : (memory : List ℕ) (budget : ℕ) (v u : List ℕ) → heldFrom e t d c ≡ true → v ≡ bytesFrom e t bodies d c → u ≡ stores (take budget (cellPlan v 0 c)) memory
+      → (64 ≡ length (backPlan e t d bodies c)) × ((64 ≤ 64) × (u ≡ stores (take budget (backPlan e t d bodies c)) memory))
+  put-some memory budget v u held same h =
+      rw held (sym (length-cellPlan (bytesFrom e t bodies d c) 0 c), (omega arith, h ∙ ap (λ (x : List ℕ). stores (take budget (cellPlan x 0 c)) memory) same))
+
   -- by the body that the search answered
   module _ (v : Held) (x k : ℕ) (q : v ≡ valueFrom e t d c) (n : v ≡ InBody x k) where
-    facts : ValueFacts e t d c x k
-    facts = value-facts e t d c v x k q n
+    facts : BodyFacts e t d c x k
+    facts = body-facts e t d c v x k q n
 
     pub put-fits : cellAt k + 64 ≤ length bodies
     put-fits =
-        let l = from-fits m e (bodiesOf (length bodies)) t rule d c low (facts .held) in
+        let l = from-fits m e (bodiesOf (length bodies)) t rule d c low (facts .held) (facts .plain) in
         let z : k < bodiesOf (length bodies) = subst (λ (y : ℕ). y < bodiesOf (length bodies)) (sym (facts .body)) l in
         omega arith
 
-    pub put-some : (memory : List ℕ) (budget w at : ℕ) (u : List ℕ) → w ≡ k → at ≡ cellAt w
+    body-bytes : cellBytes bodies k ≡ bytesFrom e t bodies d c
+    unfolding valueIn
+    body-bytes = rw (facts .plain, facts .body)
+
+    pub put-body : (memory : List ℕ) (budget w at : ℕ) (u : List ℕ) → w ≡ k → at ≡ cellAt w
         → u ≡ stores (take budget (cellPlan (take (at + 64 - at) (drop at bodies)) 0 c)) memory
         → (64 ≡ length (backPlan e t d bodies c)) × ((64 ≤ 64) × (u ≡ stores (take budget (backPlan e t d bodies c)) memory))
-    put-some memory budget w at u p r h =
-        let there : at ≡ cellAt (bodyFrom e t d c) = r ∙ ap cellAt (p ∙ facts .body) in
-        let same : cellPlan (take (at + 64 - at) (drop at bodies)) 0 c ≡ cellPlan bodies (bodyFrom e t d c) c = rw there (lent-bytes bodies (bodyFrom e t d c) c) in
-        rw (facts .held) (
-          sym (length-cellPlan bodies (bodyFrom e t d c) c),
-          (omega arith, h ∙ ap (λ (ps : List Store). stores (take budget ps) memory) same),
-        )
+    put-body memory budget w at u p r h =
+        let there : at ≡ cellAt k = r ∙ ap cellAt p in
+        put-some memory budget (take (at + 64 - at) (drop at bodies)) u (facts .held)
+        (part-from bodies at ∙ ap (λ (y : ℕ). take 64 (drop y bodies)) there ∙ body-bytes) h
+
+  -- by the rule
+  module _ (v : Held) (x k : ℕ) (q : v ≡ valueFrom e t d c) (n : v ≡ ByRule x k) where
+    ruled : RuleFacts e t d c x k
+    ruled = rule-facts e t d c v x k q n
+
+    rule-bytes : pattern k ≡ bytesFrom e t bodies d c
+    unfolding valueIn
+    rule-bytes = rw (ruled .ruled, ruled .rule)
+
+    pub put-rule : (memory : List ℕ) (budget : ℕ) (bytes u : List ℕ) → bytes ≡ pattern k → u ≡ stores (take budget (cellPlan bytes 0 c)) memory
+        → (64 ≡ length (backPlan e t d bodies c)) × ((64 ≤ 64) × (u ≡ stores (take budget (backPlan e t d bodies c)) memory))
+    put-rule memory budget bytes u p h = put-some memory budget bytes u (ruled .held) (p ∙ rule-bytes) h
 
 -- ---- all cells
 

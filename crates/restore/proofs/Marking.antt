@@ -14,7 +14,7 @@ use lib.Pow.{pow-mono, shr-lt}
 use Rattle.words.specs.Layout.{maxLive}
 use Rattle.words.specs.Scan.{first, all}
 use Rattle.words.proofs.Scan.{by-bool, by-le, true≢, is-false, first-at, all-at, and-split, and-join}
-use Rattle.table.specs.Entry.{live, word2, findIn, holdsIn}
+use Rattle.table.specs.Entry.{live, word1, word2, findIn, holdsIn}
 use Rattle.marks.specs.Blocks.{blockOf, markOf, Kept}
 use Rattle.table.specs.Marks.{has, Marked}
 use Rattle.marks.proofs.Blocks.{none-held}
@@ -22,8 +22,7 @@ use Rattle.marks.proofs.Digits.{halved, has-none}
 use Rattle.table.proofs.Entry.{find-hit, holds-found}
 use Rattle.table.proofs.Marks.{marked-holds}
 use Rattle.table.proofs.Rule.{Rule}
-use Rattle.search.specs.Search.{stepsIn, heldFrom, sourceIn, valueFrom}
-use Rattle.search.specs.declared.Held.the-variants.{InBody}
+use Rattle.search.specs.Search.{stepsIn, heldFrom, sourceIn, heldBy, valueFrom}
 use Rattle.search.proofs.Behind.{steps-within, steps-hold, value-some}
 use Rattle.changes.proofs.Bits.{lowest-found}
 use Rattle.restore.specs.Marks.{inwards, Holders, FirstDepth, Tells, Unheld}
@@ -170,9 +169,9 @@ steps-first e t d c r l within none here =
     first-at (suc (live t) - d) (λ k. holdsIn e t (d + k) c) (r - d) (omega arith) (λ j b. none (d + j) (omega arith) (omega (arith, b))) (λ _. rw back here) in
     rw s back
 
-value-at : (e : ℕ) (t : List ℕ) (d c r : ℕ) → r ≤ live t → d + stepsIn e t d c ≡ r → valueFrom e t d c ≡ InBody r (word2 e t (sourceIn e t r c))
+value-at : (e : ℕ) (t : List ℕ) (d c r : ℕ) → r ≤ live t → d + stepsIn e t d c ≡ r → valueFrom e t d c ≡ heldBy r (word1 e t (sourceIn e t r c)) (word2 e t (sourceIn e t r c))
 value-at e t d c r within q =
-    value-some e t d c (lt-ltb (stepsIn e t d c) (suc (live t) - d) (omega (arith, q))) ∙ (λ j. InBody (q j) (word2 e t (sourceIn e t (q j) c)))
+    value-some e t d c (lt-ltb (stepsIn e t d c) (suc (live t) - d) (omega (arith, q))) ∙ (λ j. heldBy (q j) (word1 e t (sourceIn e t (q j) c)) (word2 e t (sourceIn e t (q j) c)))
 
 -- the search may begin at the first holder
 module _ (m e b : ℕ) (t : List ℕ) (ok : Rule m e b t) (d c held : ℕ) (low : 1 ≤ d) (tell : Holders e t d c held) (r : ℕ) (f : FirstDepth held r) where

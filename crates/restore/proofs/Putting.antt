@@ -46,21 +46,27 @@ cell-part s l from to k x fits =
     getD-stores (tab (min k 64) f) l x (each-tab (λ p. x ≡ p .at → ⊥) f (min k 64) (λ i b q. ne (omega arith)))
     ∙ rw z)
 
+whole-part : (v l : List ℕ) (to k x : ℕ) → cellAt to + 64 ≤ length l
+    → getD (stores (take k (cellPlan v 0 to)) l) x 0 ≡ cond (eqb (cellOfByte x) to && ltb (placeInCell x) k) (getD v (placeInCell x) 0) (getD l x 0)
+whole-part v l to k x fits =
+    let z : cellAt 0 + placeInCell x ≡ placeInCell x = omega arith in
+    cell-part v l 0 to k x fits ∙ ap (λ (y : ℕ). cond (eqb (cellOfByte x) to && ltb (placeInCell x) k) (getD v y 0) (getD l x 0)) z
+
 -- ---- cell after cell, those that are held
 
-module _ (s : List ℕ) (held : ℕ → Bool) (body : ℕ → ℕ) where
+module _ (value : ℕ → List ℕ) (held : ℕ → Bool) where
   abbrev pub plan : ℕ → List Store
-  plan c = cond (held c) (cellPlan s (body c) c) []
+  plan c = cond (held c) (cellPlan (value c) 0 c) []
 
   pub cells-length : (n : ℕ) → length (gather n plan) ≡ 64 * count n held
-  cells-length n = gather-count 64 n held plan (λ c. by-bool (held c) (λ z. rw (z, length-cellPlan s (body c) c)) (λ z. rw z))
+  cells-length n = gather-count 64 n held plan (λ c. by-bool (held c) (λ z. rw (z, length-cellPlan (value c) 0 c)) (λ z. rw z))
 
   -- the byte at x is stored once the held cells below its own, and the bytes of its own cell up to it, are
   abbrev pub reached : (k n x : ℕ) → Bool
   reached k n x = ltb (cellOfByte x) n && (held (cellOfByte x) && ltb (64 * count (cellOfByte x) held + placeInCell x) k)
 
   pub cells-stored : (k n x : ℕ) (l : List ℕ) → cellAt n ≤ length l
-      → getD (stores (take k (gather n plan)) l) x 0 ≡ cond (reached k n x) (getD s (cellAt (body (cellOfByte x)) + placeInCell x) 0) (getD l x 0)
+      → getD (stores (take k (gather n plan)) l) x 0 ≡ cond (reached k n x) (getD (value (cellOfByte x)) (placeInCell x) 0) (getD l x 0)
   cells-stored k zero x l fits =
       ap (λ (y : List ℕ). getD y x 0) (sym (stores-none k l)) ∙ rw (le-ltb (cellOfByte x) 0 (omega arith))
   cells-stored k (suc n) x l fits =
@@ -77,7 +83,7 @@ module _ (s : List ℕ) (held : ℕ → Bool) (body : ℕ → ℕ) where
       by-bool (held n)
       (λ h.
       let hc : held (cellOfByte x) ≡ true = ap held q ∙ h in
-      let one = cell-part s (stores (take k (gather n plan)) l) (body n) n (k - 64 * count n held) x (rw long (omega arith)) in
+      let one = whole-part (value n) (stores (take k (gather n plan)) l) n (k - 64 * count n held) x (rw long (omega arith)) in
       let same : ltb (placeInCell x) (k - 64 * count n held) ≡ ltb (64 * count n held + placeInCell x) k =
       by-le k (64 * count n held + placeInCell x)
       (λ le. le-ltb (placeInCell x) (k - 64 * count n held) (omega arith) ∙ sym (le-ltb (64 * count n held + placeInCell x) k le))
@@ -97,6 +103,6 @@ module _ (s : List ℕ) (held : ℕ → Bool) (body : ℕ → ℕ) where
       rw near
       (by-bool (held n)
       (λ h.
-      let one = cell-part s (stores (take k (gather n plan)) l) (body n) n (k - length (gather n plan)) x (rw long (omega arith)) in
+      let one = whole-part (value n) (stores (take k (gather n plan)) l) n (k - length (gather n plan)) x (rw long (omega arith)) in
       rw h (one ∙ rw z ih))
       (λ h. rw h (ap (λ (y : List ℕ). getD y x 0) (sym (stores-none (k - length (gather n plan)) (stores (take k (gather n plan)) l))) ∙ ih))))

@@ -6,12 +6,12 @@ use Rattle.words.specs.Layout.{liveAt}
 use Rattle.words.specs.Stores.{Store, _≔_, gather}
 use Rattle.words.specs.Cells.{cellPlan}
 use Rattle.table.specs.Changes.{entryChanges}
-use Rattle.search.specs.Search.{heldFrom, bodyFrom}
+use Rattle.search.specs.Search.{heldFrom, bytesFrom}
 use Rattle.restore.specs.Restore.{clearedHandles, restoreChange}
 
 -- the bytes of cell c: none where nobody from depth d inwards holds it
 abbrev pub backPlan : (e : ℕ) → List ℕ → (d : ℕ) → (bodies : List ℕ) → (c : ℕ) → List Store
-backPlan e t d bodies c = cond (heldFrom e t d c) (cellPlan bodies (bodyFrom e t d c) c) []
+backPlan e t d bodies c = cond (heldFrom e t d c) (cellPlan (bytesFrom e t bodies d c) 0 c) []
 
 -- the bytes of n cells from `from` on
 abbrev pub groupPlan : (e : ℕ) → List ℕ → (d : ℕ) → (bodies : List ℕ) → (from n : ℕ) → List Store

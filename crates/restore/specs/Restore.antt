@@ -10,7 +10,7 @@ use Rattle.words.specs.Journal.{journal}
 use Rattle.words.specs.Cells.{cellPlan}
 use Rattle.table.specs.Entry.{live, word1, depthOf, innermost, isInside}
 use Rattle.table.specs.Changes.{Change, keep, put, entryChanges}
-use Rattle.search.specs.Search.{heldFrom, bodyFrom}
+use Rattle.search.specs.Search.{heldFrom, bytesFrom}
 use Rattle.search.specs.Domain.{depthNamed}
 use Rattle.model.specs.Answer.{orElse, View}
 use Rattle.model.specs.Restore.{restoreView}
@@ -23,11 +23,11 @@ use Rattle.store.specs.Means.{orRefused}
 unfoldable pub restoreCheck : Lent → (h : ℕ) → ℕ
 restoreCheck l h = orElse (storeCheck l) (askLiveIn (l .table) h 0)
 
--- "bytes first: 64 for each .. cell put back, rising by cell and byte": each of m cells held at depth d or inside it, from the body behind its
--- first holder
+-- "bytes first: 64 for each .. cell put back, rising by cell and byte": each of m cells held at depth d or inside it, with the 64 bytes that its
+-- first holder has of it
 unfoldable pub restoreBytes : (m d : ℕ) → (bodies : List ℕ) → List ℕ → List Store
 restoreBytes m d bodies t =
-    gather m (λ c. cond (heldFrom (slotsOf (length t)) t d c) (cellPlan bodies (bodyFrom (slotsOf (length t)) t d c) c) [])
+    gather m (λ c. cond (heldFrom (slotsOf (length t)) t d c) (cellPlan (bytesFrom (slotsOf (length t)) t bodies d c) 0 c) [])
 
 -- the entries of the domains inside the one at depth d are freed
 unfoldable pub restoreChange : (e : ℕ) → List ℕ → (d i : ℕ) → Change

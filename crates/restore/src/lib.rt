@@ -25,6 +25,7 @@ use marks::past_blank;
 use marks::run_held;
 use marks::some_marks;
 use marks::spread_mask;
+use patterns::pattern_bytes;
 use search::Held;
 use search::find_domain;
 use search::find_value;
@@ -147,7 +148,8 @@ fn past_unheld(seen: &[u8], from: usize, runs: usize, mask: u8) -> usize
     r
 }
 
-// Puts 64 bytes back into a cell of memory, at most budget of them. It is lent the bytes that the holder holds, and no table.
+// Puts 64 bytes back into a cell of memory, at most budget of them. It is lent the bytes that the holder holds, and no table; those of a rule
+// are made first, so that they are stored as any others are, rising and many at once.
 fn put_cell(bytes: &[u8], memory: &mut [u8], cell: usize, budget: usize)
     requires { ⌜ (length (now bytes) ≡ cellSize) × (cellAt cell + cellSize ≤ length (now memory)) ⌝ }
     ensures { λ _. ⌜ now (memory .exit) ≡ stores (take budget (cellPlan (now (bytes .entry)) 0 cell)) (now (memory .entry)) ⌝ }
@@ -193,6 +195,11 @@ fn put_held(
         Held::InBody(_, body) => {
             let at = cell_at(wide(body));
             put_cell(&bodies[at..at + CELL_SIZE], memory, cell, budget);
+            CELL_SIZE
+        }
+        Held::ByRule(_, rule) => {
+            let bytes = pattern_bytes(rule);
+            put_cell(&bytes, memory, cell, budget);
             CELL_SIZE
         }
     }

@@ -16,7 +16,8 @@ use Rattle.words.specs.Stores.{Store, stores, tab}
 use Rattle.words.specs.Cells.{cellBytes}
 use Rattle.words.proofs.Scan.{by-bool, by-le, true≢}
 use Rattle.words.proofs.Plans.{Each, tab-below}
-use Rattle.table.specs.Entry.{live, nextHandle, handle, word1, word2, depthOf, writableOf, viaOf, unusedOf, cellOf, parent, names, findIn, holdsIn, writable}
+use Rattle.patterns.specs.Pattern.{maxRule, pattern}
+use Rattle.table.specs.Entry.{live, nextHandle, handle, word1, word2, depthOf, writableOf, viaOf, patternOf, unusedOf, cellOf, ownsBody, parent, names, findIn, holdsIn, writable}
 use Rattle.table.specs.Changes.{Change, keep, put, newFirst, newSecond, entryChanges}
 use Rattle.table.proofs.Entry.{names-make, find-hit, find-miss, find-some, holds-true, holds-found, holds-none}
 use Rattle.table.proofs.Made.{Made, same-made, writable-made}
@@ -28,18 +29,21 @@ use Rattle.search.specs.Search.{valueIn}
 use Rattle.search.specs.Free.{bodyFree}
 use Rattle.search.proofs.Free.{body-unused}
 use Rattle.search.proofs.Value.{Copy, body-fits}
-use Rattle.model.specs.State.{Label, readOnly, readWrite, copy, viaParent, Holding}
-use Rattle.model.specs.Holdings.{valueOr}
-use Rattle.store.specs.State.{labelOf, kindOf, ValueIs, ofCopy, ofParent, HoldingIs, nothing, entry, heldIn, domainIn, stateIn}
+use Rattle.model.specs.State.{Label, readOnly, readWrite, copy, viaParent, byRule, Holding}
+use Rattle.model.specs.Holdings.{valueOr, ruleOf, heldRule}
+use Rattle.store.specs.State.{labelOf, kindOf, ValueIs, ofCopy, ofRule, ofParent, HoldingIs, nothing, entry, heldIn, domainIn, stateIn}
 use Rattle.store.proofs.State.{bit, value-is, value-only, holding-only}
-use Rattle.table.proofs.Marks.{owns-make}
+use Rattle.table.proofs.Marks.{owns-make, owns-facts}
 
--- what is held by copy, and via parent
+-- what is held by copy, via parent, and by a rule
 abbrev pub byCopy : Label → List ℕ → Option Holding
 byCopy l bytes = some (record { label = l; kind = copy; value = bytes })
 
 abbrev pub byParent : Label → List ℕ → Option Holding
 byParent l bytes = some (record { label = l; kind = viaParent; value = bytes })
+
+abbrev pub following : Label → (rule : ℕ) → Option Holding
+following l r = some (record { label = l; kind = byRule r; value = pattern r })
 
 -- of holdings g: what slot i's depth, and its parent, hold of slot i's cell
 abbrev pub atSlot : ℕ → List ℕ → (g : ℕ → ℕ → Option Holding) → ℕ → Option Holding
@@ -51,7 +55,20 @@ atParent e t g i = g (parent (depthOf (word1 e t i))) (cellOf (word1 e t i))
 -- what slot i tells, with label l
 abbrev pub told : ℕ → (t bodies : List ℕ) → ℕ → Label → Option Holding
 told e t bodies i l =
-    some (record { label = l; kind = kindOf (word1 e t i); value = valueIn e t bodies (depthOf (word1 e t i)) (cellOf (word1 e t i)) })
+    some (record { label = l; kind = kindOf (word1 e t i) (word2 e t i); value = valueIn e t bodies (depthOf (word1 e t i)) (cellOf (word1 e t i)) })
+
+-- what a slot that follows a rule tells
+pub told-rule : (m e b : ℕ) (t bodies : List ℕ) → Rule m e b t → (i : ℕ) (l : Label) → i < e → 1 ≤ depthOf (word1 e t i) → viaOf (word1 e t i) ≡ 0
+    → patternOf (word1 e t i) ≡ 1 → told e t bodies i l ≡ following l (word2 e t i)
+told-rule m e b t bodies ok i l h deep v p =
+    let w = word1 e t i in
+    let value : valueIn e t bodies (depthOf w) (cellOf w) ≡ pattern (word2 e t i) =
+    sym (value-only m e b t ok bodies deep (ofRule h (names-make e t (depthOf w) (cellOf w) w refl refl) v p)) in
+    rw (v, p, value)
+
+-- an entry that follows no rule has none in its kind
+pub plain-kind : (w v : ℕ) → patternOf w ≡ 0 → ruleOf (kindOf w v) ≡ none
+plain-kind w v p = by-bool (eqb (viaOf w) 1) (λ z. rw z) (λ z. rw (z, p))
 
 -- no slot
 abbrev pub Never : ℕ → ℕ → Type 0
@@ -69,7 +86,7 @@ module _ (m e b : ℕ) (t old new : List ℕ) (n : ℕ) (held : ℕ → ℕ → 
     pub holding : atSlot e t held i ≡ told e t old i l
     -- via parent: the parent holds what it held
     pub outer : viaOf (word1 e t i) ≡ 1 → atParent e t held i ≡ atParent e t (heldIn e t old) i
-    -- a copy: the body is its own
+    -- else: the body, or the rule, is its own
     pub home : viaOf (word1 e t i) ≡ 0 → origin i ≡ i
 
   -- where slot i is with first word x: where it was; or it came, and left no place of a domain that lives
@@ -77,11 +94,12 @@ module _ (m e b : ℕ) (t old new : List ℕ) (n : ℕ) (held : ℕ → ℕ → 
     there : (word1 e t i ≡ 0 → ⊥) → depthOf x ≡ depthOf (word1 e t i) → cellOf x ≡ cellOf (word1 e t i) → Place i x
     came : Comes i (cellOf x) → holdsIn e t (depthOf x) (cellOf x) ≡ false → (depthOf (word1 e t i) ≤ n → depthOf (word1 e t i) ≡ 0) → Place i x
 
-  -- where its value is with words x and v: in a body that a slot had, in one that was free, or with the parent
+  -- where its value is with words x and v: in a body that a slot had, in one that was free, in a rule, or with the parent, which holds it by none
   pub data Value (i x v : ℕ) : Type 0 where
-    had : viaOf x ≡ 0 → Copy e t (origin i) → v ≡ word2 e t (origin i) → held (depthOf x) (cellOf x) ≡ told e t old (origin i) (labelOf x) → Value i x v
-    took : viaOf x ≡ 0 → Takes i v → v < b → bodyFree e t v ≡ true → held (depthOf x) (cellOf x) ≡ byCopy (labelOf x) (cellBytes new v) → Value i x v
-    rests : viaOf x ≡ 1 → v ≡ 0 → 2 ≤ depthOf x → (h : Holding) → held (parent (depthOf x)) (cellOf x) ≡ some h
+    had : viaOf x ≡ 0 → patternOf x ≡ 0 → Copy e t (origin i) → v ≡ word2 e t (origin i) → held (depthOf x) (cellOf x) ≡ told e t old (origin i) (labelOf x) → Value i x v
+    took : viaOf x ≡ 0 → patternOf x ≡ 0 → Takes i v → v < b → bodyFree e t v ≡ true → held (depthOf x) (cellOf x) ≡ byCopy (labelOf x) (cellBytes new v) → Value i x v
+    follows : viaOf x ≡ 0 → patternOf x ≡ 1 → v ≤ maxRule → held (depthOf x) (cellOf x) ≡ following (labelOf x) v → Value i x v
+    rests : viaOf x ≡ 1 → patternOf x ≡ 0 → v ≡ 0 → 2 ≤ depthOf x → (h : Holding) → held (parent (depthOf x)) (cellOf x) ≡ some h → ruleOf (h .kind) ≡ none
         → held (depthOf x) (cellOf x) ≡ byParent (labelOf x) (h .value) → Value i x v
 
   -- slot i in use with words x and v
@@ -155,8 +173,8 @@ module _ (m e b : ℕ) (t old new : List ℕ) (n : ℕ) (held : ℕ → ℕ → 
           let here = find-self m e b t (B .right) i l in-use in
           rw (holds-true e t (depthOf w) (cellOf w) (omega arith), here)
 
-      copy-value : viaOf (word1 e t i) ≡ 0 → valueIn e t old (depthOf (word1 e t i)) (cellOf (word1 e t i)) ≡ cellBytes old (word2 e t i)
-      copy-value z = sym (value-only m e b t (B .right) old (k .low) (ofCopy l self z))
+      copy-value : viaOf (word1 e t i) ≡ 0 → patternOf (word1 e t i) ≡ 0 → valueIn e t old (depthOf (word1 e t i)) (cellOf (word1 e t i)) ≡ cellBytes old (word2 e t i)
+      copy-value z p = sym (value-only m e b t (B .right) old (k .low) (ofCopy l self z p))
 
       via-value : viaOf (word1 e t i) ≡ 1 → valueIn e t old (depthOf (word1 e t i)) (cellOf (word1 e t i)) ≡ valueIn e t old (parent (depthOf (word1 e t i))) (cellOf (word1 e t i))
       via-value z =
@@ -165,32 +183,38 @@ module _ (m e b : ℕ) (t old new : List ℕ) (n : ℕ) (held : ℕ → ℕ → 
           sym (value-only m e b t (B .right) old (k .low)
           (ofParent l self z (value-is m e b t (B .right) old (parent (depthOf w)) (cellOf w) (omega arith) (B .right .outer i l v))))
 
-      -- what the parent of a via parent slot held
-      outer-held : viaOf (word1 e t i) ≡ 1 → (h : Holding) × (atParent e t (heldIn e t old) i ≡ some h)
+      -- what the parent of a via parent slot held, by no rule
+      outer-held : viaOf (word1 e t i) ≡ 1 → (h : Holding) × (atParent e t (heldIn e t old) i ≡ some h) × (ruleOf (h .kind) ≡ none)
           × (h .value ≡ valueIn e t old (depthOf (word1 e t i)) (cellOf (word1 e t i)))
       unfolding heldIn
       outer-held z =
           let v : viaOf w ≡ 0 → ⊥ = λ y. omega arith in
           let j : ℕ = findIn e t (parent (depthOf w)) (cellOf w) in (
-            record { label = labelOf (word1 e t j); kind = kindOf (word1 e t j); value = valueIn e t old (parent (depthOf w)) (cellOf w) },
+            record { label = labelOf (word1 e t j); kind = kindOf (word1 e t j) (word2 e t j); value = valueIn e t old (parent (depthOf w)) (cellOf w) },
             rw (holds-true e t (parent (depthOf w)) (cellOf w) (B .right .outer i l v)),
+            plain-kind (word1 e t j) (word2 e t j) (B .right .outer-plain i l v),
             sym (via-value z),
           )
 
       -- a slot that stays, with first word x: another label at the most
-      module _ (x label : ℕ) (lab : Label) (s : Stays i lab) (made : Made x (depthOf (word1 e t i)) label (viaOf (word1 e t i)) (unusedOf (word1 e t i)) (cellOf (word1 e t i)))
+      module _ (x label : ℕ) (lab : Label) (s : Stays i lab) (made : Made x (depthOf (word1 e t i)) label (viaOf (word1 e t i)) (patternOf (word1 e t i)) (unusedOf (word1 e t i)) (cellOf (word1 e t i)))
           (lb : labelOf x ≡ lab) where
-        stay-copy : viaOf (word1 e t i) ≡ 0 → Value i x (word2 e t i)
-        stay-copy v =
+        stay-copy : viaOf (word1 e t i) ≡ 0 → patternOf (word1 e t i) ≡ 0 → Value i x (word2 e t i)
+        stay-copy v p =
             let h = s .home v in
-            had (made .kind ∙ v) (subst (Copy e t) (sym h) (record { slot = l; used = in-use; copy = v })) (ap (word2 e t) (sym h))
+            had (made .kind ∙ v) (made .rule ∙ p) (subst (Copy e t) (sym h) (record { slot = l; used = in-use; copy = v; plain = p })) (ap (word2 e t) (sym h))
             (rw (made .depth, made .cell, lb, h) (s .holding))
 
-        stay-via : viaOf (word1 e t i) ≡ 1 → (h : Holding) → atParent e t (heldIn e t old) i ≡ some h
+        stay-rule : viaOf (word1 e t i) ≡ 0 → patternOf (word1 e t i) ≡ 1 → Value i x (word2 e t i)
+        stay-rule v p =
+            follows (made .kind ∙ v) (made .rule ∙ p) (k .rule p)
+            (rw (made .depth, made .cell, lb) (s .holding ∙ told-rule m e b t old (B .right) i lab l (k .low) v p))
+
+        stay-via : viaOf (word1 e t i) ≡ 1 → (h : Holding) → atParent e t (heldIn e t old) i ≡ some h → ruleOf (h .kind) ≡ none
             → h .value ≡ valueIn e t old (depthOf (word1 e t i)) (cellOf (word1 e t i)) → Value i x (word2 e t i)
-        stay-via v h o q =
+        stay-via v h o n q =
             let ne : viaOf w ≡ 0 → ⊥ = λ y. omega arith in
-            rests (made .kind ∙ v) (k .second ne) (rw (made .depth) (k .inner ne)) h (rw (made .depth, made .cell) (s .outer v ∙ o))
+            rests (made .kind ∙ v) (made .rule ∙ k .plain ne) (k .second ne) (rw (made .depth) (k .inner ne)) h (rw (made .depth, made .cell) (s .outer v ∙ o)) n
             (rw (made .depth, made .cell, lb) (s .holding ∙ rw (v, q)))
 
         stay-full : Full i x (word2 e t i)
@@ -202,8 +226,10 @@ module _ (m e b : ℕ) (t old new : List ℕ) (n : ℕ) (held : ℕ → ℕ → 
               cell = rw (made .cell) (k .cell);
               place = there in-use (made .depth) (made .cell);
               value = by-bool (eqb (viaOf w) 0)
-                  (λ z. stay-copy (eqb-true (viaOf w) 0 z))
-                  (λ z. let v = bit w (eqb-false (viaOf w) 0 z) in let o = outer-held v in stay-via v (o .0) (o .1) (o .2));
+                  (λ z.
+                  let v = eqb-true (viaOf w) 0 z in
+                  by-bool (eqb (patternOf w) 0) (λ p. stay-copy v (eqb-true (patternOf w) 0 p)) (λ p. let q = eqb-false (patternOf w) 0 p in stay-rule v (omega (arith, q))))
+                  (λ z. let v = bit w (eqb-false (viaOf w) 0 z) in let o = outer-held v in stay-via v (o .0) (o .1) (o .2) (o .3));
             }
 
     -- ---- every slot afterwards
@@ -285,15 +311,42 @@ module _ (m e b : ℕ) (t old new : List ℕ) (n : ℕ) (held : ℕ → ℕ → 
     both w p q = omega arith
 
     module _ (i x v : ℕ) where
-      value-fits : Value i x v → viaOf x ≡ 0 → v < b
-      value-fits (had a k q h) z = rw q (body-fits m e b t (B .right) (origin i) k)
-      value-fits (took a k l r h) z = l
-      value-fits (rests a q l h o r) z = absurd (both (viaOf x) z a)
+      value-fits : Value i x v → viaOf x ≡ 0 → patternOf x ≡ 0 → v < b
+      value-fits (had a p k q h) z y = rw q (body-fits m e b t (B .right) (origin i) k)
+      value-fits (took a p k l r h) z y = l
+      value-fits (follows a p l h) z y = absurd (both (patternOf x) y p)
+      value-fits (rests a p q l h o n r) z y = absurd (both (viaOf x) z a)
 
-      value-via : Value i x v → (viaOf x ≡ 0 → ⊥) → (v ≡ 0) × (2 ≤ depthOf x) × ((h : Holding) × (held (parent (depthOf x)) (cellOf x) ≡ some h))
-      value-via (had a k q h) z = absurd (z a)
-      value-via (took a k l r h) z = absurd (z a)
-      value-via (rests a q l h o r) z = (q, l, (h, o))
+      value-rule : Value i x v → patternOf x ≡ 1 → v ≤ maxRule
+      value-rule (had a p k q h) z = absurd (both (patternOf x) p z)
+      value-rule (took a p k l r h) z = absurd (both (patternOf x) p z)
+      value-rule (follows a p l h) z = l
+      value-rule (rests a p q l h o n r) z = absurd (both (patternOf x) p z)
+
+      -- what rests on a parent
+      record Resting : Type 0 where
+        second : v ≡ 0
+        inner : 2 ≤ depthOf x
+        plain : patternOf x ≡ 0
+        outer : Holding
+        held-there : held (parent (depthOf x)) (cellOf x) ≡ some outer
+        unruled : ruleOf (outer .kind) ≡ none
+
+      value-via : Value i x v → (viaOf x ≡ 0 → ⊥) → Resting
+      value-via (had a p k q h) z = absurd (z a)
+      value-via (took a p k l r h) z = absurd (z a)
+      value-via (follows a p l h) z = absurd (z a)
+      value-via (rests a p q l h o n r) z = record { second = q; inner = l; plain = p; outer = h; held-there = o; unruled = n }
+
+      -- one that is not held by a rule follows none
+      value-plain : Value i x v → heldRule (held (depthOf x) (cellOf x)) ≡ none → patternOf x ≡ 0
+      value-plain (had a p k q h) z = p
+      value-plain (took a p k l r h) z = p
+      value-plain (follows a p l h) z = absurd (some-none v (sym (ap heldRule h) ∙ z))
+        where
+          some-none : (r : ℕ) → _≡_ {A = Option ℕ} (some r) none → ⊥
+          some-none r q = let y : _≡_ {A = ℕ} 0 1 = cc in omega arith
+      value-plain (rests a p q l h o n r) z = p
 
     new-used : (i : ℕ) → Full i (word1 e u i) (word2 e u i) → Used m e b u i
     new-used i h =
@@ -303,16 +356,18 @@ module _ (m e b : ℕ) (t old new : List ℕ) (n : ℕ) (held : ℕ → ℕ → 
           spare = h .spare;
           cell = h .cell;
           copy = value-fits i (word1 e u i) (word2 e u i) (h .value);
-          second = λ z. value-via i (word1 e u i) (word2 e u i) (h .value) z .0;
-          inner = λ z. value-via i (word1 e u i) (word2 e u i) (h .value) z .1;
+          rule = value-rule i (word1 e u i) (word2 e u i) (h .value);
+          second = λ z. value-via i (word1 e u i) (word2 e u i) (h .value) z .second;
+          inner = λ z. value-via i (word1 e u i) (word2 e u i) (h .value) z .inner;
+          plain = λ z. value-via i (word1 e u i) (word2 e u i) (h .value) z .plain;
         }
 
     new-outer : (i : ℕ) → Full i (word1 e u i) (word2 e u i) → (viaOf (word1 e u i) ≡ 0 → ⊥) → findIn e u (parent (depthOf (word1 e u i))) (cellOf (word1 e u i)) < e
     new-outer i h z =
         let s = value-via i (word1 e u i) (word2 e u i) (h .value) z in
-        let two = s .1 in
+        let two = s .inner in
         let high = h .high in
-        found (parent (depthOf (word1 e u i))) (cellOf (word1 e u i)) (s .2 .0) (omega arith) (omega arith) (s .2 .1)
+        found (parent (depthOf (word1 e u i))) (cellOf (word1 e u i)) (s .outer) (omega arith) (omega arith) (s .held-there)
 
     -- two copies with one body are one slot
     old-body : (i j : ℕ) → Copy e t i → Copy e t j → word2 e t i ≡ word2 e t j → i ≡ j
@@ -320,20 +375,31 @@ module _ (m e b : ℕ) (t old new : List ℕ) (n : ℕ) (held : ℕ → ℕ → 
         by-bool (eqb i j) (λ z. eqb-true i j z)
         (λ z.
         by-le i j
-        (λ l. absurd (B .right .apart-from j (q .slot) i (omega (arith, eqb-false i j z)) (q .used) (p .used) .bodies (p .copy) (q .copy) h))
-        (λ l. absurd (B .right .apart-from i (p .slot) j l (p .used) (q .used) .bodies (q .copy) (p .copy) (sym h))))
+        (λ l. absurd (B .right .apart-from j (q .slot) i (omega (arith, eqb-false i j z)) (q .used) (p .used) .bodies (owns i p) (owns j q) h))
+        (λ l. absurd (B .right .apart-from i (p .slot) j l (p .used) (q .used) .bodies (owns j q) (owns i p) (sym h))))
+      where
+        owns : (i : ℕ) → Copy e t i → ownsBody (word1 e t i) ≡ true
+        owns i k = owns-make (word1 e t i) (k .used) (k .copy) (k .plain)
 
     taken-body : (v j : ℕ) → bodyFree e t v ≡ true → Copy e t j → v ≡ word2 e t j → ⊥
-    taken-body v j r k q = body-unused e t v r j (k .slot) (owns-make _ (k .used) (k .copy)) (sym q)
+    taken-body v j r k q = body-unused e t v r j (k .slot) (owns-make _ (k .used) (k .copy) (k .plain)) (sym q)
 
-    one-body : (i j x y v : ℕ) → Copy e u i → Copy e u j → Value i x v → Value j y v → viaOf x ≡ 0 → viaOf y ≡ 0 → i ≡ j
-    one-body i j x y v ci cj (had a k q h) (had a′ k′ q′ h′) zi zj = B .own i j (ci .slot) (cj .slot) ci cj (old-body (origin i) (origin j) k k′ (sym q ∙ q′))
-    one-body i j x y v ci cj (had a k q h) (took a′ k′ l′ r′ h′) zi zj = absurd (taken-body v (origin i) r′ k q)
-    one-body i j x y v ci cj (had a k q h) (rests a′ q′ l′ h′ o′ r′) zi zj = absurd (both (viaOf y) zj a′)
-    one-body i j x y v ci cj (took a k l r h) (had a′ k′ q′ h′) zi zj = absurd (taken-body v (origin j) r k′ q′)
-    one-body i j x y v ci cj (took a k l r h) (took a′ k′ l′ r′ h′) zi zj = B .bodies i j v (ci .slot) (cj .slot) k k′
-    one-body i j x y v ci cj (took a k l r h) (rests a′ q′ l′ h′ o′ r′) zi zj = absurd (both (viaOf y) zj a′)
-    one-body i j x y v ci cj (rests a q l h o r) g zi zj = absurd (both (viaOf x) zi a)
+    -- a copy's body, by where it comes from
+    data Bodied (i v : ℕ) : Type 0 where
+      kept-body : Copy e t (origin i) → v ≡ word2 e t (origin i) → Bodied i v
+      new-body : Takes i v → bodyFree e t v ≡ true → Bodied i v
+
+    bodied : (i x v : ℕ) → Value i x v → viaOf x ≡ 0 → patternOf x ≡ 0 → Bodied i v
+    bodied i x v (had a p k q h) z y = kept-body k q
+    bodied i x v (took a p k l r h) z y = new-body k r
+    bodied i x v (follows a p l h) z y = absurd (both (patternOf x) y p)
+    bodied i x v (rests a p q l h o n r) z y = absurd (both (viaOf x) z a)
+
+    one-body : (i j v : ℕ) → Copy e u i → Copy e u j → Bodied i v → Bodied j v → i ≡ j
+    one-body i j v ci cj (kept-body k q) (kept-body k′ q′) = B .own i j (ci .slot) (cj .slot) ci cj (old-body (origin i) (origin j) k k′ (sym q ∙ q′))
+    one-body i j v ci cj (kept-body k q) (new-body k′ r′) = absurd (taken-body v (origin i) r′ k q)
+    one-body i j v ci cj (new-body k r) (kept-body k′ q′) = absurd (taken-body v (origin j) r k′ q′)
+    one-body i j v ci cj (new-body k r) (new-body k′ r′) = B .bodies i j v (ci .slot) (cj .slot) k k′
 
     -- two slots of one depth and cell are one
     taken-place : (x j : ℕ) → j < e → holdsIn e t (depthOf x) (cellOf x) ≡ false → depthOf x ≡ depthOf (word1 e t j) → cellOf x ≡ cellOf (word1 e t j) → ⊥
@@ -355,10 +421,12 @@ module _ (m e b : ℕ) (t old new : List ℕ) (n : ℕ) (held : ℕ → ℕ → 
         let lj : j < e = omega arith in
         record {
           cells = λ d c. below j i h (one-place j i (word1 e u j) (word1 e u i) lj l (q .place) (p .place) d c);
-          bodies = λ vj vi w.
+          bodies = λ oj oi w.
+              let a = owns-facts (word1 e u j) oj in
+              let c = owns-facts (word1 e u i) oi in
               below j i h
-              (one-body j i (word1 e u j) (word1 e u i) (word2 e u i)
-              (record { slot = lj; used = uj; copy = vj }) (record { slot = l; used = ui; copy = vi }) (rw w at (q .value)) (p .value) vj vi);
+              (one-body j i (word2 e u i) (record { slot = lj; used = uj; copy = a .1; plain = a .2 }) (record { slot = l; used = ui; copy = c .1; plain = c .2 })
+              (bodied j (word1 e u j) (word2 e u i) (rw w at (q .value)) (a .1) (a .2)) (bodied i (word1 e u i) (word2 e u i) (p .value) (c .1) (c .2)));
         }
       where
         below : (j i : ℕ) → j < i → j ≡ i → ⊥
@@ -368,6 +436,20 @@ module _ (m e b : ℕ) (t old new : List ℕ) (n : ℕ) (held : ℕ → ℕ → 
     in-slot : (i : ℕ) → (word1 e u i ≡ 0 → ⊥) → Slot i → Full i (word1 e u i) (word2 e u i)
     in-slot i h (empty p q) = absurd (h p)
     in-slot i h (full s) = s
+
+    -- what a via parent slot rests on follows no rule
+    new-outer-plain : (i : ℕ) → Full i (word1 e u i) (word2 e u i) → (viaOf (word1 e u i) ≡ 0 → ⊥)
+        → patternOf (word1 e u (findIn e u (parent (depthOf (word1 e u i))) (cellOf (word1 e u i)))) ≡ 0
+    new-outer-plain i h z =
+        let s = value-via i (word1 e u i) (word2 e u i) (h .value) z in
+        let d = parent (depthOf (word1 e u i)) in
+        let c = cellOf (word1 e u i) in
+        let j = findIn e u d c in
+        let l = new-outer i h z in
+        let hit = find-hit e u d c l in
+        let two = s .inner in
+        let full = in-slot j (λ y. omega (arith, hit .0, y, two)) (slot j l) in
+        value-plain j (word1 e u j) (word2 e u j) (full .value) (rw (hit .0, hit .1) (ap heldRule (s .held-there) ∙ s .unruled))
 
     new-free : (i : ℕ) → word1 e u i ≡ 0 → Slot i → word2 e u i ≡ 0
     new-free i z (empty p q) = q
@@ -385,6 +467,7 @@ module _ (m e b : ℕ) (t old new : List ℕ) (n : ℕ) (held : ℕ → ℕ → 
           free = λ i l z. new-free i z (slot i l);
           used = λ i l h. new-used i (in-slot i h (slot i l));
           outer = λ i l v. new-outer i (in-slot i (λ z. v (ap viaOf z)) (slot i l)) v;
+          outer-plain = λ i l v. new-outer-plain i (in-slot i (λ z. v (ap viaOf z)) (slot i l)) v;
           apart-from = λ i l j h x y. new-apart i j l h x y (in-slot i x (slot i l)) (in-slot j y (slot j (omega arith)));
         }
 
@@ -393,19 +476,21 @@ module _ (m e b : ℕ) (t old new : List ℕ) (n : ℕ) (held : ℕ → ℕ → 
     -- what slot i tells of its depth and cell, where the parent's values are known
     record Tells (d c i : ℕ) : Type 0 where
       bytes : List ℕ
-      holding : held d c ≡ some (record { label = labelOf (word1 e u i); kind = kindOf (word1 e u i); value = bytes })
+      holding : held d c ≡ some (record { label = labelOf (word1 e u i); kind = kindOf (word1 e u i) (word2 e u i); value = bytes })
       value : ValueIs e u new d c bytes
 
     slot-tells : (d c i : ℕ) → i < e → depthOf (word1 e u i) ≡ d → cellOf (word1 e u i) ≡ c → Value i (word1 e u i) (word2 e u i)
         → ((h : Holding) → 1 ≤ parent d → held (parent d) c ≡ some h → ValueIs e u new (parent d) c (h .value)) → Tells d c i
-    slot-tells d c i l p q (had a k s h) rec =
+    slot-tells d c i l p q (had a y k s h) rec =
         let j = B .right .used (origin i) (k .slot) (k .used) in
         let same : valueIn e t old (depthOf (word1 e t (origin i))) (cellOf (word1 e t (origin i))) ≡ cellBytes new (word2 e u i) =
-        copy-value (origin i) (k .slot) j (k .copy) ∙ sym (B .spared (origin i) k) ∙ ap (cellBytes new) (sym s) in
-        record { bytes = cellBytes new (word2 e u i); holding = rw (← p, ← q) (h ∙ rw (a, k .copy, same)); value = ofCopy l (names-make e u d c (word1 e u i) p q) a }
-    slot-tells d c i l p q (took a k s r h) rec =
-        record { bytes = cellBytes new (word2 e u i); holding = rw (← p, ← q) (h ∙ rw a); value = ofCopy l (names-make e u d c (word1 e u i) p q) a }
-    slot-tells d c i l p q (rests a s two h o r) rec =
+        copy-value (origin i) (k .slot) j (k .copy) (k .plain) ∙ sym (B .spared (origin i) k) ∙ ap (cellBytes new) (sym s) in
+        record { bytes = cellBytes new (word2 e u i); holding = rw (← p, ← q) (h ∙ rw (a, y, k .copy, k .plain, same)); value = ofCopy l (names-make e u d c (word1 e u i) p q) a y }
+    slot-tells d c i l p q (took a y k s r h) rec =
+        record { bytes = cellBytes new (word2 e u i); holding = rw (← p, ← q) (h ∙ rw (a, y)); value = ofCopy l (names-make e u d c (word1 e u i) p q) a y }
+    slot-tells d c i l p q (follows a y s h) rec =
+        record { bytes = pattern (word2 e u i); holding = rw (← p, ← q) (h ∙ rw (a, y)); value = ofRule l (names-make e u d c (word1 e u i) p q) a y }
+    slot-tells d c i l p q (rests a y s two h o n r) rec =
         record {
           bytes = h .value;
           holding = rw (← p, ← q) (r ∙ rw a);

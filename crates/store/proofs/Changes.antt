@@ -110,7 +110,7 @@ pub copies-spare : (e : ℕ) (t memory : List ℕ) (wants : ℕ → Bool) (from 
     → Each (Spares e t) (gather n (copyOf memory wants from to))
 copies-spare e t memory wants from to n free =
     each-spares e t (gather n (copyOf memory wants from to)) (λ i c.
-    copies-outside memory wants from to n (word2 e t i) (λ j l w q. body-unused e t (to j) (free j l w) i (c .slot) (owns-make _ (c .used) (c .copy)) q))
+    copies-outside memory wants from to n (word2 e t i) (λ j l w q. body-unused e t (to j) (free j l w) i (c .slot) (owns-make _ (c .used) (c .copy) (c .plain)) q))
 
 -- ---- the call at every budget
 

@@ -134,7 +134,7 @@ module _ (m e b : ℕ) (t : List ℕ) (ok : Rule m e b t) (long : pairsAt e ≤ 
       let old : (k : ℕ) → k < live t → domainIn e u bodies k ≡ domainIn e t bodies k =
       λ k l i. record {
         handle = handle-old k (λ q. omega arith) i;
-        holds = λ c. held-kept m e b t u bodies bodies ok firsts (λ j s. seconds j (s .slot)) (λ j s. refl) (suc k) c (omega arith) i;
+        holds = λ c. held-kept m e b t u bodies bodies ok firsts seconds (λ j s. refl) (suc k) c (omega arith) i;
       } in
       let new : domainIn e u bodies (live t) ≡ record { handle = nextHandle t; holds = λ c. none } =
       λ i. record { handle = at-new i; holds = λ c. nothing-held bodies c i } in

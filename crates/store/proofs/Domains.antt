@@ -13,12 +13,12 @@ use Rattle.words.specs.Scan.{first}
 use Rattle.words.specs.Stores.{tab, tabFrom}
 use Rattle.words.proofs.Scan.{by-bool, by-le}
 use Rattle.words.proofs.Plans.{length-tab, tab-below}
-use Rattle.table.specs.Entry.{live, nextHandle, handle, word1, writableOf, viaOf, parent, findIn, holdsIn}
+use Rattle.table.specs.Entry.{live, nextHandle, handle, word1, word2, writableOf, viaOf, patternOf, parent, findIn, holdsIn}
 use Rattle.table.proofs.Entry.{holds-true}
 use Rattle.search.specs.Search.{valueIn}
 use Rattle.search.specs.Domain.{placeOf, depthNamed}
 use Rattle.model.specs.State.{Holding, Domain}
-use Rattle.model.specs.Holdings.{deeper, depthIn, named, holdingAt, isHeld, heldWritable, heldVia, onDepth, onInnermost, onCommit, holding}
+use Rattle.model.specs.Holdings.{deeper, depthIn, named, holdingAt, isHeld, heldWritable, isVia, heldVia, onDepth, onInnermost, onCommit, holding}
 use Rattle.store.specs.State.{labelOf, kindOf, heldIn, domainIn, stateIn}
 
 -- ---- lists of domains by a rule
@@ -156,7 +156,7 @@ module _ (e : ℕ) (t bodies : List ℕ) where
   held-none d c z = rw z
 
   pub held-some : (d c : ℕ) → findIn e t d c < e
-      → heldIn e t bodies d c ≡ some (record { label = labelOf (word1 e t (findIn e t d c)); kind = kindOf (word1 e t (findIn e t d c)); value = valueIn e t bodies d c })
+      → heldIn e t bodies d c ≡ some (record { label = labelOf (word1 e t (findIn e t d c)); kind = kindOf (word1 e t (findIn e t d c)) (word2 e t (findIn e t d c)); value = valueIn e t bodies d c })
   unfolding heldIn
   held-some d c h = rw (holds-true e t d c h)
 
@@ -171,11 +171,14 @@ module _ (e : ℕ) (t bodies : List ℕ) where
       (λ z. rw z (by-bool (eqb (writableOf (word1 e t (findIn e t d c))) 1) (λ y. rw y) (λ y. rw y)))
       (λ z. rw z)
 
+  kind-via : (w v : ℕ) → isVia (kindOf w v) ≡ eqb (viaOf w) 1
+  kind-via w v = by-bool (eqb (viaOf w) 1) (λ y. rw y) (λ y. rw y (by-bool (eqb (patternOf w) 1) (λ p. rw p) (λ p. rw p)))
+
   pub held-via : (d c : ℕ) → heldVia (heldIn e t bodies d c) ≡ (holdsIn e t d c && eqb (viaOf (word1 e t (findIn e t d c))) 1)
   unfolding heldIn
   held-via d c =
       by-bool (holdsIn e t d c)
-      (λ z. rw z (by-bool (eqb (viaOf (word1 e t (findIn e t d c))) 1) (λ y. rw y) (λ y. rw y)))
+      (λ z. rw z (kind-via (word1 e t (findIn e t d c)) (word2 e t (findIn e t d c))))
       (λ z. rw z)
 
 -- ---- handles

@@ -11,7 +11,7 @@ use lib.ListN.{drop}
 use Rattle.words.specs.Scan.{count}
 use Rattle.words.specs.Stores.{tabFrom}
 use Rattle.words.proofs.Scan.{by-bool, by-le, count-ext, count-none}
-use Rattle.table.specs.Entry.{live, word1, depthOf, viaOf, findIn, holdsIn}
+use Rattle.table.specs.Entry.{live, word1, word2, depthOf, viaOf, patternOf, findIn, holdsIn}
 use Rattle.table.proofs.Rule.{Rule}
 use Rattle.search.specs.Free.{slotFree, usedSlots, copies}
 use Rattle.search.proofs.Counts.{count-entries}
@@ -63,10 +63,14 @@ drop-tab g at (suc x) (suc n) =
 
 -- ---- entries, as cells of domains
 
-kind-body : (w : ℕ) → hasBody (kindOf w) ≡ eqb (viaOf w) 0
-kind-body w =
+kind-body : (w v : ℕ) → hasBody (kindOf w v) ≡ (eqb (viaOf w) 0 && eqb (patternOf w) 0)
+kind-body w v =
     by-bool (eqb (viaOf w) 0)
-    (λ z. let q = eqb-true (viaOf w) 0 z in rw (z, ne-eqb (viaOf w) 1 (λ p. omega arith)))
+    (λ z.
+    let q = eqb-true (viaOf w) 0 z in
+    by-bool (eqb (patternOf w) 0)
+    (λ y. let p = eqb-true (patternOf w) 0 y in rw (z, y, ne-eqb (viaOf w) 1 (λ a. omega arith), ne-eqb (patternOf w) 1 (λ a. omega arith)))
+    (λ y. let one : patternOf w ≡ 1 = omega (arith, eqb-false (patternOf w) 0 y) in rw (z, y, ne-eqb (viaOf w) 1 (λ a. omega arith), eq-eqb (patternOf w) 1 one)))
     (λ z. let one : viaOf w ≡ 1 = omega (arith, eqb-false (viaOf w) 0 z) in rw (z, eq-eqb (viaOf w) 1 one))
 
 module _ (m e b : ℕ) (t : List ℕ) (ok : Rule m e b t) (bodies : List ℕ) where
@@ -117,9 +121,9 @@ module _ (m e b : ℕ) (t : List ℕ) (ok : Rule m e b t) (bodies : List ℕ) wh
         (λ i l. ap (λ (a : Bool). a && p (word1 e t i)) (in-use i l))
 
   -- the holdings that have a body are the copies
-  in-body : (d c : ℕ) → heldInBody (heldIn e t bodies d c) ≡ (holdsIn e t d c && eqb (viaOf (word1 e t (findIn e t d c))) 0)
+  in-body : (d c : ℕ) → heldInBody (heldIn e t bodies d c) ≡ (holdsIn e t d c && (eqb (viaOf (word1 e t (findIn e t d c))) 0 && eqb (patternOf (word1 e t (findIn e t d c))) 0))
   unfolding heldIn
-  in-body d c = by-bool (holdsIn e t d c) (λ z. rw z (kind-body (word1 e t (findIn e t d c)))) (λ z. rw z)
+  in-body d c = by-bool (holdsIn e t d c) (λ z. rw z (kind-body (word1 e t (findIn e t d c)) (word2 e t (findIn e t d c)))) (λ z. rw z)
 
   pub entries-in-use : liveEntries m (stateIn e t bodies) ≡ usedSlots e t
   unfolding usedSlots
@@ -129,4 +133,4 @@ module _ (m e b : ℕ) (t : List ℕ) (ok : Rule m e b t) (bodies : List ℕ) wh
 
   pub copies-in-use : copiesInUse m (stateIn e t bodies) ≡ copies e t
   unfolding copies
-  copies-in-use = held-all (λ w. eqb (viaOf w) 0) heldInBody in-body
+  copies-in-use = held-all (λ w. eqb (viaOf w) 0 && eqb (patternOf w) 0) heldInBody in-body

@@ -172,6 +172,7 @@ module _ (m e b : ℕ) (t : List ℕ) (long : length t ≡ tableWords e) where
         free = λ i l z. free2 i l;
         used = λ i l z. absurd (z (free1 i l));
         outer = λ i l v. absurd (v (ap viaOf (free1 i l)));
+        outer-plain = λ i l v. absurd (v (ap viaOf (free1 i l)));
         apart-from = λ i l j h x y. absurd (x (free1 i l));
       }
 

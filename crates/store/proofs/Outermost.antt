@@ -3,26 +3,30 @@
 use Prim.Native.Nat.{ℕ, suc, _+_, _-_, _≤_, _<_}
 use mathlib.Core.Bool.{true, false, cond}
 use mathlib.Core.List.{List}
-use mathlib.Core.Option.{none}
-use mathlib.Core.Path.{_≡_, sym, ap, _∙_}
+use mathlib.Core.Option.{none, some}
+use mathlib.Core.Path.{_≡_, refl, sym, ap, _∙_}
 use native.Mathlib.Omega.{arith}
+use borrow.Author.Tests.{eqb-true, eqb-false}
+use lib.Dec.{eqb}
 use lib.ListN.{length}
-use Rattle.words.specs.Layout.{slotsOf}
+use Rattle.words.specs.Layout.{cellsOf, bodiesOf, slotsOf}
 use Rattle.words.specs.Scan.{first}
-use Rattle.words.specs.Cells.{cellBytes}
 use Rattle.words.proofs.Scan.{by-bool, first-ext}
-use Rattle.table.specs.Entry.{live, word2, holdsIn}
-use Rattle.search.specs.Search.{stepsIn, heldFrom, sourceIn, valueIn, bodyFrom}
+use Rattle.table.specs.Entry.{live, word1, word2, viaOf, isPattern, findIn, holdsIn}
+use Rattle.table.proofs.Entry.{find-hit, holds-found, pattern-none}
+use Rattle.table.proofs.Rule.{Rule}
+use Rattle.search.specs.Search.{stepsIn, heldFrom, sourceIn, sourceFrom, valueIn, bytesFrom}
+use Rattle.search.proofs.Value.{source-own-at, source-rule}
 use Rattle.search.proofs.Behind.{steps-within, steps-past, steps-hold}
 use Rattle.model.specs.State.{State}
-use Rattle.model.specs.Holdings.{holdingAt, isHeld, valueOr}
+use Rattle.model.specs.Holdings.{holdingAt, isHeld, heldRule, valueOr}
 use Rattle.model.specs.Restore.{outermost}
 use Rattle.model.proofs.Views.{outermost-search}
 use Rattle.store.specs.Outcome.{buffers}
 use Rattle.store.specs.Checks.{storeCheck, lent}
 use Rattle.store.specs.State.{heldIn, stateIn, stateOf}
 use Rattle.store.proofs.Domains.{domains-count, state-holding, state-past, held-holds}
-use Rattle.store.proofs.Raw.{raw-state}
+use Rattle.store.proofs.Raw.{raw-state, check-rule}
 
 -- ---- of the words of any table
 
@@ -57,19 +61,46 @@ module _ (e : ℕ) (t : List ℕ) (d c : ℕ) where
         (λ h. ap isHeld (outermost-found h) ∙ held-holds e t bodies (d + stepsIn e t d c) c ∙ steps-hold e t d c h ∙ sym h)
         (λ h. ap isHeld (outermost-none h) ∙ sym h)
 
-    -- its value: the body behind the chain that begins at its entry
-    held-value : (v : List ℕ) (x : ℕ) → holdsIn e t x c ≡ true → valueOr v (heldIn e t bodies x c) ≡ cellBytes bodies (word2 e t (sourceIn e t x c))
-    unfolding heldIn valueIn
+    -- its value
+    held-value : (v : List ℕ) (x : ℕ) → holdsIn e t x c ≡ true → valueOr v (heldIn e t bodies x c) ≡ valueIn e t bodies x c
+    unfolding heldIn
     held-value v x h = rw h
 
-    pub outermost-value : (v : List ℕ) → heldFrom e t d c ≡ true → valueOr v (outermost d c (stateIn e t bodies)) ≡ cellBytes bodies (bodyFrom e t d c)
+    pub outermost-value : (v : List ℕ) → heldFrom e t d c ≡ true → valueOr v (outermost d c (stateIn e t bodies)) ≡ bytesFrom e t bodies d c
     outermost-value v h = ap (valueOr v) (outermost-found h) ∙ held-value v (d + stepsIn e t d c) (steps-hold e t d c h)
 
     pub outermost-other : (v : List ℕ) → heldFrom e t d c ≡ false → valueOr v (outermost d c (stateIn e t bodies)) ≡ v
     outermost-other v h = ap (valueOr v) (outermost-none h)
 
-    pub outermost-bytes : (v : List ℕ) → valueOr v (outermost d c (stateIn e t bodies)) ≡ cond (heldFrom e t d c) (cellBytes bodies (bodyFrom e t d c)) v
+    pub outermost-bytes : (v : List ℕ) → valueOr v (outermost d c (stateIn e t bodies)) ≡ cond (heldFrom e t d c) (bytesFrom e t bodies d c) v
     outermost-bytes v = by-bool (heldFrom e t d c) (λ h. rw h (outermost-value v h)) (λ h. rw h (outermost-other v h))
+
+-- ---- of a right table: the rule that the first holder follows, if it follows one
+
+module _ (m e b : ℕ) (t : List ℕ) (ok : Rule m e b t) (bodies : List ℕ) where
+  -- what the domain at depth x holds by a rule: a via parent entry follows none, and rests on none
+  pub held-rule : (x c : ℕ) → 1 ≤ x → holdsIn e t x c ≡ true → heldRule (heldIn e t bodies x c) ≡ cond (isPattern (word1 e t (sourceIn e t x c))) (some (word2 e t (sourceIn e t x c))) none
+  unfolding heldIn
+  held-rule x c low h =
+      let l = holds-found e t x c h in
+      let i = findIn e t x c in
+      let same = source-rule m e b t ok x c low l in
+      by-bool (eqb (viaOf (word1 e t i)) 0)
+      (λ z.
+      let v = eqb-true (viaOf (word1 e t i)) 0 z in
+      let own = source-own-at e t x c i (omega arith) refl l v in
+      by-bool (isPattern (word1 e t i)) (λ p. rw (h, v, own, p)) (λ p. rw (h, v, own, p)))
+      (λ z.
+      let v = eqb-false (viaOf (word1 e t i)) 0 z in
+      let hit = find-hit e t x c l in
+      let plain = ok .used i l (λ w. omega (arith, w, hit .0, low)) .plain v in
+      let one : viaOf (word1 e t i) ≡ 1 = omega (arith, v) in
+      rw (h, one, pattern-none (word1 e t (sourceIn e t x c)) (same ∙ plain)))
+
+  pub outermost-rule : (d c : ℕ) → 1 ≤ d → heldFrom e t d c ≡ true
+      → heldRule (outermost d c (stateIn e t bodies)) ≡ cond (isPattern (word1 e t (sourceFrom e t d c))) (some (word2 e t (sourceFrom e t d c))) none
+  outermost-rule d c low h =
+      ap heldRule (outermost-found e t d c bodies low h) ∙ held-rule (d + stepsIn e t d c) c (omega arith) (steps-hold e t d c h)
 
 -- ---- of lent buffers that pass questions 1 to 4, by the words of the table as it is lent
 
@@ -78,5 +109,14 @@ module _ (memory bodies t : List ℕ) (yes : storeCheck (lent (length memory) (l
   store-held = ap (λ (s : State). isHeld (outermost d c s)) (raw-state memory bodies t yes) ∙ outermost-held (slotsOf (length t)) t d c bodies low
 
   pub store-bytes : (v : List ℕ) → valueOr v (outermost d c (stateOf (buffers memory bodies t)))
-      ≡ cond (heldFrom (slotsOf (length t)) t d c) (cellBytes bodies (bodyFrom (slotsOf (length t)) t d c)) v
+      ≡ cond (heldFrom (slotsOf (length t)) t d c) (bytesFrom (slotsOf (length t)) t bodies d c) v
   store-bytes v = ap (λ (s : State). valueOr v (outermost d c s)) (raw-state memory bodies t yes) ∙ outermost-bytes (slotsOf (length t)) t d c bodies low v
+
+  pub store-rule : heldFrom (slotsOf (length t)) t d c ≡ true → heldRule (outermost d c (stateOf (buffers memory bodies t)))
+      ≡ cond (isPattern (word1 (slotsOf (length t)) t (sourceFrom (slotsOf (length t)) t d c))) (some (word2 (slotsOf (length t)) t (sourceFrom (slotsOf (length t)) t d c))) none
+  store-rule h =
+      ap (λ (s : State). heldRule (outermost d c s)) (raw-state memory bodies t yes)
+      ∙ outermost-rule (cellsOf (length memory)) (slotsOf (length t)) (bodiesOf (length bodies)) t (check-rule (length memory) (length bodies) t yes) bodies d c low h
+
+  pub store-none : heldFrom (slotsOf (length t)) t d c ≡ false → outermost d c (stateOf (buffers memory bodies t)) ≡ none
+  store-none h = ap (outermost d c) (raw-state memory bodies t yes) ∙ outermost-none (slotsOf (length t)) t d c bodies low h

@@ -41,7 +41,7 @@ pub front-state : (m e b : ℕ) (t bodies : List ℕ) → Rule m e b t → state
 front-state m e b t bodies r =
     state-kept m e b t (take (pairsAt e) t) bodies bodies r
     (λ i l. getD-take (pairsAt e) t (firstAt e i) 0 (omega arith))
-    (λ i c. let l : i < e = c .slot in getD-take (pairsAt e) t (secondAt e i) 0 (omega arith))
+    (λ i l. getD-take (pairsAt e) t (secondAt e i) 0 (omega arith))
     (λ i c. refl)
     (getD-take (pairsAt e) t liveAt 0 (omega arith))
     (getD-take (pairsAt e) t nextAt 0 (omega arith))
@@ -52,7 +52,7 @@ pub front-copy : (e : ℕ) (t : List ℕ) (i : ℕ) → Copy e (take (pairsAt e)
 front-copy e t i c =
     let l : i < e = c .slot in
     let w : word1 e (take (pairsAt e) t) i ≡ word1 e t i = getD-take (pairsAt e) t (firstAt e i) 0 (omega arith) in
-    record { slot = l; used = λ z. c .used (w ∙ z); copy = rw w at (c .copy) }
+    record { slot = l; used = λ z. c .used (w ∙ z); copy = rw w at (c .copy); plain = rw w at (c .plain) }
 
 pub front-second : (e : ℕ) (t : List ℕ) (i : ℕ) → i < e → word2 e (take (pairsAt e) t) i ≡ word2 e t i
 front-second e t i l = getD-take (pairsAt e) t (secondAt e i) 0 (omega arith)

@@ -14,14 +14,14 @@ use Rattle.words.specs.Stores.{tab}
 use Rattle.words.specs.Cells.{cellBytes}
 use Rattle.words.proofs.Scan.{by-bool}
 use Rattle.words.proofs.Plans.{length-tab, getD-tab, tab-below}
-use Rattle.table.specs.Entry.{live, nextHandle, handle, word1, word2, depthOf, viaOf, parent, names, findIn, holdsIn}
-use Rattle.table.proofs.Entry.{names-both, names-make, find-hit, find-miss, find-some, find-at, find-ext, holds-true, holds-false, holds-found, holds-none}
+use Rattle.table.specs.Entry.{live, nextHandle, handle, word1, word2, depthOf, viaOf, patternOf, isPattern, parent, names, findIn, holdsIn}
+use Rattle.table.proofs.Entry.{names-both, names-make, find-hit, find-miss, find-some, find-at, find-ext, holds-true, holds-false, holds-found, holds-none, pattern-one, pattern-zero, pattern-none}
 use Rattle.table.proofs.Rule.{Rule}
 use Rattle.table.proofs.Single.{only-one}
-use Rattle.search.specs.Search.{valueIn}
-use Rattle.search.proofs.Value.{Copy, value-copy, value-via, value-kept}
+use Rattle.search.specs.Search.{ownValue, valueIn}
+use Rattle.search.proofs.Value.{Copy, value-own, value-via, value-kept}
 use Rattle.model.specs.State.{Holding, Domain, State}
-use Rattle.store.specs.State.{ValueIs, ofCopy, ofParent, HoldingIs, nothing, entry, DomainIs, noDomain, StandsFor, heldIn, domainIn, stateIn}
+use Rattle.store.specs.State.{ValueIs, ofCopy, ofRule, ofParent, HoldingIs, nothing, entry, DomainIs, noDomain, StandsFor, heldIn, domainIn, stateIn}
 
 pub bit : (w : ℕ) → (viaOf w ≡ 0 → ⊥) → viaOf w ≡ 1
 bit w h = omega (arith, h)
@@ -55,11 +55,17 @@ module _ (m e b : ℕ) (t : List ℕ) (ok : Rule m e b t) where
   module _ (bodies : List ℕ) where
     -- ---- values
 
-    at-copy : (d c i : ℕ) → 1 ≤ d → findIn e t d c ≡ i → i < e → viaOf (word1 e t i) ≡ 0 → valueIn e t bodies d c ≡ cellBytes bodies (word2 e t i)
-    at-copy zero c i l f h v = absurd (not-suc-le-zero l)
-    at-copy (suc d) c i l f h v =
-        value-copy e t bodies d c (subst (λ (x : ℕ). x < e) (sym f) h) (subst (λ (x : ℕ). viaOf (word1 e t x) ≡ 0) (sym f) v)
-        ∙ ap (λ (x : ℕ). cellBytes bodies (word2 e t x)) f
+    at-own : (d c i : ℕ) → 1 ≤ d → findIn e t d c ≡ i → i < e → viaOf (word1 e t i) ≡ 0 → valueIn e t bodies d c ≡ ownValue bodies (word1 e t i) (word2 e t i)
+    at-own zero c i l f h v = absurd (not-suc-le-zero l)
+    at-own (suc d) c i l f h v =
+        value-own e t bodies d c (subst (λ (x : ℕ). x < e) (sym f) h) (subst (λ (x : ℕ). viaOf (word1 e t x) ≡ 0) (sym f) v)
+        ∙ ap (λ (x : ℕ). ownValue bodies (word1 e t x) (word2 e t x)) f
+
+    of-own : (d c i : ℕ) → i < e → names d c (word1 e t i) ≡ true → viaOf (word1 e t i) ≡ 0 → ValueIs e t bodies d c (ownValue bodies (word1 e t i) (word2 e t i))
+    of-own d c i h n v =
+        by-bool (isPattern (word1 e t i))
+        (λ p. rw p (ofRule h n v (pattern-one (word1 e t i) p)))
+        (λ p. rw p (ofCopy h n v (pattern-zero (word1 e t i) p)))
 
     at-via : (d c i : ℕ) → 1 ≤ d → findIn e t d c ≡ i → i < e → (viaOf (word1 e t i) ≡ 0 → ⊥) → valueIn e t bodies d c ≡ valueIn e t bodies (parent d) c
     at-via zero c i l f h v = absurd (not-suc-le-zero l)
@@ -73,7 +79,7 @@ module _ (m e b : ℕ) (t : List ℕ) (ok : Rule m e b t) where
     value-is (suc d) c l h =
         by-bool (eqb (viaOf (word1 e t (findIn e t (suc d) c))) 0)
         (λ z. let v = eqb-true _ _ z in
-        subst (λ (x : List ℕ). ValueIs e t bodies (suc d) c x) (sym (value-copy e t bodies d c h v)) (ofCopy h (found-names (suc d) c h) v))
+        subst (λ (x : List ℕ). ValueIs e t bodies (suc d) c x) (sym (value-own e t bodies d c h v)) (of-own (suc d) c (findIn e t (suc d) c) h (found-names (suc d) c h) v))
         (λ z.
         let v = eqb-false (viaOf (word1 e t (findIn e t (suc d) c))) 0 z in
         let n = found-names (suc d) c h in
@@ -85,7 +91,8 @@ module _ (m e b : ℕ) (t : List ℕ) (ok : Rule m e b t) where
         (ofParent h n (bit (word1 e t (findIn e t (suc d) c)) v) (subst (λ (x : ℕ). ValueIs e t bodies x c (valueIn e t bodies d c)) back (value-is d c one out))))
 
     pub value-only : {d c : ℕ} {v : List ℕ} → 1 ≤ d → ValueIs e t bodies d c v → v ≡ valueIn e t bodies d c
-    value-only l (ofCopy {d = d} {c = c} {i = i} h n z) = sym (at-copy d c i l (found d c i l h n) h z)
+    value-only l (ofCopy {d = d} {c = c} {i = i} h n z p) = sym (at-own d c i l (found d c i l h n) h z ∙ rw (pattern-none (word1 e t i) p))
+    value-only l (ofRule {d = d} {c = c} {i = i} h n z p) = sym (at-own d c i l (found d c i l h n) h z ∙ rw p)
     value-only l (ofParent {d = d} {c = c} {i = i} h n z r) =
         let v : viaOf (word1 e t i) ≡ 0 → ⊥ = λ y. omega (arith, y, z) in
         let two = via-deep d c i h n v in
@@ -144,7 +151,7 @@ module _ (m e b : ℕ) (t : List ℕ) (ok : Rule m e b t) where
 -- ---- what the state does not read: it depends on words 4, 5 and 8 to 15, the entries, and the bodies in use
 module _ (m e b : ℕ) (t u old new : List ℕ) (ok : Rule m e b t)
     (firsts : (i : ℕ) → i < e → word1 e u i ≡ word1 e t i)
-    (seconds : (i : ℕ) → Copy e t i → word2 e u i ≡ word2 e t i)
+    (seconds : (i : ℕ) → i < e → word2 e u i ≡ word2 e t i)
     (bytes : (i : ℕ) → Copy e t i → cellBytes new (word2 e t i) ≡ cellBytes old (word2 e t i)) where
   pub held-kept : (d c : ℕ) → 1 ≤ d → heldIn e u new d c ≡ heldIn e t old d c
   unfolding heldIn holdsIn
@@ -153,7 +160,12 @@ module _ (m e b : ℕ) (t u old new : List ℕ) (ok : Rule m e b t)
       let kinds : (x : ℕ) → findIn e t x c < e → viaOf (word1 e u (findIn e t x c)) ≡ viaOf (word1 e t (findIn e t x c)) = λ x h. ap viaOf (firsts (findIn e t x c) h) in
       rw (finds d)
       (by-bool (holdsIn e t d c)
-      (λ p. let h = holds-found e t d c p in rw (p, firsts (findIn e t d c) h, value-kept e t u c m b ok old new seconds bytes d l h (record { finds = λ x l′ k. finds x; kinds = λ x l′ k. kinds x })))
+      (λ p.
+      let h = holds-found e t d c p in
+      let value =
+      value-kept e t u c m b ok old new (λ i k. ap patternOf (firsts i (k .slot))) (λ i k. seconds i (k .slot)) bytes d l h
+      (record { finds = λ x l′ k. finds x; kinds = λ x l′ k. kinds x }) in
+      rw (p, firsts (findIn e t d c) h, seconds (findIn e t d c) h, value))
       (λ p. rw p))
 
   pub state-kept : live u ≡ live t → nextHandle u ≡ nextHandle t → ((k : ℕ) → k < live t → handle u k ≡ handle t k) → stateIn e u new ≡ stateIn e t old

@@ -33,7 +33,7 @@ same-length-2 c = search needs
 returns : tie.Need-returns
 returns c = let a = c .before .before .before .before .before .before .before .before .before .before .before .before .before .before .before .before .before .args in
     let r = rw (c .before .before .before .before .before .before .before .before .before .before .before .before .before .wide .ensures, c .before .before .before .before .before .before .before .before .before .before .before .before .wide2 .ensures) at (c .before .before .before .before .add-few .ensures) in
-    (r, ap visibleOf r ∙ add-means (a .handle) (a .first) (a .count) (a .kind) (a .label) _ _)
+    (r, ap visibleOf r ∙ add-means (a .handle) (a .first) (a .count) (a .kind) (a .rule) (a .label) _ _)
 
 add-some-requires : tie.Need-add-some-requires
 add-some-requires c κs = search needs
@@ -47,7 +47,7 @@ same-length-4 c = search needs
 returns-2 : tie.Need-returns-2
 returns-2 c = let a = c .before .before .before .before .before .before .before .before .before .before .before .before .before .before .before .before .before .before .args in
     let r = rw (c .before .before .before .before .before .before .before .before .before .before .before .before .before .before .wide .ensures, c .before .before .before .before .before .before .before .before .before .before .before .before .before .wide2 .ensures) at (c .before .before .before .before .add-some .ensures) in
-    (r, ap visibleOf r ∙ add-means (a .handle) (a .first) (a .count) (a .kind) (a .label) _ _)
+    (r, ap visibleOf r ∙ add-means (a .handle) (a .first) (a .count) (a .kind) (a .rule) (a .label) _ _)
 
 add-many-requires : tie.Need-add-many-requires
 add-many-requires c κs = search needs
@@ -61,7 +61,7 @@ same-length-6 c = search needs
 returns-3 : tie.Need-returns-3
 returns-3 c = let a = c .before .before .before .before .before .before .before .before .before .before .before .before .before .before .before .before .before .before .args in
     let r = rw (c .before .before .before .before .before .before .before .before .before .before .before .before .before .before .wide .ensures, c .before .before .before .before .before .before .before .before .before .before .before .before .before .wide2 .ensures) at (c .before .before .before .before .add-many .ensures) in
-    (r, ap visibleOf r ∙ add-means (a .handle) (a .first) (a .count) (a .kind) (a .label) _ _)
+    (r, ap visibleOf r ∙ add-means (a .handle) (a .first) (a .count) (a .kind) (a .rule) (a .label) _ _)
 
 pub add-spec : {M : Type 1} → statement M
 add-spec =

@@ -24,7 +24,7 @@ same-length-2 c = search needs
 returns : tie.Need-returns
 returns c =
     let a = c .before .before .before .before .before .before .before .before .before .before .before .before .before .args in
-    (check-store (a .memory .now) (a .bodies .now) (a .table .now) _ _ _ _ _ (c .before .before .before .before .before .store-check .result) (c .before .before .before .before .before .store-check .ensures .0) (c .if1 .taken), λ z. absurd (c .if1 .taken z))
+    (check-store (a .memory .now) (a .bodies .now) (a .table .now) _ _ _ _ _ _ (c .before .before .before .before .before .store-check .result) (c .before .before .before .before .before .store-check .ensures .0) (c .if1 .taken), λ z. absurd (c .if1 .taken z))
 
 cells-of-requires : tie.Need-cells-of-requires
 cells-of-requires c κs = search needs
@@ -46,7 +46,7 @@ returns-2 : tie.Need-returns-2
 returns-2 c =
     let a = c .before .before .before .before .before .before .before .before .before .before .before .before .before .before .before .before .args in
     let here = rw (c .before .before .cells-of .ensures) at (c .before .range-check .ensures) in
-    (check-range (a .memory .now) (a .bodies .now) (a .table .now) _ _ _ _ _ (c .before .range-check .result) (sym (c .before .before .before .before .before .before .before .before .store-check .ensures .0) ∙ c .before .before .before .if1 .left) here (c .if2 .taken), λ z. absurd (c .if2 .taken z))
+    (check-range (a .memory .now) (a .bodies .now) (a .table .now) _ _ _ _ _ _ (c .before .range-check .result) (sym (c .before .before .before .before .before .before .before .before .store-check .ensures .0) ∙ c .before .before .before .if1 .left) here (c .if2 .taken), λ z. absurd (c .if2 .taken z))
 
 held-check-requires : tie.Need-held-check-requires
 held-check-requires c κs =
@@ -68,7 +68,7 @@ same-length-6 c = search needs
 returns-3 : tie.Need-returns-3
 returns-3 c =
     let a = c .before .before .before .before .before .before .before .before .before .before .before .before .before .before .before .before .before .before .args in (
-      check-rest (a .memory .now) (a .bodies .now) (a .table .now) (a .handle) (a .range .first) (a .range .count) (a .range .kind) (a .range .label) (c .held-check .result) (sym (c .before .before .before .before .before .before .before .before .before .before .store-check .ensures .0) ∙ c .before .before .before .before .before .if1 .left) (sym (rw (c .before .before .before .before .cells-of .ensures) at (c .before .before .before .range-check .ensures)) ∙ c .before .before .if2 .left) (c .held-check .ensures),
+      check-rest (a .memory .now) (a .bodies .now) (a .table .now) (a .handle) (a .range .first) (a .range .count) (a .range .kind) (a .range .rule) (a .range .label) (c .held-check .result) (sym (c .before .before .before .before .before .before .before .before .before .before .store-check .ensures .0) ∙ c .before .before .before .before .before .if1 .left) (sym (rw (c .before .before .before .before .cells-of .ensures) at (c .before .before .before .range-check .ensures)) ∙ c .before .before .if2 .left) (c .held-check .ensures),
       λ z. c .before .before .before .before .before .before .before .before .before .before .store-check .ensures .1 (c .before .before .before .before .before .if1 .left),
     )
 

@@ -28,12 +28,12 @@ same-length-4 c = search needs
 returns : tie.Need-returns
 returns c =
     let a = c .before .before .before .before .before .before .before .before .before .before .before .before .before .before .before .args in
-    add-refused (a .memory .now) (a .bodies .now) (a .table .now) (a .handle) (a .range .first) (a .range .count) (a .range .kind) (a .range .label) (a .budget) _ (c .before .before .before .before .before .add-check .ensures .0) (c .if1 .taken)
+    add-refused (a .memory .now) (a .bodies .now) (a .table .now) (a .handle) (a .range .first) (a .range .count) (a .range .kind) (a .range .rule) (a .range .label) (a .budget) _ (c .before .before .before .before .before .add-check .ensures .0) (c .if1 .taken)
 
 add-stores-requires : tie.Need-add-stores-requires
 add-stores-requires c κs =
     let a = c .before .before .before .before .before .before .before .before .before .before .before .before .before .before .before .before .before .before .before .args in
-    let ready = add-ready (a .memory .now) (a .bodies .now) (a .table .now) (a .handle) (a .range .first) (a .range .count) (a .range .kind) (a .range .label) (sym (c .before .before .before .before .before .before .before .before .before .add-check .ensures .0) ∙ c .before .before .before .before .if1 .left) in
+    let ready = add-ready (a .memory .now) (a .bodies .now) (a .table .now) (a .handle) (a .range .first) (a .range .count) (a .range .kind) (a .range .rule) (a .range .label) (sym (c .before .before .before .before .before .before .before .before .before .add-check .ensures .0) ∙ c .before .before .before .before .if1 .left) in
     let marks = c .before .before .before .before .before .before .before .before .before .add-check .ensures .1 (c .before .before .before .before .if1 .left) in
     let f = store-lengths _ _ (a .table .now) (ready .store) in
     (ready, (omega (arith, ready .range, f .cells-high, kept-cells _ (marks .kept)), c .before .before .before .before .before .before .before .before .before .add-check .kept .1 .1 .1 .1 .1 .0 ∙ c .before .before .before .before .before .before .before .before .before .before .before .before .before .before .before .before .before .before .before .pre .bodies, marks, checked-ends _ _ (a .table .now) (ready .store) (a .top) (c .before .before .before .before .before .before .before .before .before .before .before .before .before .before .before .before .before .before .before .pre .reached)))
@@ -57,7 +57,7 @@ returns-2 : tie.Need-returns-2
 returns-2 c =
     let a = c .before .before .before .before .before .before .before .before .before .before .before .before .before .before .before .before .before .before .before .before .before .before .before .before .before .args in
     let s = c .before .before .before .before .before .add-stores .ensures in
-    add-performed (a .memory .now) (a .bodies .now) (a .table .now) (a .handle) (a .range .first) (a .range .count) (a .range .kind) (a .range .label) (a .budget) (c .before .before .before .before .before .add-stores .result) _ _ _ (sym (c .before .before .before .before .before .before .before .before .before .before .before .before .before .before .before .add-check .ensures .0) ∙ c .before .before .before .before .before .before .before .before .before .before .if1 .left) (s .0) (s .1 .0) (s .1 .1) (c .answer-of .ensures)
+    add-performed (a .memory .now) (a .bodies .now) (a .table .now) (a .handle) (a .range .first) (a .range .count) (a .range .kind) (a .range .rule) (a .range .label) (a .budget) (c .before .before .before .before .before .add-stores .result) _ _ _ (sym (c .before .before .before .before .before .before .before .before .before .before .before .before .before .before .before .add-check .ensures .0) ∙ c .before .before .before .before .before .before .before .before .before .before .if1 .left) (s .0) (s .1 .0) (s .1 .1) (c .answer-of .ensures)
 
 pub add-marked-spec : {M : Type 1} → statement M
 add-marked-spec =

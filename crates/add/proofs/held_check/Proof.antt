@@ -11,11 +11,11 @@ use borrow.Author.Needs.{needs}
 use Rattle.add.proofs.held_check.Statement.{statement}
 use Rattle.add.proofs.held_check.Tie as tie
 
-parent-check-requires : tie.Need-parent-check-requires
-parent-check-requires c κs = search needs
+value-check-requires : tie.Need-value-check-requires
+value-check-requires c κs = search needs
 
 returns : tie.Need-returns
-returns c = c .before .parent-check .ensures ∙ sym (orElse-stop _ _ (λ z. c .if1 .taken (c .before .parent-check .ensures ∙ z)))
+returns c = c .before .value-check .ensures ∙ sym (orElse-stop _ _ (λ z. c .if1 .taken (c .before .value-check .ensures ∙ z)))
 
 shared-slice-read-count-new : tie.Need-shared-slice-read-count-new
 shared-slice-read-count-new c = let f = store-lengths _ _ (c .before .before .before .before .before .before .before .args .table .now) (c .before .before .before .before .before .before .before .pre .0 .0) in omega (arith, f .table-exact)
@@ -41,13 +41,13 @@ returns-2 c =
     let a = c .before .before .before .before .before .before .before .before .before .before .before .args in
     let many = c .before .before .before .count-new .ensures ∙ count-held _ (a .table .now) (a .held .now) (c .before .before .before .before .before .before .before .before .before .before .before .pre .1 .1) (c .before .before .before .before .before .before .before .before .before .before .before .pre .0 .1) (a .range .first) (a .range .count) in
     (rw (c .before .before .slots-of .ensures, c .before .cells-of .ensures, many) at (c .room-check .ensures))
-    ∙ sym (orElse-go _ _ (sym (c .before .before .before .before .before .before .parent-check .ensures) ∙ c .before .before .before .before .before .if1 .left))
+    ∙ sym (orElse-go _ _ (sym (c .before .before .before .before .before .before .value-check .ensures) ∙ c .before .before .before .before .before .if1 .left))
 
 pub held-check-spec : {M : Type 1} → statement M
 held-check-spec =
     tie.close
     (tie.spec
-    parent-check-requires
+    value-check-requires
     returns
     shared-slice-read-count-new
     count-new-requires

@@ -1,4 +1,4 @@
--- `add::pass_entry` meets its contract: of a free slot and of an entry in use (proofs/Walks.antt). Assumes nothing.
+-- `add::pass_entry` meets its contract. Assumes nothing.
 use mathlib.Core.Path.{refl, sym, _∙_}
 use native.Mathlib.Omega.{arith}
 use borrow.Author.Tests.{eq-eqb, ne-eqb}
@@ -58,17 +58,20 @@ cast-cell c = search needs
 entry-word-requires : tie.Need-entry-word-requires
 entry-word-requires c κs = search needs
 
-cast-stage-entry : tie.Need-cast-stage-entry
-cast-stage-entry c = let a = c .before .before .before .before .before .before .before .before .before .before .before .before .before .before .before .before .args in omega (arith, c .before .before .before .before .take-body .ensures, c .before .before .before .before .before .before .before .before .before .before .before .before .before .before .before .before .pre .1 .0 .places, body-small (a .used .now) (a .bodies) (a .range .kind) (a .walk .from) (c .before .before .before .before .before .before .before .before .before .before .before .before .before .before .before .before .pre .1 .1 .stands .body))
+cast-second-of : tie.Need-cast-second-of
+cast-second-of c = let a = c .before .before .before .before .before .before .before .before .before .before .before .before .before .before .args in omega (arith, c .before .before .take-body .ensures, c .before .before .before .before .before .before .before .before .before .before .before .before .before .before .pre .1 .0 .places, body-small (a .used .now) (a .bodies) (a .range .kind) (a .walk .from) (c .before .before .before .before .before .before .before .before .before .before .before .before .before .before .pre .1 .1 .stands .body))
+
+second-of-requires : tie.Need-second-of-requires
+second-of-requires c κs = search needs
 
 stage-entry-requires : tie.Need-stage-entry-requires
 stage-entry-requires c κs = search needs
 
-add-t24 : tie.Need-add-t24
-add-t24 c = search needs
+add-t25 : tie.Need-add-t25
+add-t25 c = search needs
 
-add-t30 : tie.Need-add-t30
-add-t30 c = let a = c .before .before .before .before .before .before .before .before .before .before .before .before .before .before .before .before .before .before .before .before .before .args in omega (arith, c .before .before .before .before .before .before .before .before .before .take-body .ensures, c .before .before .before .before .before .before .before .before .before .before .before .before .before .before .before .before .before .before .before .before .before .pre .1 .0 .places, body-small (a .used .now) (a .bodies) (a .range .kind) (a .walk .from) (c .before .before .before .before .before .before .before .before .before .before .before .before .before .before .before .before .before .before .before .before .before .pre .1 .1 .stands .body))
+add-t31 : tie.Need-add-t31
+add-t31 c = let a = c .before .before .before .before .before .before .before .before .before .before .before .before .before .before .before .before .before .before .before .before .before .before .args in omega (arith, c .before .before .before .before .before .before .before .before .before .before .take-body .ensures, c .before .before .before .before .before .before .before .before .before .before .before .before .before .before .before .before .before .before .before .before .before .before .pre .1 .0 .places, body-small (a .used .now) (a .bodies) (a .range .kind) (a .walk .from) (c .before .before .before .before .before .before .before .before .before .before .before .before .before .before .before .before .before .before .before .before .before .before .pre .1 .1 .stands .body))
 
 same-length-3 : tie.Need-same-length-3
 same-length-3 c = search needs
@@ -78,12 +81,12 @@ same-length-4 c = search needs
 
 returns-3 : tie.Need-returns-3
 returns-3 c =
-    let a = c .before .before .before .before .before .before .before .before .before .before .before .before .before .before .before .before .before .before .before .before .before .args in
-    let w = c .before .before .before .before .before .before .before .before .before .before .before .before .before .before .before .before .before .before .before .before .before .pre .1 .1 in
-    let free = eq-eqb _ 0 (sym (c .before .before .before .before .before .before .before .before .before .before .before .before .before .before .first-word .ensures) ∙ c .before .before .before .before .before .before .before .before .before .before .before .before .before .if1 .left) in
+    let a = c .before .before .before .before .before .before .before .before .before .before .before .before .before .before .before .before .before .before .before .before .before .before .args in
+    let w = c .before .before .before .before .before .before .before .before .before .before .before .before .before .before .before .before .before .before .before .before .before .before .pre .1 .1 in
+    let free = eq-eqb _ 0 (sym (c .before .before .before .before .before .before .before .before .before .before .before .before .before .before .before .first-word .ensures) ∙ c .before .before .before .before .before .before .before .before .before .before .before .before .before .before .if1 .left) in
     record {
-      stands = taken-stands (a .held .now) (a .used .now) (a .slots) (a .bodies) (a .table .now) (a .range) (a .i) (a .walk) (w .stands) free _ (c .before .before .before .before .before .before .before .before .before .before .before .before .next-new .ensures) (c .before .before .before .before .before .before .before .before .before .before .if2 .left) _ (c .before .before .before .before .before .before .before .before .before .take-body .ensures) (c .before .before .before .before .before .before .before .before .before .before .before .before .before .before .before .before .before .before .before .before .before .pre .1 .0 .enough);
-      staged = stages-put (w .staged) (taken-change (a .held .now) (a .used .now) (a .slots) (a .bodies) (a .table .now) (a .range) (a .i) (a .walk) (w .stands) free _ (c .before .before .before .before .before .before .before .before .before .before .before .before .next-new .ensures) (c .before .before .before .before .before .before .before .before .before .before .if2 .left) _ (c .before .before .before .before .before .before .before .before .before .take-body .ensures)) (rw (c .before .before .before .before .before .before .before .entry-word .ensures) at (c .before .before .before .before .stage-entry .ensures));
+      stands = taken-stands (a .held .now) (a .used .now) (a .slots) (a .bodies) (a .table .now) (a .range) (a .i) (a .walk) (w .stands) free _ (c .before .before .before .before .before .before .before .before .before .before .before .before .before .next-new .ensures) (c .before .before .before .before .before .before .before .before .before .before .before .if2 .left) _ (c .before .before .before .before .before .before .before .before .before .before .take-body .ensures) (c .before .before .before .before .before .before .before .before .before .before .before .before .before .before .before .before .before .before .before .before .before .before .pre .1 .0 .enough);
+      staged = stages-put (w .staged) (taken-change (a .held .now) (a .used .now) (a .slots) (a .bodies) (a .table .now) (a .range) (a .i) (a .walk) (w .stands) free _ (c .before .before .before .before .before .before .before .before .before .before .before .before .before .next-new .ensures) (c .before .before .before .before .before .before .before .before .before .before .before .if2 .left) _ (c .before .before .before .before .before .before .before .before .before .before .take-body .ensures) _ (c .before .before .before .before .before .before .before .second-of .ensures)) (rw (c .before .before .before .before .before .before .before .before .entry-word .ensures) at (c .before .before .before .before .stage-entry .ensures));
     }
 
 pub pass-entry-spec : {M : Type 1} → statement M
@@ -102,10 +105,11 @@ pass-entry-spec =
     add-cell
     cast-cell
     entry-word-requires
-    cast-stage-entry
+    cast-second-of
+    second-of-requires
     stage-entry-requires
-    add-t24
-    add-t30
+    add-t25
+    add-t31
     same-length-3
     same-length-4
     returns-3)

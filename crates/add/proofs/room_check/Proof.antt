@@ -1,7 +1,7 @@
 -- `add::room_check` meets its contract. Assumes nothing.
 use Prim.Native.Nat.{_-_}
 use native.Mathlib.Omega.{arith}
-use Rattle.add.proofs.Asking.{used-small, copies-small, room-16, room-via, room-17, room-0}
+use Rattle.add.proofs.Asking.{used-small, copies-small, room-16, room-none, room-17, room-0}
 use borrow.Author.Needs.{needs}
 use Rattle.add.proofs.room_check.Statement.{statement}
 use Rattle.add.proofs.room_check.Tie as tie
@@ -16,7 +16,7 @@ returns : tie.Need-returns
 returns c = room-16 _ _ _ _ _ (rw (c .before .before .count-used .ensures .0) at (c .if1 .taken))
 
 returns-2 : tie.Need-returns-2
-returns-2 c = room-via _ _ _ _ _ (rw (c .before .before .before .count-used .ensures .0) at (c .before .if1 .left)) (c .if2 .taken)
+returns-2 c = room-none _ _ _ _ _ (rw (c .before .before .before .count-used .ensures .0) at (c .before .if1 .left)) (c .if2 .taken)
 
 add-if3 : tie.Need-add-if3
 add-if3 c = omega (arith, c .before .before .before .before .count-used .ensures .1, copies-small (c .before .before .before .before .before .before .args .slots) (c .before .before .before .before .before .before .args .table .now) 0 0 0)

@@ -1,4 +1,4 @@
--- `look` meets its contract: each place's 64 bytes lie in their buffer. Assumes nothing.
+-- `look::look` meets its contract. Assumes nothing.
 use mathlib.Core.Path.{refl}
 use native.Mathlib.Omega.{arith}
 use Rattle.words.proofs.Cells.{part-from}
@@ -65,6 +65,18 @@ part-result-end-3 c =
     let w = bodies-within (buffers (a .memory .now) (a .bodies .now) (a .table .now)) _ _ (c .before .at2 .given .1) (c .before .before .before .look-place .ensures .1 .1) in
     omega arith
 
+enum-told-2 : tie.Need-enum-told-2
+enum-told-2 c = search needs
+
+sub-result-4 : tie.Need-sub-result-4
+sub-result-4 c = search needs
+
+part-result-start-4 : tie.Need-part-result-start-4
+part-result-start-4 c = search needs
+
+part-result-end-4 : tie.Need-part-result-end-4
+part-result-end-4 c = search needs
+
 returns : tie.Need-returns
 returns c =
     let a = c .before .before .before .before .before .before .before .args in
@@ -79,6 +91,11 @@ returns-3 : tie.Need-returns-3
 returns-3 c =
     let a = c .before .before .before .before .before .before .before .before .args in
     part-shown (a .handle) (a .cell) (buffers (a .memory .now) (a .bodies .now) (a .table .now)) _ _ _ (c .before .before .at2 .given .1) (c .before .before .before .before .look-place .ensures .0) (c .before .before .before .before .look-place .ensures .1 .0) (part-from (a .bodies .now) (c .before .before .at2 .given .0 .0))
+
+returns-4 : tie.Need-returns-4
+returns-4 c =
+    let a = c .before .before .before .before .before .before .before .args in
+    part-shown (a .handle) (a .cell) (buffers (a .memory .now) (a .bodies .now) (a .table .now)) _ _ _ (c .before .enum-told2 .given .1) (c .before .before .before .look-place .ensures .0) (c .before .before .before .look-place .ensures .1 .0) refl
 
 pub look-spec : {M : Type 1} → statement M
 look-spec =
@@ -99,6 +116,11 @@ look-spec =
     sub-result-3
     part-result-start-3
     part-result-end-3
+    enum-told-2
+    sub-result-4
+    part-result-start-4
+    part-result-end-4
     returns
     returns-2
-    returns-3)
+    returns-3
+    returns-4)

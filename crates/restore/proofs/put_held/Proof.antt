@@ -1,8 +1,8 @@
--- `put_held` meets its contract: the search that begins at the first holder finds what one from the named depth finds. Assumes nothing.
+-- `restore::put_held` meets its contract. Assumes nothing.
 use mathlib.Core.Path.{_∙_}
 use native.Mathlib.Omega.{arith}
 use Rattle.search.proofs.Behind.{nowhere-held}
-use Rattle.restore.proofs.Finding.{put-none, put-source, put-live, put-once, put-unheld, put-first, put-fits, put-some}
+use Rattle.restore.proofs.Finding.{put-none, put-source, put-live, put-once, put-unheld, put-first, put-fits, put-body, put-rule}
 use borrow.Author.Needs.{needs}
 use Rattle.restore.proofs.put_held.Statement.{statement}
 use Rattle.restore.proofs.put_held.Tie as tie
@@ -68,6 +68,18 @@ part-put-cell-end c =
 put-cell-requires : tie.Need-put-cell-requires
 put-cell-requires c κs = search needs
 
+enum-known-rule : tie.Need-enum-known-rule
+enum-known-rule c = search needs
+
+pattern-bytes-requires : tie.Need-pattern-bytes-requires
+pattern-bytes-requires c κs = search needs
+
+slice-aggregate-put-cell : tie.Need-slice-aggregate-put-cell
+slice-aggregate-put-cell c = search needs
+
+put-cell-requires-2 : tie.Need-put-cell-requires-2
+put-cell-requires-2 c κs = search needs
+
 returns-2 : tie.Need-returns-2
 returns-2 c =
     let a = c .before .before .before .before .before .before .before .before .before .before .args in
@@ -83,7 +95,17 @@ returns-3 c =
     let a = c .before .before .before .before .before .before .before .before .before .before .before .before .before .before .before .before .before .before .args in
     let p = c .before .before .before .before .before .before .before .before .before .before .before .before .before .before .before .before .before .before .pre in
     let v = c .before .before .before .before .before .before .before .before .before .before .find-value .ensures ∙ put-first _ (a .slots) (a .table .now) (a .depth) (a .cell) (a .bodies .now) (p .1 .0) (p .0 .2) (a .held) (p .1 .1) _ (c .before .before .before .before .before .before .before .before .before .before .before .first-depth .ensures) in
-    put-some _ (a .slots) (a .table .now) (a .depth) (a .cell) (a .bodies .now) (p .1 .0) (p .0 .2) _ _ _ v (c .before .before .before .before .before .before .before .before .body .given .1) (a .memory .now) (a .budget) _ _ _ (c .before .before .before .before .before .before .wide .ensures) (c .before .before .before .before .before .cell-at .ensures) (c .before .before .put-cell .ensures)
+    put-body _ (a .slots) (a .table .now) (a .depth) (a .cell) (a .bodies .now) (p .1 .0) (p .0 .2) _ _ _ v (c .before .before .before .before .before .before .before .before .body .given .1) (a .memory .now) (a .budget) _ _ _ (c .before .before .before .before .before .before .wide .ensures) (c .before .before .before .before .before .cell-at .ensures) (c .before .before .put-cell .ensures)
+
+same-length-2 : tie.Need-same-length-2
+same-length-2 c = search needs
+
+returns-4 : tie.Need-returns-4
+returns-4 c =
+    let a = c .before .before .before .before .before .before .before .before .before .before .before .before .before .before .before .before .before .args in
+    let p = c .before .before .before .before .before .before .before .before .before .before .before .before .before .before .before .before .before .pre in
+    let v = c .before .before .before .before .before .before .before .before .before .find-value .ensures ∙ put-first _ (a .slots) (a .table .now) (a .depth) (a .cell) (a .bodies .now) (p .1 .0) (p .0 .2) (a .held) (p .1 .1) _ (c .before .before .before .before .before .before .before .before .before .before .first-depth .ensures) in
+    put-rule _ (a .slots) (a .table .now) (a .depth) (a .cell) (a .bodies .now) (p .1 .0) (p .0 .2) _ _ _ v (c .before .before .before .before .before .before .before .rule .given .1) (a .memory .now) (a .budget) _ _ (c .before .before .before .before .before .pattern-bytes .ensures) (c .before .before .put-cell2 .ensures)
 
 pub put-held-spec : {M : Type 1} → statement M
 put-held-spec =
@@ -102,6 +124,12 @@ put-held-spec =
     part-put-cell-start
     part-put-cell-end
     put-cell-requires
+    enum-known-rule
+    pattern-bytes-requires
+    slice-aggregate-put-cell
+    put-cell-requires-2
     returns-2
     same-length
-    returns-3)
+    returns-3
+    same-length-2
+    returns-4)
