@@ -23,7 +23,7 @@
  *
  * - Each pointer points to so many elements (lengths are in elements, table_len in words), aligned for its type.
  * - No pointer is NULL, with one exception: a buffer of length 0 may be, and the call is then refused with DS_REFUSED_LENGTHS without looking at it.
- *   Out parameters (steps, handle, handles, count, place, offset) are stored to by every call, refused ones too, so none of them is ever NULL.
+ *   Out parameters (steps, handle, handles, count, place, offset, rule) are stored to by every call, refused ones too, so none of them is ever NULL.
  * - Buffers and out parameters do not overlap. A pointer is to const where the call never stores into that buffer.
  * - One call at a time is made on a store, with nothing else storing into its buffers meanwhile.
  */
@@ -43,7 +43,7 @@ extern "C" {
 /* A call that was stopped by its budget: ds_open comes next. */
 #define DS_STOPPED 255u
 
-/* Why a call was refused: the first of these that holds, in this order. */
+/* Why a call was refused: the first of these that holds, in this order (18 and 19 are asked after 12). */
 
 /* A buffer's length is not allowed. */
 #define DS_REFUSED_LENGTHS 1u
@@ -59,7 +59,7 @@ extern "C" {
 #define DS_REFUSED_NO_SUCH_DOMAIN 5u
 /* The domain is not the innermost. */
 #define DS_REFUSED_NOT_INNERMOST 6u
-/* Kind or label is not 0 or 1. */
+/* Kind is not 0 to 2, or label is not 0 or 1. */
 #define DS_REFUSED_KIND_OR_LABEL 7u
 /* The range of cells is empty or ends past memory. */
 #define DS_REFUSED_RANGE 8u
@@ -71,6 +71,10 @@ extern "C" {
 #define DS_REFUSED_PARENT_LACKS_CELL 11u
 /* Via parent: memory differs from the parent's value in a newly held cell. */
 #define DS_REFUSED_MEMORY_DIFFERS 12u
+/* By a rule: there is no such rule (it is above 3), or memory differs from the rule's bytes in a newly held cell. */
+#define DS_REFUSED_PATTERN_DIFFERS 18u
+/* Via parent: the parent holds a newly held cell by a rule, on which via parent never rests. Hold the cell by the same rule, or by copy. */
+#define DS_REFUSED_PARENT_HOLDS_BY_RULE 19u
 /* The domain does not hold a cell that is to be deleted. */
 #define DS_REFUSED_NOT_HELD 13u
 /* The next domain in holds, via this one, a cell that is to be deleted. */
@@ -85,12 +89,24 @@ extern "C" {
 /* Kinds and labels of ds_add. */
 #define DS_COPY 0u
 #define DS_VIA_PARENT 1u
+#define DS_PATTERN 2u
 #define DS_READ_ONLY 0u
 #define DS_READ_WRITE 1u
+
+/* Rules of a pattern: what the 64 bytes of a cell are that is held with DS_PATTERN. */
+/* All 0. */
+#define DS_RULE_ZEROS 0u
+/* All 255: every bit is one. */
+#define DS_RULE_ONES 1u
+/* Byte i is i. */
+#define DS_RULE_INDEX 2u
+/* 0, 0, 128, 63 over and over: sixteen little-endian floats of 1, a scale of one. */
+#define DS_RULE_SCALE 3u
 
 /* Places of ds_look. */
 #define DS_IN_MEMORY 1u
 #define DS_IN_BODIES 2u
+#define DS_BY_RULE 3u
 
 /* Makes a fresh store: no domains, next handle 1, no entries. Whatever the table held before is gone once the first store is made. */
 uint32_t ds_make(const uint8_t *memory, size_t memory_len, const uint8_t *bodies, size_t bodies_len, uint32_t *table, size_t table_len,
@@ -106,9 +122,11 @@ uint32_t ds_create(const uint8_t *memory, size_t memory_len, const uint8_t *bodi
                    uint64_t budget, uint64_t *steps, uint32_t *handle);
 
 /* Holds `count` cells from `first` on in the innermost domain, which `handle` names (0 means the innermost). A cell not yet held is held with memory's
- * bytes (DS_COPY) or by the parent's value (DS_VIA_PARENT); one already held keeps kind and value, and becomes read-write if the label is. */
+ * bytes (DS_COPY), by the parent's value (DS_VIA_PARENT) or by a rule (DS_PATTERN), which takes no body: memory has to have the bytes of `rule`
+ * (DS_RULE_..). Other kinds ignore `rule`. A cell already held keeps kind and value, and becomes read-write if the label is. */
 uint32_t ds_add(const uint8_t *memory, size_t memory_len, uint8_t *bodies, size_t bodies_len, uint32_t *table, size_t table_len,
-                uint32_t handle, uint32_t first, uint32_t count, uint32_t kind, uint32_t label, uint64_t budget, uint64_t *steps);
+                uint32_t handle, uint32_t first, uint32_t count, uint32_t kind, uint32_t rule, uint32_t label, uint64_t budget,
+                uint64_t *steps);
 
 /* Frees `count` cells from `first` on of the named domain, and of no other. */
 uint32_t ds_delete(const uint8_t *memory, size_t memory_len, const uint8_t *bodies, size_t bodies_len, uint32_t *table, size_t table_len,
@@ -133,9 +151,10 @@ uint32_t ds_list(const uint8_t *memory, size_t memory_len, const uint8_t *bodies
                  uint32_t handles[8], uint32_t *count);
 
 /* Tells where the 64 bytes stand that ds_restore of this handle would leave in this cell: *place is DS_IN_MEMORY or DS_IN_BODIES (0 where refused),
- * *offset the first of them in that buffer. */
+ * *offset the first of them in that buffer. Or they stand nowhere, since the cell is held by a rule: *place is DS_BY_RULE, *offset 0 and *rule the
+ * rule's number (DS_RULE_..; 0 elsewhere). */
 uint32_t ds_look(const uint8_t *memory, size_t memory_len, const uint8_t *bodies, size_t bodies_len, const uint32_t *table, size_t table_len,
-                 uint32_t handle, uint32_t cell, uint32_t *place, uint64_t *offset);
+                 uint32_t handle, uint32_t cell, uint32_t *place, uint64_t *offset, uint32_t *rule);
 
 #ifdef __cplusplus
 }

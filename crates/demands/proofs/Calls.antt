@@ -11,8 +11,8 @@ use Rattle.words.proofs.Scan.{by-bool}
 use Rattle.model.specs.State.{State}
 use Rattle.model.specs.Answer.{Report, ended, View, view, orElse, stepsOf}
 use Rattle.model.specs.Calls.{Effect, refuse, change, orRefuse, createChecks, listed, viewedWith}
-use Rattle.model.specs.Holdings.{isLive, addChecks, deleteChecks, advanceChecks, commitChecks}
-use Rattle.model.specs.Restore.{Looked, lookChecks, lookedBy, restoreChecks}
+use Rattle.model.specs.Holdings.{named, heldRule, isLive, addChecks, deleteChecks, advanceChecks, commitChecks}
+use Rattle.model.specs.Restore.{Looked, lookChecks, lookedBy, restoreChecks, outermost, restoredCell}
 use Rattle.model.specs.History.{create, add, delete, advance, commit, Reading, list, look, Request, changes, restore, reads}
 use Rattle.model.specs.Session.{readChecks, effectOf}
 use Rattle.model.proofs.Views.{viewed-plain}
@@ -109,12 +109,13 @@ list-report b = go (asked b)
 
 look-report : (h c : ℕ) (b : Buffers) → placeReport (lookPlace h c b) ≡ readAnswer (orElse (asked b) (lookChecks (cellsOf (length (b .memory))) h c (stateOf b)))
 unfolding lookMeans
-look-report h c b = ap (λ (l : Looked). l .report) (look-means h c b) ∙ go (asked b) (lookChecks (cellsOf (length (b .memory))) h c (stateOf b)) _
+look-report h c b = ap (λ (l : Looked). l .report) (look-means h c b) ∙ go (asked b) (lookChecks (cellsOf (length (b .memory))) h c (stateOf b))
+    (heldRule (outermost (named h (stateOf b)) c (stateOf b))) (restoredCell (named h (stateOf b)) (stateOf b) (b .memory) c)
   where
-    go : (q own : ℕ) (p : List ℕ) → (orLookRefused q (lookedBy own p)) .report ≡ readAnswer (orElse q own)
-    go zero zero p = refl
-    go zero (suc n) p = refl
-    go (suc n) own p = refl
+    go : (q own : ℕ) (r : Option ℕ) (p : List ℕ) → (orLookRefused q (lookedBy own r p)) .report ≡ readAnswer (orElse q own)
+    go zero zero r p = refl
+    go zero (suc n) r p = refl
+    go (suc n) own r p = refl
 
 -- ---- a dead handle
 
@@ -140,11 +141,11 @@ facts (changes create) b = record {
   fine = fine-refuse (createChecks (stateOf b)) _ _ _ _ (create-fine (roomOf b) (b .memory) (stateOf b));
   dead = λ h e d. absurd (subst None e tt);
 }
-facts (changes (add h first n i l)) b = record {
-  shows = λ k. add-means h first n i l k b ∙ plain _ k b;
-  pends = λ k good. add-pending h first n i l k b good;
-  planned = add-planned b h first n i l;
-  fine = fine-refuse (addChecks (roomOf b) (b .memory) h first n i l (stateOf b)) _ _ _ _ (add-fine (roomOf b) (b .memory) (stateOf b) h first n i l);
+facts (changes (add h first n i u l)) b = record {
+  shows = λ k. add-means h first n i u l k b ∙ plain _ k b;
+  pends = λ k good. add-pending h first n i u l k b good;
+  planned = add-planned b h first n i u l;
+  fine = fine-refuse (addChecks (roomOf b) (b .memory) h first n i u l (stateOf b)) _ _ _ _ (add-fine (roomOf b) (b .memory) (stateOf b) h first n i u l);
   dead = λ a e d. rw (not-live h a (stateOf b) e d);
 }
 facts (changes (delete h first n)) b = record {

@@ -136,9 +136,9 @@ demand-2 = record {
   done-ready = done-ready;
   add-takes = add-takes;
   add-is = add-is;
-  add-any = λ h first n kind label b slot body may. record {
-    shown = add-with-means h first n kind label b slot body may;
-    reopens = add-with-reopens h first n kind label b slot body may;
+  add-any = λ h first n kind rule label b slot body may. record {
+    shown = add-with-means h first n kind rule label b slot body may;
+    reopens = add-with-reopens h first n kind rule label b slot body may;
   };
   advance-takes = advance-takes;
   advance-is = advance-is;

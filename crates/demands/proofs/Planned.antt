@@ -81,15 +81,15 @@ module _ (b : Buffers) where
       change-planned _ b (createCheck (lentOf b)) [] (createWords (b .table)) (nextHandle (b .table)) (λ k. refl)
       (λ q. at-most (change-length (pairsAt (slots b)) [] (createWords (b .table)) ∙ ap (stepsOf 0) (create-words (b .table))) (change-bound 0 3 (slots b) (omega arith) (omega arith)))
 
-  pub add-planned : (h first n i l : ℕ) → Planned (λ k. outcome (addCall h first n i l b) k b) b
+  pub add-planned : (h first n i u l : ℕ) → Planned (λ k. outcome (addCall h first n i u l b) k b) b
   unfolding addCall
-  add-planned h first n i l =
+  add-planned h first n i u l =
       let bytes = addBytes (bodiesOf (length (b .bodies))) (b .memory) (b .table) first n i in
-      let ws = addWords (bodiesOf (length (b .bodies))) (b .table) first n i l in
-      change-planned _ b (addCheck b h first n i l) bytes ws 0 (λ k. refl)
+      let ws = addWords (bodiesOf (length (b .bodies))) (b .table) first n i u l in
+      change-planned _ b (addCheck b h first n i u l) bytes ws 0 (λ k. refl)
       (λ q.
       at-most (change-length (pairsAt (slots b)) bytes ws)
-      (add-bound (b .memory) (b .bodies) (b .table) first n i l (add-ready (b .memory) (b .bodies) (b .table) h first n i l q)))
+      (add-bound (b .memory) (b .bodies) (b .table) first n i u l (add-ready (b .memory) (b .bodies) (b .table) h first n i u l q)))
 
   pub delete-planned : (h first n : ℕ) → Planned (λ k. outcome (deleteCall h first n b) k b) b
   unfolding deleteCall

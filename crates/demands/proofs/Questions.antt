@@ -11,7 +11,7 @@ use Rattle.words.specs.Journal.{pending}
 use Rattle.model.specs.State.{State}
 use Rattle.model.specs.Answer.{ask, orElse}
 use Rattle.model.specs.Calls.{Effect, refuse, change, orRefuse, createChecks}
-use Rattle.model.specs.Holdings.{Room, named, holdingAt, isHeld, heldVia, isVia, hasBody, liveEntries, copiesInUse, isLive, isInnermost, rangeOk, kindNumbered, newlyHeld, parentHolds, parentSame, writableCells, parentCovers, addChecks, deleteChecks, advanceChecks, commitChecks}
+use Rattle.model.specs.Holdings.{Room, named, holdingAt, isHeld, heldVia, isVia, isSome, ruleOf, hasBody, liveEntries, copiesInUse, isLive, isInnermost, rangeOk, kindNumbered, newlyHeld, parentHolds, parentSame, ruleFits, parentPlain, writableCells, parentCovers, addChecks, deleteChecks, advanceChecks, commitChecks}
 use Rattle.model.specs.Restore.{restoreChecks, lookChecks}
 use Rattle.store.specs.Outcome.{Buffers}
 use Rattle.store.specs.Checks.{shapeCheck, tableCheck, makeCheck, openCheck, storeCheck, lentOf}
@@ -82,16 +82,18 @@ module _ (room : Room) (memory : List ℕ) (s : State) where
   pub create-fine : Fine (createChecks s)
   create-fine = fine-ask (ltb (length (s .domains)) 8) 9 _ refl (fine-ask (ltb (s .next) 4_294_967_295) 10 0 refl fine-none)
 
-  pub add-fine : (h first n k l : ℕ) → Fine (addChecks room memory h first n k l s)
-  add-fine h first n k l =
+  pub add-fine : (h first n k r l : ℕ) → Fine (addChecks room memory h first n k r l s)
+  add-fine h first n k r l =
       fine-ask (isLive h s) 5 _ refl
       (fine-ask (isInnermost h s) 6 _ refl
-      (fine-ask (leb k 1 && leb l 1) 7 _ refl
+      (fine-ask (leb k 2 && leb l 1) 7 _ refl
       (fine-ask (rangeOk (room .cells) first n) 8 _ refl
-      (fine-ask (not (isVia (kindNumbered k)) || parentHolds first n s) 11 _ refl
-      (fine-ask (not (isVia (kindNumbered k)) || parentSame memory first n s) 12 _ refl
+      (fine-ask (not (isVia (kindNumbered k r)) || parentHolds first n s) 11 _ refl
+      (fine-ask (not (isVia (kindNumbered k r)) || parentSame memory first n s) 12 _ refl
+      (fine-ask (not (isSome (ruleOf (kindNumbered k r))) || ruleFits memory r first n s) 18 _ refl
+      (fine-ask (not (isVia (kindNumbered k r)) || parentPlain first n s) 19 _ refl
       (fine-ask (leb (liveEntries (room .cells) s + newlyHeld first n s) (room .slots)) 16 _ refl
-      (fine-ask (not (hasBody (kindNumbered k)) || leb (copiesInUse (room .cells) s + newlyHeld first n s) (room .bodies)) 17 0 refl fine-none)))))))
+      (fine-ask (not (hasBody (kindNumbered k r)) || leb (copiesInUse (room .cells) s + newlyHeld first n s) (room .bodies)) 17 0 refl fine-none)))))))))
 
   pub delete-fine : (m h first n : ℕ) → Fine (deleteChecks m h first n s)
   delete-fine m h first n =

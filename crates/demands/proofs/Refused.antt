@@ -113,7 +113,7 @@ demand-1 = record {
   wrong-table = λ c k b e f p t. call-refuses c k 3 b (asked-4 b e f p t);
   wrong-table-opening = λ k b e f t. open-refuses k 3 b (opens-4 b e f t);
   stale-handle = λ c h k b good e d. state-refuses c k 5 b good (facts c b .dead h e d);
-  past-add = λ h first n kind label k b good live inner kinds range. state-refuses (changes (add h first n kind label)) k 8 b good (rw (live, inner, kinds, range));
+  past-add = λ h first n kind rule label k b good live inner kinds range. state-refuses (changes (add h first n kind rule label)) k 8 b good (rw (live, inner, kinds, range));
   past-delete = λ h first n k b good live range. state-refuses (changes (delete h first n)) k 8 b good (rw (live, range));
   past-look = λ h c k b good live range. state-refuses (reads (look h c)) k 8 b good (rw (live, range));
 }

@@ -13,7 +13,7 @@ use Rattle.model.specs.Session.{Input, call, opening, write}
 use Rattle.store.specs.Outcome.{Buffers}
 use Rattle.demands.specs.Session.{session, openingRule}
 use Rattle.demands.specs.Demands.{madeFrom}
-use Rattle.demands.specs.Starred.{scenario, initialBuffers, byCopy, readWrite}
+use Rattle.demands.specs.Starred.{scenario, initialBuffers, byCopy, noRule, readWrite}
 
 -- a fresh store of two cells, three entry slots and three bodies; every byte of memory is 1
 abbrev pub start : Buffers
@@ -80,7 +80,7 @@ creates = call (changes create) 100
 
 -- every add is by copy and read-write; add and delete name a handle, a first cell and a count
 abbrev pub adds : (h first n : ℕ) → Input
-adds h first n = call (changes (add h first n byCopy readWrite)) 200
+adds h first n = call (changes (add h first n byCopy noRule readWrite)) 200
 
 abbrev pub deletes : (h first n : ℕ) → Input
 deletes h first n = call (changes (delete h first n)) 100

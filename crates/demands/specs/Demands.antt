@@ -116,7 +116,7 @@ isLater (write ws) = false
 -- the handle that a call names
 abbrev pub handleOf : Request → Option ℕ
 handleOf (changes create) = none
-handleOf (changes (add h first n kind label)) = some h
+handleOf (changes (add h first n kind rule label)) = some h
 handleOf (changes (delete h first n)) = some h
 handleOf (changes (advance h)) = some h
 handleOf (changes (commit h)) = some h
@@ -124,9 +124,9 @@ handleOf (restore h) = some h
 handleOf (reads list) = none
 handleOf (reads (look h c)) = some h
 
--- "the number in document 01": that of one of its questions, 1 to 17
+-- "the number in document 01": that of one of its questions, 1 to 17, or of document 02's 18 and 19
 abbrev pub isQuestion : ℕ → Bool
-isQuestion n = leb 1 n && leb n 17
+isQuestion n = leb 1 n && leb n 19
 
 pub record Demand1 : Type 0 where
   -- a refusal has the number of a question
@@ -147,9 +147,9 @@ pub record Demand1 : Type 0 where
   pub stale-handle : (c : Request) (h k : ℕ) (b : Buffers) → asked b ≡ 0 → handleOf c ≡ some h → isLive h (stateOf b) ≡ false
       → callOn c k b ≡ leaves (refused 5) b
   -- "or a range past the memory"
-  pub past-add : (h first n kind label k : ℕ) (b : Buffers) → asked b ≡ 0 → isLive h (stateOf b) ≡ true → isInnermost h (stateOf b) ≡ true
-      → (leb kind 1 && leb label 1) ≡ true → rangeOk (cellsOf (length (b .memory))) first n ≡ false
-      → callOn (changes (add h first n kind label)) k b ≡ leaves (refused 8) b
+  pub past-add : (h first n kind rule label k : ℕ) (b : Buffers) → asked b ≡ 0 → isLive h (stateOf b) ≡ true → isInnermost h (stateOf b) ≡ true
+      → (leb kind 2 && leb label 1) ≡ true → rangeOk (cellsOf (length (b .memory))) first n ≡ false
+      → callOn (changes (add h first n kind rule label)) k b ≡ leaves (refused 8) b
   pub past-delete : (h first n k : ℕ) (b : Buffers) → asked b ≡ 0 → isLive h (stateOf b) ≡ true → rangeOk (cellsOf (length (b .memory))) first n ≡ false
       → callOn (changes (delete h first n)) k b ≡ leaves (refused 8) b
   pub past-look : (h c k : ℕ) (b : Buffers) → asked b ≡ 0 → isLive h (stateOf b) ≡ true → rangeOk (cellsOf (length (b .memory))) c 1 ≡ false
@@ -242,7 +242,7 @@ pub record Demand2 : Type 0 where
   pub open-shows : (k : ℕ) (b : Buffers) → visibleOf (outcome (openCall b) k b) ≡ openMeans k b
   pub call-shows : (c : Request) (k : ℕ) (b : Buffers) → visibleOf (callOn c k b) ≡ callView c k b
   pub look-shows : (h c : ℕ) (b : Buffers) → shownAt (lookPlace h c b) b ≡ lookMeans h c b
-  -- "a part of the lent bodies, or of the lent memory where nobody from that domain inwards holds the cell", inside that buffer
+  -- "a part of the lent bodies, or of the lent memory where nobody from that domain inwards holds the cell", inside that buffer; or "the rule number"
   pub look-tells : (h c : ℕ) (b : Buffers) → asked b ≡ 0 → isLive h (stateOf b) ≡ true → rangeOk (cellsOf (length (b .memory))) c 1 ≡ true
       → lookPlace h c b ≡ placeByState h c b
   pub look-within : (h c : ℕ) (b : Buffers) → placeWithin (lookPlace h c b) b
@@ -260,10 +260,10 @@ pub record Demand2 : Type 0 where
   pub done-ready : (i : Input) (b : Buffers) → isCall i ≡ true → (inputOn i b) .report .status ≡ isDone → asked ((inputOn i b) .buffers) ≡ 0
   -- the slots and bodies that add takes, and the bodies that advance takes, were free before the call and differ; and with any such places each means
   -- the same
-  pub add-takes : (h first n kind label : ℕ) (b : Buffers) → adding.MayTake h first n kind label b (lowestSlot first b) (lowestBody first b)
-  pub add-is : (h first n kind label : ℕ) (b : Buffers) → addCall h first n kind label b ≡ adding.addWith (lowestSlot first b) (lowestBody first b) h first n kind label b
-  pub add-any : (h first n kind label : ℕ) (b : Buffers) (slot body : ℕ → ℕ) → adding.MayTake h first n kind label b slot body
-      → Means (adding.addWith slot body h first n kind label b) (λ k. addMeans h first n kind label k b) b
+  pub add-takes : (h first n kind rule label : ℕ) (b : Buffers) → adding.MayTake h first n kind rule label b (lowestSlot first b) (lowestBody first b)
+  pub add-is : (h first n kind rule label : ℕ) (b : Buffers) → addCall h first n kind rule label b ≡ adding.addWith (lowestSlot first b) (lowestBody first b) h first n kind rule label b
+  pub add-any : (h first n kind rule label : ℕ) (b : Buffers) (slot body : ℕ → ℕ) → adding.MayTake h first n kind rule label b slot body
+      → Means (adding.addWith slot body h first n kind rule label b) (λ k. addMeans h first n kind rule label k b) b
   pub advance-takes : (h : ℕ) (b : Buffers) → advancing.MayTake h b (advanceBody b)
   pub advance-is : (h : ℕ) (b : Buffers) → advanceCall h b ≡ advancing.advanceWith (advanceBody b) h b
   pub advance-any : (h : ℕ) (b : Buffers) (body : ℕ → ℕ) → advancing.MayTake h b body → Means (advancing.advanceWith body h b) (λ k. advanceMeans h k b) b

@@ -20,7 +20,7 @@ use Rattle.look.specs.Look.{lookPlace, placeReport}
 -- a changing call as its contract has it
 abbrev pub changeCall : Changing → Buffers → Call
 changeCall create b = createCall b
-changeCall (add h first n kind label) b = addCall h first n kind label b
+changeCall (add h first n kind rule label) b = addCall h first n kind rule label b
 changeCall (delete h first n) b = deleteCall h first n b
 changeCall (advance h) b = advanceCall h b
 changeCall (commit h) b = commitCall h b

@@ -59,46 +59,50 @@ byCopy = 0
 abbrev pub viaParent : ℕ
 viaParent = 1
 
+-- "with a rule number that other kinds ignore"
+abbrev pub noRule : ℕ
+noRule = 0
+
 abbrev pub readOnly : ℕ
 readOnly = 0
 
 abbrev pub readWrite : ℕ
 readWrite = 1
 
--- ---- the twelve edges, in document 01's order. add names a handle, first cell, count, kind and label; delete a handle, first cell and count.
+-- ---- the twelve edges, in document 01's order. add names a handle, first cell, count, kind, rule and label; delete a handle, first cell and count.
 
 abbrev pub starred : List Edge
 starred =
     -- "Domain 1 copies cell 0 = 7 read-write; write 9; restore 1: 7."
-    usual (fill 0 7 ∷ does create ∷ does (add 1 0 1 byCopy readWrite) ∷ fill 0 9 ∷ restores 1 ∷ shows (7 ∷ 1 ∷ 1 ∷ 1 ∷ []) ∷ [])
+    usual (fill 0 7 ∷ does create ∷ does (add 1 0 1 byCopy noRule readWrite) ∷ fill 0 9 ∷ restores 1 ∷ shows (7 ∷ 1 ∷ 1 ∷ 1 ∷ []) ∷ [])
     -- "Cell 0 held read-write by 2 only; advance: 15."
-    ∷ usual (does create ∷ does create ∷ does (add 2 0 1 byCopy readWrite) ∷ gives (advance 2) 15 ∷ [])
+    ∷ usual (does create ∷ does create ∷ does (add 2 0 1 byCopy noRule readWrite) ∷ gives (advance 2) 15 ∷ [])
     -- "1 holds 7 read-only, 2 copies it read-write, write 9, commit, advance 1, write 11, restore 1: 9."
-    ∷ usual (fill 0 7 ∷ does create ∷ does (add 1 0 1 byCopy readOnly) ∷ does create ∷ does (add 2 0 1 byCopy readWrite) ∷ fill 0 9
+    ∷ usual (fill 0 7 ∷ does create ∷ does (add 1 0 1 byCopy noRule readOnly) ∷ does create ∷ does (add 2 0 1 byCopy noRule readWrite) ∷ fill 0 9
     ∷ does (commit 2) ∷ does (advance 1) ∷ fill 0 11 ∷ restores 1 ∷ shows (9 ∷ 1 ∷ 1 ∷ 1 ∷ []) ∷ [])
     -- "1 holds 7, write 9, create 2, add via parent: 12."
-    ∷ usual (fill 0 7 ∷ does create ∷ does (add 1 0 1 byCopy readWrite) ∷ fill 0 9 ∷ does create ∷ gives (add 2 0 1 viaParent readWrite) 12
+    ∷ usual (fill 0 7 ∷ does create ∷ does (add 1 0 1 byCopy noRule readWrite) ∷ fill 0 9 ∷ does create ∷ gives (add 2 0 1 viaParent noRule readWrite) 12
     ∷ [])
     -- "1 holds 7 read-write, 2 holds it via parent read-write, write 9, add by copy to 2, restore 2: 7."
-    ∷ usual (fill 0 7 ∷ does create ∷ does (add 1 0 1 byCopy readWrite) ∷ does create ∷ does (add 2 0 1 viaParent readWrite) ∷ fill 0 9
-    ∷ does (add 2 0 1 byCopy readWrite) ∷ restores 2 ∷ shows (7 ∷ 1 ∷ 1 ∷ 1 ∷ []) ∷ [])
+    ∷ usual (fill 0 7 ∷ does create ∷ does (add 1 0 1 byCopy noRule readWrite) ∷ does create ∷ does (add 2 0 1 viaParent noRule readWrite) ∷ fill 0 9
+    ∷ does (add 2 0 1 byCopy noRule readWrite) ∷ restores 2 ∷ shows (7 ∷ 1 ∷ 1 ∷ 1 ∷ []) ∷ [])
     -- "1 holds 7, 2 holds 9, restore 1: 7, one domain live."
-    ∷ usual (fill 0 7 ∷ does create ∷ does (add 1 0 1 byCopy readWrite) ∷ fill 0 9 ∷ does create ∷ does (add 2 0 1 byCopy readWrite)
+    ∷ usual (fill 0 7 ∷ does create ∷ does (add 1 0 1 byCopy noRule readWrite) ∷ fill 0 9 ∷ does create ∷ does (add 2 0 1 byCopy noRule readWrite)
     ∷ lists 2 ∷ restores 1 ∷ shows (7 ∷ 1 ∷ 1 ∷ 1 ∷ []) ∷ lists 1 ∷ [])
     -- "Delete cell 0 from 1 while 2 holds it via parent: 14."
-    ∷ usual (does create ∷ does (add 1 0 1 byCopy readWrite) ∷ does create ∷ does (add 2 0 1 viaParent readWrite) ∷ gives (delete 1 0 1) 14
+    ∷ usual (does create ∷ does (add 1 0 1 byCopy noRule readWrite) ∷ does create ∷ does (add 2 0 1 viaParent noRule readWrite) ∷ gives (delete 1 0 1) 14
     ∷ [])
     -- "B = 1, one read-write copy, advance: 17. B = 2: done."
-    ∷ (scenario 4 8 1 (does create ∷ does (add 1 0 1 byCopy readWrite) ∷ gives (advance 1) 17 ∷ [])
-    ∷ scenario 4 8 2 (does create ∷ does (add 1 0 1 byCopy readWrite) ∷ does (advance 1) ∷ []) ∷ [])
+    ∷ (scenario 4 8 1 (does create ∷ does (add 1 0 1 byCopy noRule readWrite) ∷ gives (advance 1) 17 ∷ [])
+    ∷ scenario 4 8 2 (does create ∷ does (add 1 0 1 byCopy noRule readWrite) ∷ does (advance 1) ∷ []) ∷ [])
     -- "E = 1, cell 0 held: add cells 0 and 1 gives 16; add cell 0 is done."
-    ∷ (scenario 4 1 8 (does create ∷ does (add 1 0 1 byCopy readWrite) ∷ gives (add 1 0 2 byCopy readWrite) 16
-    ∷ does (add 1 0 1 byCopy readWrite) ∷ []) ∷ [])
+    ∷ (scenario 4 1 8 (does create ∷ does (add 1 0 1 byCopy noRule readWrite) ∷ gives (add 1 0 2 byCopy noRule readWrite) 16
+    ∷ does (add 1 0 1 byCopy noRule readWrite) ∷ []) ∷ [])
     -- "Eighth create done, ninth 9."
     ∷ usual (does create ∷ does create ∷ does create ∷ does create ∷ does create ∷ does create ∷ does create ∷ does create
     ∷ gives create 9 ∷ [])
     -- "First 3, count 1 done; first 4, count 1 gives 8; count 0 gives 8."
-    ∷ usual (does create ∷ does (add 1 3 1 byCopy readWrite) ∷ gives (add 1 4 1 byCopy readWrite) 8 ∷ gives (add 1 3 0 byCopy readWrite) 8
+    ∷ usual (does create ∷ does (add 1 3 1 byCopy noRule readWrite) ∷ gives (add 1 4 1 byCopy noRule readWrite) 8 ∷ gives (add 1 3 0 byCopy noRule readWrite) 8
     ∷ gives (delete 1 4 1) 8 ∷ gives (delete 1 3 0) 8 ∷ does (delete 1 3 1) ∷ [])
     -- "Commit the last domain, restore handle 0: 5."
     ∷ usual (does create ∷ does (commit 1) ∷ calls (restore 0) 5 ∷ []) ∷ []

@@ -14,7 +14,7 @@ use Rattle.model.specs.Calls.{Listed}
 use Rattle.store.specs.Outcome.{Buffers, Outcome, leaves}
 use Rattle.look.specs.Look.{placeWithin}
 use Rattle.look.specs.declared.Place.{Place}
-use Rattle.look.specs.declared.Place.the-variants.{Refused, Memory, Bodies}
+use Rattle.look.specs.declared.Place.the-variants.{Refused, Memory, Bodies, Rule}
 use Rattle.look.proofs.Placing.{memory-within, bodies-within}
 use Rattle.domain_store.specs.Boundary.{numberOf, returned, returnedBy, eight, listedInC, listedBy, lookedInC, lookedBy, offsetWithin}
 
@@ -43,13 +43,17 @@ module _ (r : Report) (k : ℕ) (hs : List ℕ) (l : Listed) (g : record { repor
   pub handles-listed : (to : List ℕ) → ((j : ℕ) → j < 8 → getD to j 0 ≡ getD hs j 0) → eight to ≡ eight (l .handles)
   handles-listed to h = tab-below _ (λ j. getD hs j 0) 8 h ∙ ap (λ (x : Listed). eight (x .handles)) g
 
--- a place that was found, by its case: refused, in memory, in bodies
+-- a place that was found, by its case: refused, in memory, in bodies, by a rule
 module _ (b : Buffers) (x q : Place) (same : x ≡ q) (within : placeWithin x b) where
-  pub in-none : (n : ℕ) → x ≡ Refused n → (lookedInC n 0 0 ≡ lookedBy q) × offsetWithin 0 0 b
-  in-none n e = (ap lookedBy (sym e ∙ same), (λ z. absurd (omega arith), λ z. absurd (omega arith)))
+  pub in-none : (n : ℕ) → x ≡ Refused n → (lookedInC n 0 0 0 ≡ lookedBy q) × offsetWithin 0 0 0 b
+  in-none n e = (ap lookedBy (sym e ∙ same), (λ z. absurd (omega arith), λ z. absurd (omega arith), λ z. absurd (omega arith)))
 
-  pub in-memory : (at : ℕ) → x ≡ Memory at → (lookedInC 0 1 at ≡ lookedBy q) × offsetWithin 1 at b
-  in-memory at e = (ap lookedBy (sym e ∙ same), (λ z. memory-within b x at e within, λ z. absurd (omega arith)))
+  pub in-memory : (at : ℕ) → x ≡ Memory at → (lookedInC 0 1 at 0 ≡ lookedBy q) × offsetWithin 1 at 0 b
+  in-memory at e = (ap lookedBy (sym e ∙ same), (λ z. memory-within b x at e within, λ z. absurd (omega arith), λ z. absurd (omega arith)))
 
-  pub in-bodies : (at : ℕ) → x ≡ Bodies at → (lookedInC 0 2 at ≡ lookedBy q) × offsetWithin 2 at b
-  in-bodies at e = (ap lookedBy (sym e ∙ same), (λ z. absurd (omega arith), λ z. bodies-within b x at e within))
+  pub in-bodies : (at : ℕ) → x ≡ Bodies at → (lookedInC 0 2 at 0 ≡ lookedBy q) × offsetWithin 2 at 0 b
+  in-bodies at e = (ap lookedBy (sym e ∙ same), (λ z. absurd (omega arith), λ z. bodies-within b x at e within, λ z. absurd (omega arith)))
+
+  pub in-rule : (r : ℕ) → x ≡ Rule r → (lookedInC 0 3 0 r ≡ lookedBy q) × offsetWithin 3 0 r b
+  in-rule r e =
+      (ap lookedBy (sym e ∙ same), (λ z. absurd (omega arith), λ z. absurd (omega arith), λ z. subst (λ (y : Place). placeWithin y b) e within))

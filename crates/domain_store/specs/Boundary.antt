@@ -5,11 +5,12 @@ use mathlib.Core.Path.{_≡_}
 use lib.ListN.{length, getD}
 use Rattle.words.specs.Layout.{cellSize}
 use Rattle.words.specs.Stores.{tab}
+use Rattle.patterns.specs.Pattern.{maxRule}
 use Rattle.model.specs.Answer.{Status, isDone, isStopped, isRefused}
 use Rattle.model.specs.Calls.{Listed}
 use Rattle.store.specs.Outcome.{Buffers, Call, Outcome, outcome}
 use Rattle.look.specs.declared.Place.{Place}
-use Rattle.look.specs.declared.Place.the-variants.{Refused, Memory, Bodies}
+use Rattle.look.specs.declared.Place.the-variants.{Refused, Memory, Bodies, Rule}
 
 -- 0 when done, 255 when stopped by its budget, else the refusal's number
 abbrev pub numberOf : Status → (refusal : ℕ) → ℕ
@@ -48,20 +49,23 @@ listedInC n c = record { number = n; count = c }
 abbrev pub listedBy : Listed → ListedInC
 listedBy l = listedInC (numberOf (l .report .status) (l .report .refusal)) (l .count)
 
--- look: the number, which buffer (1 memory, 2 bodies, 0 refused), and the offset of the 64 bytes in it
+-- look: the number; where the 64 bytes stand (1 in memory, 2 in bodies, 3 by a rule, 0 refused); their offset in that buffer; and the rule
 pub record LookedInC : Type 0 where
   pub number : ℕ
   pub place : ℕ
   pub offset : ℕ
+  pub rule : ℕ
 
-abbrev pub lookedInC : (number place offset : ℕ) → LookedInC
-lookedInC n p o = record { number = n; place = p; offset = o }
+abbrev pub lookedInC : (number place offset rule : ℕ) → LookedInC
+lookedInC n p o r = record { number = n; place = p; offset = o; rule = r }
 
 abbrev pub lookedBy : Place → LookedInC
-lookedBy (Refused n) = lookedInC n 0 0
-lookedBy (Memory at) = lookedInC 0 1 at
-lookedBy (Bodies at) = lookedInC 0 2 at
+lookedBy (Refused n) = lookedInC n 0 0 0
+lookedBy (Memory at) = lookedInC 0 1 at 0
+lookedBy (Bodies at) = lookedInC 0 2 at 0
+lookedBy (Rule r) = lookedInC 0 3 0 r
 
--- the 64 bytes at that offset lie inside that buffer
-abbrev pub offsetWithin : (place offset : ℕ) → Buffers → Type 0
-offsetWithin place offset b = (place ≡ 1 → offset + cellSize ≤ length (b .memory)) × (place ≡ 2 → offset + cellSize ≤ length (b .bodies))
+-- the 64 bytes at that offset lie inside that buffer, and a rule is one that there is
+abbrev pub offsetWithin : (place offset rule : ℕ) → Buffers → Type 0
+offsetWithin place offset rule b =
+    (place ≡ 1 → offset + cellSize ≤ length (b .memory)) × (place ≡ 2 → offset + cellSize ≤ length (b .bodies)) × (place ≡ 3 → rule ≤ maxRule)

@@ -128,11 +128,12 @@ pub extern "C" fn ds_add(
     first: u32,
     count: u32,
     kind: u32,
+    rule: u32,
     label: u32,
     budget: u64,
     steps: &mut u64,
 ) -> u32
-    ensures { λ r. ⌜ Returns (addCall handle first count kind label) budget (buffers (now (memory .entry)) (now (bodies .entry)) (now (table .entry)))
+    ensures { λ r. ⌜ Returns (addCall handle first count kind rule label) budget (buffers (now (memory .entry)) (now (bodies .entry)) (now (table .entry)))
         r (now (steps .exit)) (buffers (now (memory .entry)) (now (bodies .exit)) (now (table .exit))) ⌝ }
 {
     let answer = add::add(
@@ -143,6 +144,7 @@ pub extern "C" fn ds_add(
         first,
         count,
         kind,
+        rule,
         label,
         budget as usize,
     );
@@ -253,25 +255,35 @@ pub extern "C" fn ds_look(
     cell: u32,
     place: &mut u32,
     offset: &mut u64,
+    rule: &mut u32,
 ) -> u32
-    ensures found { λ r. ⌜ lookedInC r (now (place .exit)) (now (offset .exit))
+    ensures found { λ r. ⌜ lookedInC r (now (place .exit)) (now (offset .exit)) (now (rule .exit))
         ≡ lookedBy (lookPlace handle cell (buffers (now (memory .entry)) (now (bodies .entry)) (now (table .entry)))) ⌝ }
-    ensures within { λ _. ⌜ offsetWithin (now (place .exit)) (now (offset .exit)) (buffers (now (memory .entry)) (now (bodies .entry)) (now (table .entry))) ⌝ }
+    ensures within { λ _. ⌜ offsetWithin (now (place .exit)) (now (offset .exit)) (now (rule .exit)) (buffers (now (memory .entry)) (now (bodies .entry)) (now (table .entry))) ⌝ }
 {
     match look_place(memory, bodies, table, handle, cell) {
         Place::Refused(no) => {
             *place = 0;
             *offset = 0;
+            *rule = 0;
             no
         }
         Place::Memory(at) => {
             *place = 1;
             *offset = at as u64;
+            *rule = 0;
             0
         }
         Place::Bodies(at) => {
             *place = 2;
             *offset = at as u64;
+            *rule = 0;
+            0
+        }
+        Place::Rule(number) => {
+            *place = 3;
+            *offset = 0;
+            *rule = number;
             0
         }
     }

@@ -1,6 +1,6 @@
--- `ds_look` meets its contract: the place found, by its case. Assumes nothing.
+-- `domain_store::ds_look` meets its contract. Assumes nothing.
 use Rattle.store.specs.Outcome.{buffers}
-use Rattle.domain_store.proofs.Telling.{in-none, in-memory, in-bodies}
+use Rattle.domain_store.proofs.Telling.{in-none, in-memory, in-bodies, in-rule}
 use borrow.Author.Needs.{needs}
 use Rattle.domain_store.proofs.ds_look.Statement.{statement}
 use Rattle.domain_store.proofs.ds_look.Tie as tie
@@ -17,6 +17,9 @@ enum-known-at c = search needs
 enum-known-at-2 : tie.Need-enum-known-at-2
 enum-known-at-2 c = search needs
 
+enum-known-number : tie.Need-enum-known-number
+enum-known-number c = search needs
+
 returns : tie.Need-returns
 returns c =
     let a = c .before .before .before .before .before .before .before .args in
@@ -32,6 +35,11 @@ returns-3 c =
     let a = c .before .before .before .before .before .before .before .args in
     in-bodies (buffers (a .memory .now) (a .bodies .now) (a .table .now)) _ _ (c .before .before .before .look-place .ensures .0) (c .before .before .before .look-place .ensures .1 .1) _ (c .before .at2 .given .1)
 
+returns-4 : tie.Need-returns-4
+returns-4 c =
+    let a = c .before .before .before .before .before .before .before .args in
+    in-rule (buffers (a .memory .now) (a .bodies .now) (a .table .now)) _ _ (c .before .before .before .look-place .ensures .0) (c .before .before .before .look-place .ensures .1 .1) _ (c .before .number .given .1)
+
 pub ds-look-spec : {M : Type 1} → statement M
 ds-look-spec =
     tie.close
@@ -40,6 +48,8 @@ ds-look-spec =
     enum-known-no
     enum-known-at
     enum-known-at-2
+    enum-known-number
     returns
     returns-2
-    returns-3)
+    returns-3
+    returns-4)
