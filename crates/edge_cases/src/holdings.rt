@@ -22,7 +22,7 @@ fn say_memory(p: Play, memory: &[u8]) -> Play {
     said
 }
 
-// An entry's first word has the depth in bits 28 to 31, bit 27 for read-write, bit 26 for via parent and the cell in bits 0 to 15.
+// An entry's first word has the depth in bits 28 to 31, bit 27 for read-write, bit 26 for via parent, bit 25 for a rule and the cell in bits 0 to 15.
 fn say_entry(p: Play, bodies: &[u8], first: u32, second: u32) -> Play {
     if first == 0 {
         return p;
@@ -32,6 +32,9 @@ fn say_entry(p: Play, bodies: &[u8], first: u32, second: u32) -> Play {
     let said = say_word(say(cell, b" "), LABELS + first / 0x800_0000 % 2);
     if first / 0x400_0000 % 2 == 1 {
         return say(said, b" via parent");
+    }
+    if first / 0x200_0000 % 2 == 1 {
+        return say_field(said, b" by rule ", second);
     }
     let copied = say_next(say(said, b" copied as"), bodies, second as usize);
     say_field(copied, b" in body ", second)

@@ -1,5 +1,6 @@
-// Plays document 01's edges, the use cases of the containment domain API of 2012, the sequencer's accident, refusals, and calls stopped at every
-// budget, and prints what they give. A section has a table of acts and their text; `ops` says what an act is, and `play` performs it.
+// Plays document 01's edges, the use cases of the containment domain API of 2012, the sequencer's accident, refusals, calls stopped at every
+// budget, and cells that follow a pattern, and prints what they give. A section has a table of acts and their text; `ops` says what an act is, and
+// `play` performs it.
 //
 // Each number of steps and each refusal is a call's answer. Memory is read byte by byte; what a domain holds is read from the table and the bodies.
 mod api;
@@ -10,6 +11,7 @@ mod holdings;
 mod ops;
 mod play;
 mod refusals;
+mod rules;
 mod sets;
 mod text;
 
@@ -38,4 +40,5 @@ fn main() {
     cuts::show(&mut m, &mut b, &mut t);
     calls::show(&mut m, &mut b, &mut t);
     refusals::show(&mut m, &mut b, &mut t);
+    rules::show(&mut m, &mut b, &mut t);
 }

@@ -2,7 +2,7 @@
 // is 0. What a row gives is not in the table: it is printed, and the file `stdout` has what it should be. A line of a table has five rows, of which
 // those that are 0 are nothing.
 
-// ---- calls: H is the handle; add and delete have C, the first cell, and N, the count; add has K, the kind, and L, the label; look has C
+// ---- calls: H is the handle; add and delete have C, the first cell, and N, the count; add has K, the kind, P, the rule, and L, the label; look has C
 
 pub const MAKE: u64 = 1;
 
@@ -23,11 +23,16 @@ pub const RESTORE: u64 = 8;
 // Nine calls in a row, all but make.
 pub const PROBE: u64 = 9;
 
-// ---- what a program does: it fills cell C with a byte, Y, or with a number of 32 bits, V, 16 times; damage is a word, W, that becomes V
+// ---- what a program does: it fills cell C with a byte, Y, or with a number of 32 bits, V, 16 times; or with 0 to 63; or byte N of the cell becomes Y;
+// damage is a word, W, that becomes V
 
 pub const WRITE: u64 = 10;
 
 pub const SET: u64 = 11;
+
+pub const RISE: u64 = 26;
+
+pub const BYTE: u64 = 27;
 
 // ---- what is read: list and look; memory and what each live domain holds; whether the store is the one that was kept or the one that the whole
 // call left; whether memory has as many bytes of the whole call as there were steps, up to N, and else those that were kept
@@ -89,7 +94,11 @@ pub const K: u64 = 0x1_0000_0000;
 
 pub const L: u64 = 0x100_0000_0000;
 
+pub const P: u64 = 0x1_0000_0000_0000;
+
 pub const VIA: u64 = K;
+
+pub const BY: u64 = 2 * K;
 
 pub const RW: u64 = L;
 

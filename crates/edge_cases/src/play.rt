@@ -3,6 +3,7 @@ use crate::holdings::*;
 use crate::ops::*;
 use crate::sets::*;
 use crate::text::*;
+use look::LookAnswer;
 use look::Place;
 use store::Answer;
 ghost use Prim.Native.Nat.{_<_};
@@ -70,7 +71,7 @@ fn call_plain(m: &[u8], b: &[u8], t: &mut [u32], row: u64, budget: usize) -> Ans
         OPEN => begin::open(m, b, t, budget),
         CREATE => begin::create(m, b, t, budget),
         LIST => listed(m, b, t),
-        _ => look::look_answer(m, b, t, field(row, H), field(row, C)),
+        _ => looked(m, b, t, field(row, H), field(row, C)),
     }
 }
 
@@ -78,6 +79,17 @@ fn call_plain(m: &[u8], b: &[u8], t: &mut [u32], row: u64, budget: usize) -> Ans
 fn listed(m: &[u8], b: &[u8], t: &[u32]) -> Answer {
     let listing = begin::list(m, b, t);
     listing.answer
+}
+
+fn looked(m: &[u8], b: &[u8], t: &[u32], h: u32, cell: u32) -> Answer {
+    let answer = look::look_answer(m, b, t, h, cell);
+    if let LookAnswer::Refused(question) = answer {
+        return Answer::Refused(question);
+    }
+    Answer::Done {
+        steps: 0,
+        handle: 0,
+    }
 }
 
 fn call_add(m: &[u8], b: &mut [u8], t: &mut [u32], row: u64, n: usize) -> Answer {
@@ -91,6 +103,7 @@ fn call_add(m: &[u8], b: &mut [u8], t: &mut [u32], row: u64, n: usize) -> Answer
         c,
         field(row, N),
         field(row, K),
+        field(row, P),
         field(row, L),
         n,
     )
@@ -111,15 +124,27 @@ fn call(m: &mut [u8], b: &mut [u8], t: &mut [u32], row: u64, budget: usize) -> A
 
 // ---- what is told of a call, and of what is read
 
-// The range of an add or a delete, and an add's kind and label.
+// The range of an add or a delete, and an add's kind, rule and label.
 fn say_range(p: Play, row: u64) -> Play {
     let first = say_field(p, b", first ", field(row, C));
     let ranged = say_field(first, b", count ", field(row, N));
     if row % 0x100 == DELETE {
         return ranged;
     }
-    let kind = say_choice(say(ranged, b", "), KINDS, b"kind ", field(row, K));
+    let kind = say_kind(say(ranged, b", "), field(row, K), field(row, P));
     say_choice(say(kind, b", "), LABELS, b"label ", field(row, L))
+}
+
+// A kind that is not by rule is told the rule number too, if that is not 0.
+fn say_kind(p: Play, kind: u32, rule: u32) -> Play {
+    if kind == 2 {
+        return say_field(p, b"by rule ", rule);
+    }
+    let said = say_choice(p, KINDS, b"kind ", kind);
+    if rule == 0 {
+        return said;
+    }
+    say_field(said, b", rule ", rule)
 }
 
 // One of two words, or another number.
@@ -147,7 +172,7 @@ fn say_call(p: Play, row: u64) -> Play {
     }
 }
 
-// A look: how many bytes its part has, what they are, and where they stand.
+// A look: how many bytes its part has, what they are, and where they stand, or by which rule they are.
 fn say_look<'a>(p: Play, m: &'a [u8], b: &'a [u8], t: &[u32], h: u32, cell: u32) -> Play {
     let place = look::look_place(m, b, t, h, cell);
     let part = look::look(m, b, t, h, cell);
@@ -164,6 +189,19 @@ fn say_look<'a>(p: Play, m: &'a [u8], b: &'a [u8], t: &[u32], h: u32, cell: u32)
             b", bodies from byte ",
             at as u64,
         ),
+        Place::Rule(rule) => say_rule(
+            say_field(said, b", by rule ", rule),
+            look::look_answer(m, b, t, h, cell),
+        ),
+    }
+}
+
+// What look's answer is where its place is a rule.
+fn say_rule(p: Play, answer: LookAnswer) -> Play {
+    match answer {
+        LookAnswer::Refused(question) => say_field(p, b", refused with ", question),
+        LookAnswer::Bytes => say(p, b", answered with bytes"),
+        LookAnswer::Rule(rule) => say_field(p, b", answered with rule ", rule),
     }
 }
 
@@ -285,9 +323,31 @@ fn set_word(t: &mut [u32], at: usize, value: u32) {
     }
 }
 
-fn write(m: &mut [u8], p: Play, cell: u32, word: [u8; 4]) -> Play {
+fn write_cell(m: &mut [u8], p: Play, cell: u32, word: [u8; 4]) -> Play {
     fill(m, 64 * cell as usize, 64, word);
     say_field(say_cell(say(p, b"write "), &word), b" to cell ", cell)
+}
+
+fn write_byte(m: &mut [u8], p: Play, row: u64) -> Play {
+    let cell = field(row, C);
+    let place = field(row, N);
+    let at = 64 * cell as usize + place as usize;
+    fill(m, at, 1, bytes_of(value(row)));
+    let said = say_field(p, b"write ", value(row) % 0x100);
+    say_field(say_field(said, b" to byte ", place), b" of cell ", cell)
+}
+
+fn write(m: &mut [u8], p: Play, row: u64) -> Play {
+    let op = row % 0x100;
+    let cell = field(row, C);
+    match op {
+        RISE => {
+            fill_rising(m, 64 * cell as usize);
+            say_field(p, b"write 0..63 to cell ", cell)
+        }
+        BYTE => write_byte(m, p, row),
+        _ => write_cell(m, p, cell, bytes_of(value(row))),
+    }
 }
 
 fn least(a: usize, b: u32) -> usize {
@@ -300,7 +360,7 @@ fn told(m: &mut [u8], b: &mut [u8], t: &mut [u32], p: Play, row: u64) -> Play {
     match op {
         SAME => say_same(p, b, t, words_of(p.fresh)),
         PREFIX => say_prefix(p, m, least(p.cut, field(row, N))),
-        WRITE => write(m, p, field(row, C), bytes_of(value(row))),
+        WRITE | RISE | BYTE => write(m, p, row),
         SET => {
             set_word(t, field(row, W) as usize, value(row));
             say_field(say_field(p, b"word ", field(row, W)), b" is ", value(row))

@@ -72,7 +72,7 @@ const QUESTIONS: [[u64; 5]; 40] = [
     [RESTORE + 3 * H, 0, 0, 0, 0],
     [AGAIN + 6 * T, ADD + H + 2 * C + N, COMMIT + H, 0, 0],
     [ADVANCE + H, DELETE + H + C + N, STATE, 0, 0],
-    [AGAIN + 7 * T, ADD + N + 2 * K, ADD + N + 2 * L, 0, 0],
+    [AGAIN + 7 * T, ADD + N + 3 * K, ADD + N + 2 * L, 0, 0],
     [ADD + 2 * C + N + 255 * K + 255 * L, 0, 0, 0, 0],
     [AGAIN + 8 * T, ADD + 4 * C + N, ADD + 3 * C + 2 * N, ADD, 0],
     [ADD + 255 * C + 2 * N, DELETE + 4 * C + N, 0, 0, 0],

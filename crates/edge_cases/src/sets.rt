@@ -107,6 +107,21 @@ pub fn fill(bytes: &mut [u8], from: usize, n: usize, word: [u8; 4]) {
     }
 }
 
+// Fills a cell with 0, 1, 2 and so on to 63.
+pub fn fill_rising(bytes: &mut [u8], from: usize) {
+    if bytes.len() < 64 {
+        return;
+    }
+    if bytes.len() - 64 < from {
+        return;
+    }
+    let mut i: usize = 0;
+    while i < 64 {
+        bytes[from + i] = i as u8;
+        i += 1;
+    }
+}
+
 // Do bytes repeat the first so many?
 fn repeats(bytes: &[u8], n: usize) -> bool {
     let mut i = n;
@@ -119,11 +134,23 @@ fn repeats(bytes: &[u8], n: usize) -> bool {
     true
 }
 
+// Are they 0, 1, 2 and so on?
+fn rising(bytes: &[u8]) -> bool {
+    let mut i = 0;
+    while i < bytes.len() {
+        if wide(bytes[i]) != i as u64 {
+            return false;
+        }
+        i += 1;
+    }
+    true
+}
+
 fn say_byte(p: Play, name: &[u8], byte: u8) -> Play {
     say_field(p, name, byte as u32)
 }
 
-// A cell or a body: the byte that it is filled with, or the four bytes that it repeats, or "mixed".
+// A cell or a body: the byte that it is filled with, or the four bytes that it repeats, or 0..63 if its bytes rise so, or "mixed".
 pub fn say_cell(p: Play, bytes: &[u8]) -> Play {
     if bytes.len() < 4 {
         return say(p, b"nothing");
@@ -131,9 +158,12 @@ pub fn say_cell(p: Play, bytes: &[u8]) -> Play {
     if repeats(bytes, 1) {
         return say_byte(p, b"", bytes[0]);
     }
-    if !repeats(bytes, 4) {
-        return say(p, b"mixed");
+    if repeats(bytes, 4) {
+        let half = say_byte(say_byte(p, b"", bytes[0]), b".", bytes[1]);
+        return say_byte(say_byte(half, b".", bytes[2]), b".", bytes[3]);
     }
-    let half = say_byte(say_byte(p, b"", bytes[0]), b".", bytes[1]);
-    say_byte(say_byte(half, b".", bytes[2]), b".", bytes[3])
+    if rising(bytes) {
+        return say(p, b"0..63");
+    }
+    say(p, b"mixed")
 }

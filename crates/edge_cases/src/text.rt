@@ -26,7 +26,7 @@ fn coded(code: u64, text: &[u8]) -> u64 {
     end
 }
 
-fn wide(byte: u8) -> u64 {
+pub fn wide(byte: u8) -> u64 {
     byte as u64
 }
 
