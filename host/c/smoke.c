@@ -1,5 +1,5 @@
-/* The header as a C or C++ program uses it: every function once, preserve, write, restore, a cut and its opening, refusals, and buffers that are
- * not the store's or not there at all. */
+/* The header as a C or C++ program uses it: every function once, preserve, write, restore, a cut and its opening, cells that follow a rule,
+ * refusals, and buffers that are not the store's or not there at all. */
 
 #include "domain_store.h"
 
@@ -27,27 +27,74 @@ static void expect(const char *what, uint64_t found, uint64_t wanted) {
 #define EXPECT_NO_BUFFERS(...)                                                                                    \
     do {                                                                                                          \
         uint64_t s[8], o = 77;                                                                                    \
-        uint32_t h = 77, c = 77, p = 77, hs[8];                                                                   \
+        uint32_t h = 77, c = 77, p = 77, r = 77, hs[8];                                                           \
         int i;                                                                                                    \
         memset(s, 77, sizeof s);                                                                                  \
         memset(hs, 77, sizeof hs);                                                                                \
         expect("make, no buffer", ds_make(__VA_ARGS__, UINT64_MAX, &s[0]), DS_REFUSED_LENGTHS);                   \
         expect("open, no buffer", ds_open(__VA_ARGS__, UINT64_MAX, &s[1]), DS_REFUSED_LENGTHS);                   \
         expect("create, no buffer", ds_create(__VA_ARGS__, UINT64_MAX, &s[2], &h), DS_REFUSED_LENGTHS);           \
-        expect("add, no buffer", ds_add(__VA_ARGS__, 0, 0, 1, 0, 0, UINT64_MAX, &s[3]), DS_REFUSED_LENGTHS);      \
+        expect("add, no buffer", ds_add(__VA_ARGS__, 0, 0, 1, 0, 0, 0, UINT64_MAX, &s[3]), DS_REFUSED_LENGTHS);   \
         expect("delete, no buffer", ds_delete(__VA_ARGS__, 0, 0, 1, UINT64_MAX, &s[4]), DS_REFUSED_LENGTHS);      \
         expect("commit, no buffer", ds_commit(__VA_ARGS__, 0, UINT64_MAX, &s[5]), DS_REFUSED_LENGTHS);            \
         expect("advance, no buffer", ds_advance(__VA_ARGS__, 0, UINT64_MAX, &s[6]), DS_REFUSED_LENGTHS);          \
         expect("restore, no buffer", ds_restore(__VA_ARGS__, 0, UINT64_MAX, &s[7]), DS_REFUSED_LENGTHS);          \
         expect("list, no buffer", ds_list(__VA_ARGS__, hs, &c), DS_REFUSED_LENGTHS);                              \
-        expect("look, no buffer", ds_look(__VA_ARGS__, 0, 0, &p, &o), DS_REFUSED_LENGTHS);                        \
+        expect("look, no buffer", ds_look(__VA_ARGS__, 0, 0, &p, &o, &r), DS_REFUSED_LENGTHS);                    \
         for (i = 0; i < 8; i++) expect("steps and handles, no buffer", s[i] + hs[i], 0);                          \
-        expect("handle, count, place, offset, no buffer", h + c + p + o, 0);                                      \
+        expect("handle, count, place, offset, rule, no buffer", h + c + p + o + r, 0);                            \
     } while (0)
+
+/* The bytes of each rule, by the header's words. */
+static uint8_t pattern(uint32_t rule, int place) {
+    static const uint8_t scale[4] = {0, 0, 128, 63};
+    switch (rule) {
+    case DS_RULE_ZEROS: return 0;
+    case DS_RULE_ONES: return 255;
+    case DS_RULE_INDEX: return (uint8_t)place;
+    default: return scale[place % 4];
+    }
+}
+
+/* Cells that are held by rules: each added, looked at, written over and brought back. */
+static void expect_rules(void) {
+    uint64_t steps = 77, offset = 77;
+    uint32_t handle = 77, place = 77, rule = 77, held;
+    int i;
+
+    expect("create, for rules", ds_create(BUFFERS_LENT, UINT64_MAX, &steps, &handle), DS_DONE);
+    for (held = DS_RULE_ZEROS; held <= DS_RULE_SCALE; held++) {
+        for (i = 0; i < 64; i++) memory[64 * held + i] = pattern(held, i);
+        expect("add by rule", ds_add(BUFFERS_LENT, handle, held, 1, DS_PATTERN, held, DS_READ_WRITE, UINT64_MAX, &steps), DS_DONE);
+        expect("its steps", steps, 3 * 2 + 2);
+        offset = 77;
+        expect("look, by rule", ds_look(BUFFERS_LENT, handle, held, &place, &offset, &rule), DS_DONE);
+        expect("its place", place, DS_BY_RULE);
+        expect("its offset", offset, 0);
+        expect("its rule", rule, held);
+    }
+    memset(memory, 200, sizeof memory);
+    expect("restore, by rules", ds_restore(BUFFERS_LENT, handle, UINT64_MAX, &steps), DS_DONE);
+    expect("its steps", steps, 4 * 64);
+    for (held = DS_RULE_ZEROS; held <= DS_RULE_SCALE; held++)
+        for (i = 0; i < 64; i++) expect("a byte by rule", memory[64 * held + i], pattern(held, i));
+
+    expect("delete", ds_delete(BUFFERS_LENT, handle, 0, 1, UINT64_MAX, &steps), DS_DONE);
+    expect("add, rule 4", ds_add(BUFFERS_LENT, handle, 0, 1, DS_PATTERN, 4, DS_READ_ONLY, UINT64_MAX, &steps), DS_REFUSED_PATTERN_DIFFERS);
+    expect("add, another rule", ds_add(BUFFERS_LENT, handle, 0, 1, DS_PATTERN, DS_RULE_ONES, DS_READ_ONLY, UINT64_MAX, &steps),
+           DS_REFUSED_PATTERN_DIFFERS);
+    expect("add, kind 3", ds_add(BUFFERS_LENT, handle, 0, 1, 3, 0, DS_READ_ONLY, UINT64_MAX, &steps), DS_REFUSED_KIND_OR_LABEL);
+    expect("create inside", ds_create(BUFFERS_LENT, UINT64_MAX, &steps, &handle), DS_DONE);
+    expect("add via parent on a rule", ds_add(BUFFERS_LENT, handle, 3, 1, DS_VIA_PARENT, 0, DS_READ_ONLY, UINT64_MAX, &steps),
+           DS_REFUSED_PARENT_HOLDS_BY_RULE);
+    expect("its steps", steps, 0);
+    expect("commit inside", ds_commit(BUFFERS_LENT, 0, UINT64_MAX, &steps), DS_DONE);
+    expect("commit, by rules", ds_commit(BUFFERS_LENT, 0, UINT64_MAX, &steps), DS_DONE);
+}
 
 int main(void) {
     uint64_t steps = 77, offset = 77;
-    uint32_t handle = 77, count = 77, place = 77, handles[8];
+    uint32_t handle = 77, count = 77, place = 77, rule = 77, handles[8];
 
     expect("open, no store", ds_open(BUFFERS_LENT, UINT64_MAX, &steps), DS_REFUSED_NO_STORE);
     expect("its steps", steps, 0);
@@ -57,16 +104,18 @@ int main(void) {
     memset(memory, 7, sizeof memory);
     expect("create", ds_create(BUFFERS_LENT, UINT64_MAX, &steps, &handle), DS_DONE);
     expect("its handle", handle, 1);
-    expect("add", ds_add(BUFFERS_LENT, handle, 0, 2, DS_COPY, DS_READ_WRITE, UINT64_MAX, &steps), DS_DONE);
+    expect("add", ds_add(BUFFERS_LENT, handle, 0, 2, DS_COPY, 0, DS_READ_WRITE, UINT64_MAX, &steps), DS_DONE);
     expect("its steps", steps, 2 * 64 + 3 * 4 + 2);
     expect("delete", ds_delete(BUFFERS_LENT, handle, 1, 1, UINT64_MAX, &steps), DS_DONE);
     memset(memory, 9, 64);
 
-    expect("look", ds_look(BUFFERS_LENT, handle, 0, &place, &offset), DS_DONE);
+    expect("look", ds_look(BUFFERS_LENT, handle, 0, &place, &offset, &rule), DS_DONE);
     expect("its place", place, DS_IN_BODIES);
     expect("its byte", bodies[offset], 7);
-    expect("look, past memory", ds_look(BUFFERS_LENT, handle, M, &place, &offset), DS_REFUSED_RANGE);
-    expect("its place", place, 0);
+    expect("its rule", rule, 0);
+    rule = 77;
+    expect("look, past memory", ds_look(BUFFERS_LENT, handle, M, &place, &offset, &rule), DS_REFUSED_RANGE);
+    expect("its place and rule", place + rule, 0);
 
     /* Cut inside the journal: other calls have to wait for the opening, which finishes the advance. */
     expect("advance, cut", ds_advance(BUFFERS_LENT, handle, 70, &steps), DS_STOPPED);
@@ -95,6 +144,7 @@ int main(void) {
     expect("memory's last byte", memory[sizeof memory - 1], 7);
     expect("commit", ds_commit(BUFFERS_LENT, 0, UINT64_MAX, &steps), DS_DONE);
     expect("restore, nobody live", ds_restore(BUFFERS_LENT, 0, UINT64_MAX, &steps), DS_REFUSED_NO_SUCH_DOMAIN);
+    expect_rules();
 
     return failures != 0;
 }

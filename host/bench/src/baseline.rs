@@ -1,10 +1,11 @@
-//! The same store without proofs, as a plain systems program: the format, the questions and the journal of document 01.
+//! The same store without proofs, as a plain systems program: the format, the questions and the journal of document 01, with the cells
+//! of request A.1 that follow a pattern.
 //!
 //! It is here to be measured beside the library, so it makes no use of it. What it does:
 //!
 //! - The table is checked in one pass over the entries, which passes over runs of free ones eight at a time; a second pass is taken
-//!   only where an entry is via parent. The pass counts entries and copies in use and notes where the last entry in use stands: later
-//!   passes end there.
+//!   only where an entry is via parent, and a third one only where there are rules besides. The pass counts entries and copies in use
+//!   and notes where the last entry in use stands: later passes end there.
 //! - The pass marks which depths hold each cell. Marks stand in blocks of 64, and a directory has the block of each group of 64 cells.
 //!   A block is taken and cleared when the first of its cells is marked, and the next call clears what the directory says of it, so
 //!   that nothing is done for cells that no entry names, however large memory is.
@@ -26,12 +27,33 @@ const MAGIC: u32 = 0xCD51_1E01;
 
 const READ_WRITE: u32 = 1 << 27;
 const VIA_PARENT: u32 = 1 << 26;
+const BY_RULE: u32 = 1 << 25;
+/// Bits of an entry that are always zero.
+const SPARE: u32 = 0x01FF_0000;
+/// The kinds of add.
+const COPY: u32 = 0;
+const FROM_PARENT: u32 = 1;
+const PATTERN: u32 = 2;
 const MAX_CELLS: usize = 65_536;
 const MAX_PLACES: usize = 4_096;
 const CELL: usize = 64;
 /// Cells whose marks stand in one block.
 const GROUP: usize = 64;
 const MAX_GROUPS: usize = MAX_CELLS / GROUP;
+
+/// The bytes of each rule, by its number.
+static PATTERNS: [[u8; CELL]; 4] = patterns();
+
+const fn patterns() -> [[u8; CELL]; 4] {
+    let mut all = [[0; CELL], [255; CELL], [0; CELL], [0; CELL]];
+    let mut place = 0;
+    while place < CELL {
+        all[2][place] = place as u8;
+        all[3][place] = [0, 0, 128, 63][place % 4];
+        place += 1;
+    }
+    all
+}
 
 /// The lent buffers.
 struct Slices<'a> {
@@ -66,6 +88,8 @@ struct Notes {
     before: [u16; MAX_PLACES],
     /// For each body, 1 where it is in use. Bytes, since neighbours that share a word would wait for each other's stores.
     used: [u8; MAX_PLACES],
+    /// For each cell of a block, the depths that hold it by a rule: only while question 4 asks for them.
+    ruled: [[u8; GROUP]; 1 + MAX_GROUPS],
     /// Where the last entry in use ends.
     end: usize,
     entries: usize,
@@ -83,6 +107,7 @@ impl Notes {
             last: [[0; GROUP]; 1 + MAX_GROUPS],
             before: [0; MAX_PLACES],
             used: [0; MAX_PLACES],
+            ruled: [[0; GROUP]; 1 + MAX_GROUPS],
             end: 0,
             entries: 0,
             copies: 0,
@@ -195,16 +220,40 @@ impl Notes {
         place
     }
 
-    /// The body behind an entry: its own, or for via parent that of the next copy outwards.
+    /// The 64 bytes behind an entry: those of its rule, of its body, or for via parent of the next copy outwards.
     #[inline]
-    fn body_behind(&self, table: &[u32], mut place: usize) -> usize {
+    fn bytes_behind<'a>(&self, table: &[u32], bodies: &'a [u8], mut place: usize) -> &'a [u8] {
         loop {
             let (first, second) = entry(table, place);
-            if first & VIA_PARENT == 0 {
-                return second as usize;
+            if first & (VIA_PARENT | BY_RULE) == 0 {
+                return &bodies[CELL * second as usize..][..CELL];
+            }
+            if first & BY_RULE != 0 {
+                return &PATTERNS[second as usize];
             }
             place = self.find(table, depth_of(first) - 1, cell_of(first));
         }
+    }
+
+    /// Whether some via parent entry rests on a rule: the depths that hold a cell by one are marked, and then looked at from one depth
+    /// further in.
+    fn rests_on_rule(&mut self, all: &[[u32; 2]]) -> bool {
+        let Notes {
+            directory,
+            ruled,
+            blocks,
+            ..
+        } = self;
+        ruled[..=*blocks].fill([0; GROUP]);
+        let place = |cell: usize| (directory[cell / GROUP] as usize, cell % GROUP);
+        for &[first, _] in all.iter().filter(|pair| pair[0] & BY_RULE != 0) {
+            let (block, at) = place(cell_of(first));
+            ruled[block][at] |= 1 << (depth_of(first) - 1);
+        }
+        all.iter().any(|&[first, _]| {
+            let (block, at) = place(cell_of(first));
+            first & VIA_PARENT != 0 && ruled[block][at] >> (depth_of(first) - 2) & 1 == 1
+        })
     }
 }
 
@@ -315,7 +364,7 @@ fn free_run(all: &[[u32; 2]]) -> usize {
 }
 
 /// Question 4 for a table without pending pairs: one pass over the entries sets the marks, and a second one, taken only when some
-/// entry is via parent, asks whether the next domain out holds its cell. `FIND`: entries are to be found by depth and cell.
+/// entry is via parent, asks whether the next domain out holds its cell, by no rule. `FIND`: entries are to be found by depth and cell.
 fn check_words<const FIND: bool>(table: &[u32], shape: Shape, notes: &mut Notes) -> bool {
     if !check_head(table) {
         return false;
@@ -323,7 +372,7 @@ fn check_words<const FIND: bool>(table: &[u32], shape: Shape, notes: &mut Notes)
     let live = table[4];
     notes.clear(shape);
     let all = entries(table, shape.entries);
-    let (mut free, mut parents, mut end, mut place) = (0, 0, all.len(), 0);
+    let (mut free, mut parents, mut rules, mut end, mut place) = (0, 0, 0, all.len(), 0);
     while let Some(&[first, second]) = all.get(place) {
         if first == 0 {
             let run = free_run(&all[place..]);
@@ -338,17 +387,22 @@ fn check_words<const FIND: bool>(table: &[u32], shape: Shape, notes: &mut Notes)
             continue;
         }
         let (outer, cell) = ((first >> 28).wrapping_sub(1), cell_of(first));
-        if outer >= live || first & 0x03FF_0000 != 0 || cell >= shape.cells {
+        if outer >= live || first & SPARE != 0 || cell >= shape.cells {
             return false;
         }
         if !notes.mark::<FIND>(1 << outer, cell, place) {
             return false;
         }
         if first & VIA_PARENT != 0 {
-            if outer == 0 || second != 0 {
+            if outer == 0 || second != 0 || first & BY_RULE != 0 {
                 return false;
             }
             parents += 1;
+        } else if first & BY_RULE != 0 {
+            if second as usize >= PATTERNS.len() {
+                return false;
+            }
+            rules += 1;
         } else {
             if second as usize >= shape.bodies {
                 return false;
@@ -367,8 +421,11 @@ fn check_words<const FIND: bool>(table: &[u32], shape: Shape, notes: &mut Notes)
     if parents > 0 && !all[..end].iter().all(out_holds) {
         return false;
     }
+    if parents > 0 && rules > 0 && notes.rests_on_rule(&all[..end]) {
+        return false;
+    }
     let count = all.len() - free;
-    (notes.end, notes.entries, notes.copies) = (end, count, count - parents);
+    (notes.end, notes.entries, notes.copies) = (end, count, count - parents - rules);
     true
 }
 
@@ -448,7 +505,7 @@ fn range(first: u32, count: u32, cells: usize) -> Result<Range<usize>, u32> {
 fn first_holder(all: &[[u32; 2]], from: usize, to: usize, cell: usize) -> Option<usize> {
     for depth in from..=to {
         let wanted = (depth as u32) << 28 | cell as u32;
-        let is_it = |pair: &[u32; 2]| pair[0] & !(READ_WRITE | VIA_PARENT) == wanted;
+        let is_it = |pair: &[u32; 2]| pair[0] & !(READ_WRITE | VIA_PARENT | BY_RULE) == wanted;
         let (fours, rest) = all.as_chunks::<4>();
         // Four at a time, or the loop's speed would depend on where in the program it comes to stand.
         for (group, four) in fours.iter().enumerate() {
@@ -672,7 +729,7 @@ fn create(lent: Slices, budget: u64, notes: &mut Notes) -> Result<(Answer, u32),
 #[inline(never)]
 fn add(lent: Slices, add: Add, budget: u64, notes: &mut Notes) -> Result<Answer, u32> {
     let (kind, label) = (add.kind, add.label);
-    let shape = if kind == 1 {
+    let shape = if kind == FROM_PARENT {
         check::<true>(&lent, notes)?
     } else {
         check::<false>(&lent, notes)?
@@ -680,32 +737,43 @@ fn add(lent: Slices, add: Add, budget: u64, notes: &mut Notes) -> Result<Answer,
     let notes = &*notes;
     let (memory, bodies, table) = (lent.memory, lent.bodies, lent.table);
     let depth = innermost(table, add.handle)?;
-    if kind > 1 || label > 1 {
+    if kind > PATTERN || label > 1 {
         return Err(7);
     }
     let range = range(add.first, add.count, shape.cells)?;
     let fresh = || notes.not_held(depth, range.clone());
     let new = fresh().count();
-    if kind == 1 && new > 0 {
+    if kind == FROM_PARENT && new > 0 {
         if depth == 1 || fresh().any(|cell| !notes.holds(depth - 1, cell)) {
             return Err(11);
         }
+        let mut by_rule = 0;
         for cell in fresh() {
-            let body = notes.body_behind(table, notes.find(table, depth - 1, cell));
-            if memory[CELL * cell..][..CELL] != bodies[CELL * body..][..CELL] {
+            let place = notes.find(table, depth - 1, cell);
+            if memory[CELL * cell..][..CELL] != *notes.bytes_behind(table, bodies, place) {
                 return Err(12);
             }
+            by_rule |= entry(table, place).0 & BY_RULE;
+        }
+        if by_rule != 0 {
+            return Err(19);
+        }
+    }
+    if kind == PATTERN {
+        let pattern = PATTERNS.get(add.rule as usize).ok_or(18u32)?;
+        if fresh().any(|cell| memory[CELL * cell..][..CELL] != *pattern) {
+            return Err(18);
         }
     }
     if notes.entries + new > shape.entries {
         return Err(16);
     }
-    if kind == 0 && notes.copies + new > shape.bodies {
+    if kind == COPY && notes.copies + new > shape.bodies {
         return Err(17);
     }
     let mut stores = Stores::new(budget);
     let end = (|| {
-        if kind == 0 {
+        if kind == COPY {
             let mut free = FreeBodies::new(&notes.used);
             for cell in fresh() {
                 let body = free.take();
@@ -717,9 +785,13 @@ fn add(lent: Slices, add: Add, budget: u64, notes: &mut Notes) -> Result<Answer,
         let mut fresh = fresh();
         let mut journal = Journal::new(shape);
         let mut words = |cell: usize| {
-            let body = if kind == 0 { free.take() as u32 } else { 0 };
-            let word = (depth as u32) << 28 | label << 27 | kind << 26 | cell as u32;
-            (word, body)
+            let (bit, second) = match kind {
+                COPY => (0, free.take() as u32),
+                FROM_PARENT => (VIA_PARENT, 0),
+                _ => (BY_RULE, add.rule),
+            };
+            let word = (depth as u32) << 28 | label << 27 | bit | cell as u32;
+            (word, second)
         };
         for place in 0..notes.end {
             let (word, second) = entry(table, place);
@@ -865,7 +937,8 @@ fn advance(lent: Slices, handle: u32, budget: u64, scratch: &mut Scratch) -> Res
         for (place, &body) in body_for.iter().enumerate() {
             if body != u16::MAX {
                 let (word, _) = entry(table, place);
-                journal.entry(&mut stores, table, place, (word & !VIA_PARENT, body as u32))?;
+                let word = word & !(VIA_PARENT | BY_RULE);
+                journal.entry(&mut stores, table, place, (word, body as u32))?;
             }
         }
         journal.finish(&mut stores, table)
@@ -885,8 +958,9 @@ fn restore(lent: Slices, handle: u32, budget: u64, notes: &mut Notes) -> Result<
         // The lowest mark from this depth inwards is the outermost holder.
         notes.each_cell(u8::MAX << (depth - 1), |cell, inwards| {
             let holder = 1 + inwards.trailing_zeros() as usize;
-            let body = notes.body_behind(table, notes.find(table, holder, cell));
-            stores.cell(&mut memory[CELL * cell..], &bodies[CELL * body..])
+            let place = notes.find(table, holder, cell);
+            let bytes = notes.bytes_behind(table, bodies, place);
+            stores.cell(&mut memory[CELL * cell..], bytes)
         })?;
         if depth == live {
             return Ok(());
@@ -915,12 +989,18 @@ fn list(lent: &Slices, notes: &mut Notes) -> Result<([u32; 8], u32), u32> {
     Ok((handles, lent.table[4]))
 }
 
-/// The body behind an entry, by searches.
-fn searched_body(all: &[[u32; 2]], mut place: usize) -> usize {
+/// What look tells: the place (1 memory, 2 bodies, 3 a rule), the offset of the 64 bytes, the rule.
+type Place = (u32, u64, u32);
+
+/// Where the bytes behind an entry stand, by searches.
+fn searched(all: &[[u32; 2]], mut place: usize) -> Place {
     loop {
         let [first, second] = all[place];
+        if first & BY_RULE != 0 {
+            return (3, 0, second);
+        }
         if first & VIA_PARENT == 0 {
-            return second as usize;
+            return (2, (CELL * second as usize) as u64, 0);
         }
         let out = depth_of(first) - 1;
         place = first_holder(all, out, out, cell_of(first))
@@ -928,9 +1008,9 @@ fn searched_body(all: &[[u32; 2]], mut place: usize) -> usize {
     }
 }
 
-/// Where a looked-for cell stands: the place (1 memory, 2 bodies) and the offset of its 64 bytes.
+/// Where a looked-for cell stands.
 #[inline(never)]
-fn look(lent: &Slices, handle: u32, cell: u32, notes: &mut Notes) -> Result<(u32, u64), u32> {
+fn look(lent: &Slices, handle: u32, cell: u32, notes: &mut Notes) -> Result<Place, u32> {
     let shape = check::<false>(lent, notes)?;
     let table = &*lent.table;
     let depth = depth_of_handle(table, handle)?;
@@ -938,8 +1018,8 @@ fn look(lent: &Slices, handle: u32, cell: u32, notes: &mut Notes) -> Result<(u32
     let live = table[4] as usize;
     let all = entries(table, notes.end);
     Ok(match first_holder(all, depth, live, cell as usize) {
-        Some(place) => (2, (CELL * searched_body(all, place)) as u64),
-        None => (1, (CELL * cell as usize) as u64),
+        Some(place) => searched(all, place),
+        None => (1, (CELL * cell as usize) as u64, 0),
     })
 }
 
@@ -976,8 +1056,8 @@ fn call_on(lent: Slices, call: &Call, budget: u64, scratch: &mut Scratch) -> Rep
             (reply.handles, reply.count) = (handles, count);
             (0, 0)
         }),
-        Call::Look { handle, cell } => look(&lent, handle, cell, notes).map(|(place, offset)| {
-            (reply.place, reply.offset) = (place, offset);
+        Call::Look { handle, cell } => look(&lent, handle, cell, notes).map(|told| {
+            (reply.place, reply.offset, reply.rule) = told;
             (0, 0)
         }),
     };

@@ -1,7 +1,7 @@
 //! Prints the library's times beside the same store without proofs, beside a plain scan of the table and beside plain copies, with the
 //! goals that they are held to.
 
-use domain_bench::measure::{FIGURES, Figure, Layout, Medians, NEAR, Shape, measure};
+use domain_bench::measure::{FIGURES, Figure, Layout, Medians, NEAR, Shape, Times, measure};
 use std::time::Duration;
 
 /// How long each shape is measured.
@@ -462,6 +462,53 @@ fn print_copies(all: &[Medians]) {
     println!();
 }
 
+/// Cells that are held by a rule beside the same cells by copy: what it saves to keep no bytes.
+fn print_by_rule(all: &[Medians]) {
+    println!(
+        "Preserve by a rule beside by copy, E = B = 4,096, one domain: create and add n cells, in µs, and how many times as long by copy as by rule; the baseline likewise"
+    );
+    println!();
+    println!(
+        "|      m | Cells      |     n | by copy | by rule | copy / rule | baseline by copy | baseline by rule | copy / rule |"
+    );
+    println!(
+        "|-------:|------------|------:|--------:|--------:|------------:|-----------------:|-----------------:|------------:|"
+    );
+    for memory in MEMORIES {
+        let one_domain = |medians: &&Medians| medians.shape.domains == 1;
+        of_size(all, memory, 4_096)
+            .into_iter()
+            .filter(one_domain)
+            .for_each(print_by_rule_row);
+    }
+    println!();
+}
+
+fn print_by_rule_row(medians: &Medians) {
+    let both = |times: &Times| {
+        Some((
+            times[Figure::Preserve as usize]?,
+            times[Figure::ByRule as usize]?,
+        ))
+    };
+    let (Some(library), Some(baseline)) = (both(&medians.library), both(&medians.baseline)) else {
+        return;
+    };
+    let shape = medians.shape;
+    println!(
+        "| {:>6} | {:<10} | {:>5} | {:>7} | {:>7} | {:>11} | {:>16} | {:>16} | {:>11} |",
+        number(shape.memory),
+        shape.layout.name(),
+        number(shape.cells),
+        short(library.0),
+        short(library.1),
+        short(library.0 / library.1),
+        short(baseline.0),
+        short(baseline.1),
+        short(baseline.0 / baseline.1)
+    );
+}
+
 /// How many of these figures meet their goal, and the worst of those that do not.
 fn account<'a>(title: &str, held: impl Iterator<Item = &'a Held>) {
     let held: Vec<&Held> = held.collect();
@@ -518,15 +565,17 @@ fn print_introduction() {
         "Each figure is a median of runs in which the library and the baseline take turns in one process; a `!` marks a goal that is missed."
     );
     println!(
-        "Preserve: create and add n cells by copy (scattered: n adds of one cell, in no order; else one add). Via parent: the same, via parent. Delete: the"
+        "Preserve: create and add n cells by copy (scattered: n adds of one cell, in no order; else one add). By rule, via parent: the same by rule 3, and via"
     );
     println!(
-        "innermost domain's cells (scattered: one). Cycle: create, add n, write n, advance, write n, restore, commit. Restore: the outermost domain, which ends"
+        "parent. Delete: the innermost domain's cells (scattered: one). Cycle: create, add n, write n, advance, write n, restore, commit. Restore: the outermost"
     );
     println!(
-        "those inside. Look: a held cell, and one that nobody holds. Three domains: two hold the same n cells already. A dash: it does not fit (an advance takes"
+        "domain, which ends those inside. Look: a held cell, and one that nobody holds. Three domains: two hold the same n cells already. A dash: it does not fit"
     );
-    println!("n bodies before it frees n), or it would be the same as contiguous.");
+    println!(
+        "(an advance takes n bodies before it frees n), or it would be the same as contiguous."
+    );
     println!(
         "Cells: contiguous, entries in order of cell; scattered over memory, in no order; and contiguous cells whose entries were laid down reversed, at random, or"
     );
@@ -548,6 +597,7 @@ fn main() {
     }
     print_check(&all);
     print_copies(&all);
+    print_by_rule(&all);
     let beside = beside_baseline(&all);
     let scans = beside_scans(&all);
     let memories = print_memory(&all);

@@ -5,7 +5,8 @@
 //! before the measured domain is created, "held" is the same after it has taken its cells.
 
 use crate::stores::{Baseline, Library, Measured};
-use domain_model::calls::{COPY, READ_WRITE, VIA_PARENT};
+use domain_model::calls::{COPY, PATTERN, READ_WRITE, VIA_PARENT};
+use domain_model::rules::{SCALE, pattern};
 use domain_model::{Buffers, Call, Rng, Sizes};
 use std::hint::black_box;
 use std::time::{Duration, Instant};
@@ -16,6 +17,8 @@ use std::time::{Duration, Instant};
 pub enum Figure {
     /// Create, and add n cells by copy: one add for contiguous cells, n adds for scattered ones.
     Preserve,
+    /// The same by a rule, which memory follows in each of them: no byte is copied, and each is compared.
+    ByRule,
     /// Create, and add n cells via parent.
     ViaParent,
     /// Create alone, inside the others.
@@ -38,8 +41,9 @@ pub enum Figure {
     List,
 }
 
-pub const FIGURES: [Figure; 11] = [
+pub const FIGURES: [Figure; 12] = [
     Figure::Preserve,
+    Figure::ByRule,
     Figure::ViaParent,
     Figure::Create,
     Figure::Delete,
@@ -56,6 +60,7 @@ impl Figure {
     pub fn name(self) -> &'static str {
         match self {
             Figure::Preserve => "preserve",
+            Figure::ByRule => "by rule",
             Figure::ViaParent => "via parent",
             Figure::Create => "create",
             Figure::Delete => "delete",
@@ -191,7 +196,18 @@ impl Shape {
             }
         }
     }
+
+    /// The program writes the bytes of the rule by which cells are held.
+    fn write_pattern(&self, memory: &mut [u8]) {
+        let bytes = pattern(RULE).expect("a rule");
+        for index in 0..self.cells {
+            memory[64 * self.cell(index)..][..64].copy_from_slice(&bytes);
+        }
+    }
 }
+
+/// The rule by which cells are held: a scale of one.
+const RULE: u32 = SCALE;
 
 /// A store with buffers of its own.
 struct Runner<S> {
@@ -226,8 +242,9 @@ impl<S: Measured> Runner<S> {
         self.shape.write(&mut self.buffers.memory, byte);
     }
 
+    /// An add of any kind; those that take no rule ignore it.
     fn add(&mut self, first: usize, count: usize, kind: u32) -> u32 {
-        self.call(Call::add(first as u32, count as u32, kind, READ_WRITE))
+        self.call(Call::add(first as u32, count as u32, kind, READ_WRITE).with_rule(RULE))
     }
 
     /// Adds the cells of these indices one at a time.
@@ -322,6 +339,11 @@ impl<S: Measured> Runner<S> {
             self.write(1);
             let time = clock.done(|| self.preserve(COPY));
             measured(Figure::Preserve, time, &self.buffers);
+
+            ground.put(&mut self.buffers);
+            shape.write_pattern(&mut self.buffers.memory);
+            let time = clock.done(|| self.preserve(PATTERN));
+            measured(Figure::ByRule, time, &self.buffers);
         }
 
         held.put(&mut self.buffers);

@@ -6,6 +6,7 @@ use domain_bench::measure::{Layout, Shape, laid_down};
 use domain_bench::stores::Baseline;
 use domain_lend::Linked;
 use domain_model::calls::REFUSALS;
+use domain_model::rules::pattern;
 use domain_model::{Buffers, Call, FULL, Rng, STOPPED, Sizes, Store};
 use std::collections::BTreeMap;
 
@@ -39,8 +40,9 @@ fn choose(random: &mut Rng, buffers: &Buffers, from: u32, cells: u32) -> Call {
         0..=1 => Call::Make,
         2..=6 => Call::Open,
         7..=21 => Call::Create,
-        22..=41 => Call::add(first, count, one_in(random, 20) as u32 * 2, label).on(innermost),
-        42..=55 => Call::via_parent(first, count, label + one_in(random, 30) as u32).on(innermost),
+        22..=36 => Call::add(first, count, one_in(random, 20) as u32 * 3, label).on(innermost),
+        37..=45 => Call::pattern(first, count, random.below(5) as u32, label).on(innermost),
+        46..=55 => Call::via_parent(first, count, label + one_in(random, 30) as u32).on(innermost),
         56..=62 => Call::delete(any, first, count),
         63..=68 => Call::Commit { handle: innermost },
         69..=81 => Call::Advance { handle: innermost },
@@ -50,6 +52,23 @@ fn choose(random: &mut Rng, buffers: &Buffers, from: u32, cells: u32) -> Call {
             handle: any,
             cell: from + random.below(u64::from(cells) + 1) as u32,
         },
+    }
+}
+
+/// The program writes some cells from `first` on: one byte over and over, or the bytes of a rule, for which so many neighbours are
+/// written that a pattern of several cells is met too.
+fn write(random: &mut Rng, memory: &mut [u8], first: usize) {
+    let byte = [random.below(4) as u8; 64];
+    let (bytes, count) = match random.below(2) {
+        0 => (byte, 1),
+        _ => (
+            pattern(random.below(4) as u32).expect("a rule"),
+            random.between(1, 3),
+        ),
+    };
+    let cells = memory.as_chunks_mut().0.iter_mut();
+    for cell in cells.skip(first).take(count as usize) {
+        *cell = bytes;
     }
 }
 
@@ -67,8 +86,10 @@ fn damage(random: &mut Rng, table: &mut [u32], sizes: Sizes) {
         return;
     }
     let other = table[random.below(words) as usize];
-    table[word] = match random.below(6) {
+    table[word] = match random.below(7) {
         0 => table[word] ^ 1 << random.below(32),
+        // The bits that tell an entry's kind, and the highest that has to be zero.
+        6 => table[word] ^ 1 << random.between(24, 26),
         1 => table[word].wrapping_add(1),
         2 => table[word].wrapping_sub(1),
         3 => other,
@@ -138,9 +159,7 @@ fn same_answers_and_buffers() {
             };
             if one_in(&mut random, 6) {
                 let cell = random.below(ours.memory.len() as u64 / 64 + 1) as usize;
-                let byte = random.below(4) as u8;
-                let end = (64 * cell + 64).min(ours.memory.len());
-                ours.memory[(64 * cell).min(end)..end].fill(byte);
+                write(&mut random, &mut ours.memory, cell);
             }
             let undamaged = ours.table.to_vec();
             let damaged = one_in(&mut random, 12) && ours.lengths() == sizes.lengths();
@@ -215,21 +234,38 @@ fn choose_in(random: &mut Rng, buffers: &Buffers, shape: &Shape) -> Call {
     choose(random, buffers, from as u32, cells as u32)
 }
 
-/// The same with a domain more, which holds some of the cells via parent, as far as there is room.
+/// The same with two domains more, as far as there is room: one holds some of the cells via parent and others by rules, one inside it
+/// the first of them via parent.
 fn with_inner(held: &Buffers, shape: &Shape) -> Buffers {
     let mut inner = held.clone();
     Linked.call(&mut inner, &Call::Create, FULL);
     for index in 0..shape.cells.min(20) {
-        let call = Call::via_parent(shape.cell(index) as u32, 1, 1);
+        let (cell, rule) = (shape.cell(index) as u32, index as u32 % 4);
+        let call = if index % 3 < 2 {
+            Call::via_parent(cell, 1, 1)
+        } else {
+            inner.write_cell(cell, &pattern(rule).expect("a rule"));
+            Call::pattern(cell, 1, rule, rule % 2)
+        };
         Linked.call(&mut inner, &call, FULL);
+    }
+    Linked.call(&mut inner, &Call::Create, FULL);
+    for index in 0..shape.cells.min(2) {
+        Linked.call(
+            &mut inner,
+            &Call::via_parent(shape.cell(index) as u32, 1, 1),
+            FULL,
+        );
     }
     inner
 }
 
 /// Every call that meets a table of this shape, about its cells.
-fn calls(shape: &Shape) -> [Call; 10] {
+fn calls(shape: &Shape) -> [Call; 14] {
     let (first, cells) = (shape.first() as u32, shape.cells as u32);
     let (one, outer) = (shape.cell(0) as u32, shape.domains as u32);
+    // The third cell is held by a rule in the domain further in.
+    let third = shape.cell(2) as u32;
     [
         Call::List,
         Call::Look {
@@ -244,6 +280,13 @@ fn calls(shape: &Shape) -> [Call; 10] {
         Call::delete(outer, one, 1),
         Call::via_parent(first, cells, 1),
         Call::add(first, cells, 0, 0),
+        Call::Look {
+            handle: outer + 1,
+            cell: third,
+        },
+        Call::via_parent(third, 1, 0),
+        Call::pattern(third, 1, 2, 1),
+        Call::pattern(first, cells, 4, 0),
     ]
 }
 
@@ -274,7 +317,7 @@ fn same_in_every_layout() {
             let call = choose_in(&mut random, &ours, &shape);
             if one_in(&mut random, 6) {
                 let cell = shape.cell(random.below(shape.cells as u64) as usize);
-                ours.memory[64 * cell..][..64].fill(random.below(4) as u8);
+                write(&mut random, &mut ours.memory, cell);
             }
             let damaged = one_in(&mut random, 8);
             if damaged {
@@ -292,7 +335,7 @@ fn same_in_every_layout() {
         }
     }
     println!("answers by number: {numbers:?}");
-    for number in [0, 4, 11, 12, 13, 14, 15, 16, 17, STOPPED] {
+    for number in [0, 4, 11, 12, 13, 14, 15, 16, 17, 18, 19, STOPPED] {
         assert!(
             numbers.contains_key(&number),
             "no call was answered by {number}"

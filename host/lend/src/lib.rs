@@ -34,7 +34,9 @@ pub unsafe fn run(lent: Lent, call: &Call, budget: u64, outs: &mut Outs) -> u32 
             Call::Make => lent.make(budget, steps),
             Call::Open => lent.open(budget, steps),
             Call::Create => lent.create(budget, steps, outs.handle.at()),
-            Call::Add(a) => lent.add(a.handle, a.first, a.count, a.kind, a.label, budget, steps),
+            Call::Add(a) => lent.add(
+                a.handle, a.first, a.count, a.kind, a.rule, a.label, budget, steps,
+            ),
             Call::Delete {
                 handle,
                 first,
@@ -45,7 +47,8 @@ pub unsafe fn run(lent: Lent, call: &Call, budget: u64, outs: &mut Outs) -> u32 
             Call::Restore { handle } => lent.restore(handle, budget, steps),
             Call::List => lent.list(outs.handles.at(), outs.count.at()),
             Call::Look { handle, cell } => {
-                lent.look(handle, cell, outs.place.at(), outs.offset.at())
+                let (place, offset) = (outs.place.at(), outs.offset.at());
+                lent.look(handle, cell, place, offset, outs.rule.at())
             }
         }
     }

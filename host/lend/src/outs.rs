@@ -39,6 +39,7 @@ pub struct Outs {
     pub count: Out<u32, 9>,
     pub place: Out<u32, 9>,
     pub offset: Out<u64, 9>,
+    pub rule: Out<u32, 9>,
 }
 
 impl Default for Outs {
@@ -56,6 +57,7 @@ impl Outs {
             count: Out::new(),
             place: Out::new(),
             offset: Out::new(),
+            rule: Out::new(),
         }
     }
 
@@ -68,7 +70,8 @@ impl Outs {
                 || self.handles.strayed()
                 || self.count.strayed()
                 || self.place.strayed()
-                || self.offset.strayed(),
+                || self.offset.strayed()
+                || self.rule.strayed(),
             ..Reply::default()
         };
         match call {
@@ -79,6 +82,7 @@ impl Outs {
             Call::Look { .. } => {
                 reply.place = self.place.get()[0];
                 reply.offset = self.offset.get()[0];
+                reply.rule = self.rule.get()[0];
             }
             _ => {
                 reply.steps = self.steps.get()[0];

@@ -6,6 +6,7 @@
 #![cfg(target_arch = "x86_64")]
 
 use domain_lend::{Outs, lent, run};
+use domain_model::rules::{SCALE, pattern};
 use domain_model::{Buffers, Call, FULL, STOPPED, Sizes};
 use std::collections::BTreeMap;
 use std::ffi::c_void;
@@ -169,7 +170,38 @@ fn used_in(m: u32, places: u32) -> BTreeMap<&'static str, usize> {
     probe.done(restore(1));
     probe.done(Call::Advance { handle: 1 });
     probe.done(commit);
+    by_rule(&mut probe, m, places);
     probe.used
+}
+
+/// Cells that follow a rule, as many as there are entries: the calls that meet such cells.
+fn by_rule(probe: &mut Probe, m: u32, places: u32) {
+    let first = m - places;
+    let scale = pattern(SCALE).expect("a rule");
+    for cell in first..m {
+        probe.buffers.write_cell(cell, &scale);
+    }
+    probe.done(Call::Create);
+    probe.refused(18, Call::pattern(first - 1, 1, SCALE, 1));
+    probe.stopped(Call::pattern(first, places, SCALE, 0), 50);
+    probe.done(Call::pattern(first, places, SCALE, 0));
+    probe.done(Call::pattern(first, places, SCALE, 1));
+    let look = |handle| Call::Look {
+        handle,
+        cell: m - 1,
+    };
+    probe.done(look(0));
+    probe.done(Call::Create);
+    probe.refused(19, Call::via_parent(first, places, 1));
+    probe.done(look(0));
+    probe.buffers.memory.fill(9);
+    probe.done(Call::Commit { handle: 0 });
+    probe.stopped(Call::Restore { handle: 0 }, 100);
+    probe.done(Call::Restore { handle: 0 });
+    probe.buffers.memory.fill(9);
+    probe.stopped(Call::Advance { handle: 0 }, 100);
+    probe.done(Call::Advance { handle: 0 });
+    probe.done(Call::Commit { handle: 0 });
 }
 
 /// What a text says of each call, in bytes: after its first "Stack" and the next colon come groups, each of names and so many KB, up to

@@ -2,23 +2,26 @@
 //! leaves.
 
 use crate::fault::Fault;
-use crate::reply::{Reply, STOPPED};
+use crate::reply::{BY_RULE, IN_BODIES, IN_MEMORY, Reply, STOPPED};
+use crate::rules::{RULES, SCALE, pattern};
 use crate::state::{Bytes, CELL, Domain, Holding, Kept, State, cell_of};
 use crate::table::Decoded;
 use std::collections::{BTreeMap, BTreeSet};
 use std::fmt;
-use std::ops::RangeInclusive;
+use std::ops::{Range, RangeInclusive};
 
-/// How add keeps a cell, as its kind: by a copy of the bytes, or by what the next domain out holds.
+/// How add keeps a cell, as its kind: by a copy of the bytes, by what the next domain out holds, or
+/// by a rule.
 pub const COPY: u32 = 0;
 pub const VIA_PARENT: u32 = 1;
+pub const PATTERN: u32 = 2;
 
 /// The labels of add.
 pub const READ_ONLY: u32 = 0;
 pub const READ_WRITE: u32 = 1;
 
 /// The numbers that a call can be refused by.
-pub const REFUSALS: RangeInclusive<u32> = 1..=17;
+pub const REFUSALS: RangeInclusive<u32> = 1..=19;
 
 /// The numbers of an add.
 #[derive(Clone, Copy, PartialEq, Eq, Debug)]
@@ -27,6 +30,8 @@ pub struct Add {
     pub first: u32,
     pub count: u32,
     pub kind: u32,
+    /// Read where the kind is a pattern.
+    pub rule: u32,
     pub label: u32,
 }
 
@@ -50,13 +55,14 @@ impl Call {
         "make", "open", "create", "add", "delete", "commit", "advance", "restore", "list", "look",
     ];
 
-    /// An add to the innermost domain.
+    /// An add to the innermost domain, with rule 0.
     pub fn add(first: u32, count: u32, kind: u32, label: u32) -> Call {
         Call::Add(Add {
             handle: 0,
             first,
             count,
             kind,
+            rule: 0,
             label,
         })
     }
@@ -69,6 +75,19 @@ impl Call {
     /// An add via parent to the innermost domain.
     pub fn via_parent(first: u32, count: u32, label: u32) -> Call {
         Call::add(first, count, VIA_PARENT, label)
+    }
+
+    /// An add by a rule to the innermost domain.
+    pub fn pattern(first: u32, count: u32, rule: u32, label: u32) -> Call {
+        Call::add(first, count, PATTERN, label).with_rule(rule)
+    }
+
+    /// The same call with this rule number, where it takes one.
+    pub fn with_rule(mut self, rule: u32) -> Call {
+        if let Call::Add(add) = &mut self {
+            add.rule = rule;
+        }
+        self
     }
 
     pub fn delete(handle: u32, first: u32, count: u32) -> Call {
@@ -124,32 +143,33 @@ impl Call {
         Call::NAMES[self.number()]
     }
 
-    /// The call's numbers: handle, first cell (for look the cell), count, kind and label, as far as
-    /// it has them.
-    pub fn numbers_mut(&mut self) -> [Option<&mut u32>; 5] {
+    /// The call's numbers: handle, first cell (for look the cell), count, kind, rule and label, as
+    /// far as it has them.
+    pub fn numbers_mut(&mut self) -> [Option<&mut u32>; 6] {
         match self {
-            Call::Make | Call::Open | Call::Create | Call::List => [None, None, None, None, None],
+            Call::Make | Call::Open | Call::Create | Call::List => [const { None }; 6],
             Call::Add(Add {
                 handle,
                 first,
                 count,
                 kind,
+                rule,
                 label,
-            }) => [handle, first, count, kind, label].map(Some),
+            }) => [handle, first, count, kind, rule, label].map(Some),
             Call::Delete {
                 handle,
                 first,
                 count,
-            } => [Some(handle), Some(first), Some(count), None, None],
+            } => [Some(handle), Some(first), Some(count), None, None, None],
             Call::Commit { handle } | Call::Advance { handle } | Call::Restore { handle } => {
-                [Some(handle), None, None, None, None]
+                [Some(handle), None, None, None, None, None]
             }
-            Call::Look { handle, cell } => [Some(handle), Some(cell), None, None, None],
+            Call::Look { handle, cell } => [Some(handle), Some(cell), None, None, None, None],
         }
     }
 
     /// The same numbers, with 0 for those that the call does not have.
-    pub fn numbers(mut self) -> [u32; 5] {
+    pub fn numbers(mut self) -> [u32; 6] {
         self.numbers_mut().map(|number| number.map_or(0, |n| *n))
     }
 
@@ -159,17 +179,27 @@ impl Call {
     }
 }
 
+/// What an add takes cells by. A rule is named also where the kind ignores it.
+fn kind_text(add: &Add) -> String {
+    let kind = match add.kind {
+        COPY => "copy".to_string(),
+        VIA_PARENT => "via parent".to_string(),
+        PATTERN => return format!("by rule {}", add.rule),
+        n => format!("kind {n}"),
+    };
+    match add.rule {
+        0 => kind,
+        rule => format!("{kind} (rule {rule})"),
+    }
+}
+
 impl fmt::Display for Call {
     fn fmt(&self, f: &mut fmt::Formatter<'_>) -> fmt::Result {
         let name = self.name();
         match self {
             Call::Make | Call::Open | Call::Create | Call::List => write!(f, "{name}"),
             Call::Add(add) => {
-                let kind = match add.kind {
-                    COPY => "copy".to_string(),
-                    VIA_PARENT => "via parent".to_string(),
-                    n => format!("kind {n}"),
-                };
+                let kind = kind_text(add);
                 let label = match add.label {
                     READ_ONLY => "read-only".to_string(),
                     READ_WRITE => "read-write".to_string(),
@@ -264,9 +294,22 @@ pub enum Reading {
 /// What look shows.
 #[derive(Clone, PartialEq, Eq, Debug)]
 pub struct Looked {
-    /// The domain whose body is shown; nobody for memory.
-    pub keeper: Option<usize>,
+    pub shown: Shown,
+    /// The bytes that a restore would leave.
     pub bytes: Bytes,
+}
+
+/// Where the bytes are that look shows.
+#[derive(Clone, Copy, PartialEq, Eq, Debug)]
+pub enum Shown {
+    /// In memory: nobody from the domain inwards holds the cell.
+    Memory,
+    /// In the body of this domain's copy.
+    Body(usize),
+    /// Nowhere: they follow this rule, and the part has length 0.
+    Rule(u32),
+    /// An error: in the body whose number is the rule's.
+    RuleAsBody(u32),
 }
 
 /// What a changing call has to do.
@@ -328,11 +371,17 @@ impl Verdict {
                 let Call::Look { cell, .. } = *call else {
                     return None;
                 };
-                let (place, number) = match looked.keeper {
-                    None => (1, cell),
-                    Some(keeper) => (2, before?.places.get(&(keeper, cell))?.body),
+                let number;
+                (reply.place, number) = match looked.shown {
+                    Shown::Memory => (IN_MEMORY, cell),
+                    Shown::Body(keeper) => (IN_BODIES, before?.places.get(&(keeper, cell))?.body),
+                    Shown::Rule(rule) => {
+                        reply.rule = rule;
+                        (BY_RULE, 0)
+                    }
+                    Shown::RuleAsBody(rule) => (IN_BODIES, rule),
                 };
-                (reply.place, reply.offset) = (place, CELL as u64 * u64::from(number));
+                reply.offset = CELL as u64 * u64::from(number);
             }
             Verdict::Work(work) => {
                 let (steps, done) = work.steps(budget);
@@ -465,8 +514,35 @@ impl Model {
         Ok(Verdict::Work(work))
     }
 
+    /// Questions 5 and 6: the domain that a handle names, which has to be the innermost.
+    fn innermost(&self, state: &State, handle: u32) -> Result<usize, u32> {
+        let named = state.find(handle).ok_or(5u32)?;
+        match named + 1 == state.domains.len() {
+            true => Ok(named),
+            false => Err(6),
+        }
+    }
+
+    /// The 64 bytes of a rule.
+    fn pattern(&self, rule: u32) -> Option<Bytes> {
+        let mut bytes = pattern(rule)?;
+        if self.has(Fault::ScaleTurnedRound) && rule == SCALE {
+            bytes.reverse();
+        }
+        Some(bytes)
+    }
+
+    /// The value of a cell held by `domain`.
+    fn value(&self, state: &State, domain: usize, cell: u32) -> Option<Bytes> {
+        match state.kept(domain, cell)? {
+            Kept::Copy(bytes) => Some(bytes),
+            Kept::Rule(rule) => self.pattern(rule),
+            Kept::ViaParent => None,
+        }
+    }
+
     /// Question 8, without wrapping.
-    fn range(&self, sizes: Sizes, first: u32, count: u32) -> Result<std::ops::Range<u32>, u32> {
+    fn range(&self, sizes: Sizes, first: u32, count: u32) -> Result<Range<u32>, u32> {
         let end = if self.has(Fault::RangeWraps) {
             first.wrapping_add(count) as u64
         } else {
@@ -501,91 +577,149 @@ impl Model {
     }
 
     fn add(&self, sizes: Sizes, state: &State, memory: &[u8], add: Add) -> Result<Verdict, u32> {
-        let named = state.find(add.handle).ok_or(5u32)?;
-        if named + 1 != state.domains.len() {
-            return Err(6);
-        }
-        if add.kind > 1 || add.label > 1 {
+        let named = self.innermost(state, add.handle)?;
+        if add.kind > PATTERN || add.label > READ_WRITE {
             return Err(7);
         }
         let range = self.range(sizes, add.first, add.count)?;
         let domain = &state.domains[named];
         let new: Vec<u32> = range.clone().filter(|c| !domain.holds(*c)).collect();
-        if add.kind == VIA_PARENT && !new.is_empty() {
-            let outer = named.checked_sub(1).ok_or(11u32)?;
-            let holds = |c: u32| state.domains[outer].holds(c);
-            let equal = |c: u32| state.value(outer, c) == Some(cell_of(memory, c));
-            if self.has(Fault::Question12CellByCell) {
-                for c in &new {
-                    if !holds(*c) {
-                        return Err(11);
-                    }
-                    if !equal(*c) {
-                        return Err(12);
-                    }
+        // 11, 12, 18, 19, 16, 17: of these, 18 is for a pattern alone, 11, 12 and 19 for via parent.
+        match add.kind {
+            VIA_PARENT if !new.is_empty() => self.rests_on_parent(state, memory, named, &new)?,
+            PATTERN => self.follows_rule(memory, add.rule, &new)?,
+            _ => {}
+        }
+        self.room(sizes, state, add.kind, new.len() as u64)?;
+        self.count(self.added(state, memory, add, range))
+    }
+
+    /// Questions 11, 12 and 19, each for all newly held cells before the next.
+    fn rests_on_parent(
+        &self,
+        state: &State,
+        memory: &[u8],
+        named: usize,
+        new: &[u32],
+    ) -> Result<(), u32> {
+        let outer = named.checked_sub(1).ok_or(11u32)?;
+        let lacks = |c: &u32| !state.domains[outer].holds(*c);
+        let differs = |c: &u32| self.value(state, outer, *c) != Some(cell_of(memory, *c));
+        let by_rule = |c: &u32| state.domains[outer].rule(*c).is_some();
+        if self.has(Fault::Question12CellByCell) {
+            for c in new {
+                if lacks(c) {
+                    return Err(11);
+                }
+                if differs(c) {
+                    return Err(12);
                 }
             }
-            if new.iter().any(|c| !holds(*c)) {
-                return Err(11);
-            }
-            if !self.has(Fault::NoQuestion12) && new.iter().any(|c| !equal(*c)) {
-                return Err(12);
-            }
         }
-        let no_16 = state.entries() + new.len() as u64 > sizes.e as u64;
-        let no_17 = add.kind == COPY && state.copies() + new.len() as u64 > sizes.b as u64;
-        if self.has(Fault::BodiesBeforeEntries) && no_17 {
+        if new.iter().any(lacks) {
+            return Err(11);
+        }
+        if self.has(Fault::Question19BeforeQuestion12) && new.iter().any(by_rule) {
+            return Err(19);
+        }
+        if !self.has(Fault::NoQuestion12) && new.iter().any(differs) {
+            return Err(12);
+        }
+        if !self.has(Fault::NoQuestion19) && new.iter().any(by_rule) {
+            return Err(19);
+        }
+        Ok(())
+    }
+
+    /// Question 18: there is such a rule, whether or not a cell is new, and memory follows it in
+    /// every newly held cell.
+    fn follows_rule(&self, memory: &[u8], rule: u32, new: &[u32]) -> Result<(), u32> {
+        if !RULES.contains(&rule) {
+            let asked = !new.is_empty() || !self.has(Fault::RuleAskedOfNewCellsOnly);
+            return if asked { Err(18) } else { Ok(()) };
+        }
+        let follows = |c: &u32| self.pattern(rule) == Some(cell_of(memory, *c));
+        if !new.iter().all(follows) && !self.has(Fault::NoQuestion18) {
+            return Err(18);
+        }
+        Ok(())
+    }
+
+    /// Copies in use.
+    fn copies(&self, state: &State) -> u64 {
+        let also = match self.has(Fault::PatternCountsAsCopy) {
+            true => state.patterns(),
+            false => 0,
+        };
+        state.copies() + also
+    }
+
+    /// Questions 16 and 17: every newly held cell takes an entry, and a copy a body too.
+    fn room(&self, sizes: Sizes, state: &State, kind: u32, new: u64) -> Result<(), u32> {
+        let takes_body = match kind {
+            COPY => true,
+            PATTERN => self.has(Fault::PatternCountsAsCopy),
+            _ => false,
+        };
+        let no_16 = state.entries() + new > u64::from(sizes.e);
+        let no_17 = takes_body && self.copies(state) + new > u64::from(sizes.b);
+        if no_17 && (!no_16 || self.has(Fault::BodiesBeforeEntries)) {
             return Err(17);
         }
         if no_16 {
             return Err(16);
         }
-        if no_17 {
-            return Err(17);
-        }
+        Ok(())
+    }
 
+    /// What an add has to do that is not refused.
+    fn added(&self, state: &State, memory: &[u8], add: Add, range: Range<u32>) -> Work {
         let mut work = self.work(state.clone());
-        let cells = &mut work.after.domains[named].cells;
+        let cells = &mut work.after.domains.last_mut().expect("live").cells;
         for c in range {
-            match cells.get_mut(&c) {
-                None => {
-                    let kept = if add.kind == COPY {
-                        work.taken.push((c, cell_of(memory, c)));
-                        Kept::Copy(cell_of(memory, c))
-                    } else {
-                        Kept::ViaParent
-                    };
-                    cells.insert(
-                        c,
-                        Holding {
-                            read_write: add.label == READ_WRITE,
-                            kept,
-                        },
-                    );
-                    work.words += 2;
-                }
-                Some(held) => {
-                    if add.label == READ_WRITE && !held.read_write {
-                        held.read_write = true;
-                        if !self.has(Fault::RaiseWithoutSteps) {
-                            work.words += 2;
-                        }
-                    }
-                    if self.has(Fault::LabelGoesBack) && add.label == READ_ONLY && held.read_write {
-                        held.read_write = false;
-                        work.words += 2;
-                    }
-                    if self.has(Fault::AddTakesNewValue)
-                        && add.kind == COPY
-                        && matches!(held.kept, Kept::Copy(_))
-                    {
-                        held.kept = Kept::Copy(cell_of(memory, c));
-                        work.taken.push((c, cell_of(memory, c)));
-                    }
-                }
+            let bytes = cell_of(memory, c);
+            let held = match cells.get(&c) {
+                Some(held) => self.added_again(*held, add, bytes),
+                None => Holding {
+                    read_write: add.label == READ_WRITE,
+                    kept: match add.kind {
+                        COPY => Kept::Copy(bytes),
+                        VIA_PARENT => Kept::ViaParent,
+                        _ => Kept::Rule(add.rule),
+                    },
+                },
+            };
+            let old = cells.insert(c, held);
+            // Bytes are taken for a new copy alone; two words for an entry that is taken or changed.
+            if old.map(|old| old.kept) != Some(held.kept) && held.kept.is_copy() {
+                work.taken.push((c, bytes));
+            }
+            let raised = old.is_none_or(|old| old.read_write != held.read_write);
+            let turned = old.is_some_and(|old| old.kept.rule() != held.kept.rule());
+            let uncounted = self.has(Fault::RaiseWithoutSteps) && old.is_some() && held.read_write;
+            if turned || raised && !uncounted {
+                work.words += 2;
             }
         }
-        self.count(work)
+        work
+    }
+
+    /// What becomes of a cell that is held already: it keeps kind and value, and its label can rise.
+    fn added_again(&self, mut held: Holding, add: Add, bytes: Bytes) -> Holding {
+        if add.label == READ_WRITE {
+            held.read_write = true;
+        } else if self.has(Fault::LabelGoesBack) {
+            held.read_write = false;
+        }
+        let turns = match held.kept {
+            Kept::Copy(_) => self.has(Fault::AddTakesNewValue),
+            Kept::Rule(_) => self.has(Fault::AddTurnsPattern),
+            Kept::ViaParent => false,
+        };
+        if turns && add.kind == COPY {
+            held.kept = Kept::Copy(bytes);
+        }
+        held
     }
 
     fn delete(
@@ -626,10 +760,7 @@ impl Model {
     }
 
     fn commit(&self, state: &State, handle: u32) -> Result<Verdict, u32> {
-        let named = state.find(handle).ok_or(5u32)?;
-        if named + 1 != state.domains.len() {
-            return Err(6);
-        }
+        self.innermost(state, handle)?;
         let mut work = self.work(state.clone());
         work.words = 2;
         let inner = work.after.domains.pop().expect("live");
@@ -679,13 +810,11 @@ impl Model {
         memory: &[u8],
         handle: u32,
     ) -> Result<Verdict, u32> {
-        let named = state.find(handle).ok_or(5u32)?;
-        if named + 1 != state.domains.len() {
-            return Err(6);
-        }
+        let named = self.innermost(state, handle)?;
         let takes = |h: &Holding| {
             (h.read_write || self.has(Fault::AdvanceTakesReadOnly))
                 && !(self.has(Fault::AdvanceKeepsViaParent) && h.kept == Kept::ViaParent)
+                && !(self.has(Fault::AdvanceKeepsRule) && h.kept.rule().is_some())
         };
         let renewed: Vec<u32> = state.domains[named]
             .cells
@@ -702,12 +831,12 @@ impl Model {
         let bodies = if self.has(Fault::AdvanceCountsFewerBodies) {
             renewed
                 .iter()
-                .filter(|c| state.domains[named].cells[c].kept == Kept::ViaParent)
+                .filter(|c| !state.domains[named].cells[c].kept.is_copy())
                 .count()
         } else {
             renewed.len()
         };
-        if state.copies() + bodies as u64 > sizes.b as u64 {
+        if self.copies(state) + bodies as u64 > u64::from(sizes.b) {
             return Err(17);
         }
         let mut work = self.work(state.clone());
@@ -749,7 +878,10 @@ impl Model {
             if self.has(Fault::RestoreStopsAtNamed) && keeper.is_some_and(|k| k < named) {
                 continue;
             }
-            if let Some(bytes) = state.value(holder, c) {
+            if self.has(Fault::RestoreSkipsPatterns) && state.domains[holder].rule(c).is_some() {
+                continue;
+            }
+            if let Some(bytes) = self.value(state, holder, c) {
                 work.put_back.push((c, bytes));
             }
         }
@@ -785,11 +917,18 @@ impl Model {
             holders.next()
         };
         let keeper = holder.and_then(|h| state.keeper(h, cell));
-        let bytes = match keeper {
-            Some(k) => state.value(k, cell).expect("a copy"),
-            None => cell_of(memory, cell),
+        let shown = match keeper {
+            None => Shown::Memory,
+            Some(k) => match state.domains[k].rule(cell) {
+                None => Shown::Body(k),
+                Some(rule) if self.has(Fault::LookTellsRuleAsBody) => Shown::RuleAsBody(rule),
+                Some(rule) => Shown::Rule(rule),
+            },
         };
-        Ok(Verdict::Looked(Looked { keeper, bytes }))
+        let bytes = keeper
+            .and_then(|k| self.value(state, k, cell))
+            .unwrap_or_else(|| cell_of(memory, cell));
+        Ok(Verdict::Looked(Looked { shown, bytes }))
     }
 }
 

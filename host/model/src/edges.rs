@@ -1,19 +1,29 @@
-//! Document 01's "edges to run", as scripts that any store can be put through. Cells are filled
-//! with one byte.
+//! Document 01's "edges to run" and those of request A.1, as scripts that any store can be put
+//! through. Cells are filled with one byte, or follow a rule.
 
 use crate::calls::{Call, READ_ONLY as RO, READ_WRITE as RW, Sizes};
+use crate::reply::{BY_RULE, IN_BODIES, IN_MEMORY};
+use crate::rules::{INDEX, ONES, SCALE, ZEROS};
 
 /// One line of a script.
 #[derive(Clone, Debug)]
 pub enum Line {
     /// The program fills a cell with one byte.
     Fill(u32, u8),
+    /// The program writes the bytes of a rule into a cell.
+    Pattern(u32, u32),
+    /// The program writes one byte of memory.
+    Byte(usize, u8),
     /// A call, and the number it has to answer.
     Answers(Call, u32),
     /// A create that has to give this handle.
     CreateGives(u32),
     /// The cell in memory is filled with this byte.
     See(u32, u8),
+    /// The cell in memory has the bytes of this rule.
+    SeePattern(u32, u32),
+    /// Look at this handle and cell tells this place and this rule.
+    Looks(u32, u32, u32, u32),
     /// So many domains are live.
     Live(usize),
     /// A word of the table is set by hand.
@@ -28,11 +38,18 @@ pub struct Script {
     pub lines: Vec<Line>,
 }
 
-/// Every edge of document 01 but the table lengths, which need no script.
-#[rustfmt::skip]
+/// The sizes of an edge where nothing else is said.
+const USUAL: Sizes = Sizes { m: 4, e: 8, b: 8 };
+
+/// Every edge but table lengths and damaged tables, which need no script.
 pub fn scripts() -> Vec<Script> {
+    [document_01(), patterns()].concat()
+}
+
+#[rustfmt::skip]
+fn document_01() -> Vec<Script> {
     use Line::*;
-    let usual = Sizes { m: 4, e: 8, b: 8 };
+    let usual = USUAL;
     let create = || Answers(Call::Create, 0);
     let copy = |cell, label| Answers(Call::copy(cell, 1, label), 0);
     let via = |cell, label, answer| Answers(Call::via_parent(cell, 1, label), answer);
@@ -73,5 +90,105 @@ pub fn scripts() -> Vec<Script> {
     // Not in document 01's list, but told by it: the smallest store.
     edge("the smallest store", Sizes { m: 1, e: 1, b: 1 },
         vec![Fill(0, 5), create(), copy(0, RW), Fill(0, 6), restore(0), See(0, 5), advance(17), commit(), Live(0)]);
+    list
+}
+
+/// The edges of request A.1.
+#[rustfmt::skip]
+fn patterns() -> Vec<Script> {
+    use Line::*;
+    let create = || Answers(Call::Create, 0);
+    let by_rule = |cell, rule, label, answer| Answers(Call::pattern(cell, 1, rule, label), answer);
+    let copy = |cell, label| Answers(Call::copy(cell, 1, label), 0);
+    let via = |cell, answer| Answers(Call::via_parent(cell, 1, RO), answer);
+    let restore = |handle| Answers(Call::Restore { handle }, 0);
+    let advance = |answer| Answers(Call::Advance { handle: 0 }, answer);
+    let commit = || Answers(Call::Commit { handle: 0 }, 0);
+    let is_rule = |handle, cell, rule| Looks(handle, cell, BY_RULE, rule);
+    let is_copy = |handle, cell| Looks(handle, cell, IN_BODIES, 0);
+    let each = |line: &dyn Fn(u32) -> Line| (0..4).map(line).collect::<Vec<_>>();
+
+    let mut list = Vec::new();
+    let mut edge = |name, sizes, lines: Vec<Line>| list.push(Script { name, sizes, lines });
+    // Cell c follows rule c.
+    let held = |label| [each(&|c| Pattern(c, c)), vec![create()], each(&|c| by_rule(c, c, label, 0))].concat();
+    for (name, label) in [("each rule comes back, read-write", RW), ("each rule comes back, read-only", RO)] {
+        edge(name, USUAL, [held(label), each(&|c| is_rule(1, c, c)), each(&|c| Fill(c, 9)),
+            vec![restore(1)], each(&|c| SeePattern(c, c)), each(&|c| is_rule(0, c, c))].concat());
+    }
+    edge("an advance turns read-write rules into copies", USUAL, [held(RW), each(&|c| Fill(c, 9)), vec![advance(0)],
+        each(&|c| is_copy(1, c)), each(&|c| Fill(c, 11)), vec![restore(1)], each(&|c| See(c, 9))].concat());
+    edge("an advance keeps read-only rules", USUAL, [held(RO), each(&|c| Fill(c, 9)), vec![advance(0)],
+        each(&|c| is_rule(1, c, c)), each(&|c| Fill(c, 11)), vec![restore(1)], each(&|c| SeePattern(c, c))].concat());
+    edge("a scale of one, advanced", USUAL,
+        vec![Pattern(0, SCALE), create(), by_rule(0, SCALE, RW, 0), is_rule(1, 0, SCALE), Fill(0, 8), advance(0), is_copy(1, 0),
+             Fill(0, 0), restore(1), See(0, 8)]);
+    edge("an advance takes an unchanged read-write rule too", USUAL,
+        vec![Pattern(0, ONES), create(), by_rule(0, ONES, RW, 0), advance(0), is_copy(1, 0), Fill(0, 1), restore(1), SeePattern(0, ONES)]);
+
+    edge("a rule above 3, with a new cell and without", USUAL,
+        vec![create(), by_rule(0, 4, RO, 18), copy(0, RO), by_rule(0, 4, RO, 18), by_rule(0, 4, RW, 18),
+             by_rule(0, u32::MAX, RO, 18), by_rule(0, ZEROS, RO, 0)]);
+    edge("one byte off at the first and at the last place", USUAL,
+        vec![Pattern(1, SCALE), create(), Byte(64, 1), by_rule(1, SCALE, RO, 18), Byte(64, 0), Byte(127, 62), by_rule(1, SCALE, RO, 18),
+             Byte(127, 63), by_rule(1, ONES, RO, 18), by_rule(1, SCALE, RO, 0)]);
+    edge("one byte off in the last cell of a range", USUAL,
+        vec![Pattern(0, INDEX), Pattern(1, INDEX), Pattern(2, INDEX), create(), Byte(191, 0), Answers(Call::pattern(0, 3, INDEX, RW), 18),
+             Looks(1, 0, IN_MEMORY, 0), Byte(191, 63), Answers(Call::pattern(0, 3, INDEX, RW), 0), is_rule(1, 2, INDEX)]);
+    edge("a held cell is not compared", USUAL,
+        vec![Pattern(0, ONES), create(), by_rule(0, ONES, RO, 0), Fill(0, 9), Pattern(1, ONES), Answers(Call::pattern(0, 2, ONES, RW), 0),
+             restore(1), SeePattern(0, ONES), SeePattern(1, ONES)]);
+
+    edge("via parent on a rule", USUAL,
+        vec![Pattern(0, INDEX), create(), by_rule(0, INDEX, RW, 0), create(), via(0, 19), Fill(0, 9), via(0, 12), copy(0, RW), via(0, 0)]);
+    edge("a copy, a rule inside it, and via parent on that", USUAL,
+        vec![create(), copy(0, RW), create(), by_rule(0, ZEROS, RW, 0), create(), via(0, 19), Fill(0, 9), via(0, 12)]);
+    edge("11 and 12 are put to all cells before 19", USUAL,
+        vec![Fill(1, 7), create(), by_rule(0, ZEROS, RO, 0), copy(1, RO), Fill(1, 8), create(), Answers(Call::via_parent(0, 3, RO), 11),
+             Answers(Call::via_parent(0, 2, RO), 12), Fill(1, 7), Answers(Call::via_parent(0, 2, RO), 19), via(1, 0),
+             Answers(Call::via_parent(0, 2, RO), 19)]);
+
+    edge("commit of a rule where the outer domain lacks the cell", USUAL,
+        vec![Pattern(1, SCALE), create(), create(), by_rule(1, SCALE, RW, 0), Fill(1, 9), commit(), is_rule(1, 1, SCALE), restore(1),
+             SeePattern(1, SCALE), Fill(1, 5), advance(0), is_copy(1, 1)]);
+    edge("commit of a rule where the outer domain holds a copy", USUAL,
+        vec![Fill(0, 7), create(), copy(0, RO), Pattern(0, INDEX), create(), by_rule(0, INDEX, RW, 0), commit(), is_copy(1, 0), restore(1),
+             See(0, 7), Fill(0, 11), advance(0), Fill(0, 12), restore(1), See(0, 11)]);
+    edge("commit of a copy where the outer domain holds a rule", USUAL,
+        vec![create(), by_rule(0, ZEROS, RO, 0), Fill(0, 5), create(), copy(0, RW), Fill(0, 6), commit(), is_rule(1, 0, ZEROS), restore(1),
+             See(0, 0), Fill(0, 4), advance(0), is_copy(1, 0)]);
+    edge("a rule outside, a copy inside: oldest wins", USUAL,
+        vec![Pattern(0, SCALE), create(), by_rule(0, SCALE, RW, 0), Fill(0, 9), create(), copy(0, RW), Fill(0, 11), is_rule(1, 0, SCALE),
+             is_copy(2, 0), restore(1), SeePattern(0, SCALE), Live(1)]);
+
+    edge("a held cell keeps its rule", USUAL,
+        vec![Pattern(0, SCALE), create(), by_rule(0, SCALE, RO, 0), by_rule(0, ONES, RO, 0), copy(0, RW), is_rule(1, 0, SCALE), Fill(0, 9),
+             restore(1), SeePattern(0, SCALE), Fill(0, 9), advance(0), is_copy(1, 0)]);
+    edge("a held copy stays a copy", USUAL,
+        vec![create(), copy(0, RO), by_rule(0, ZEROS, RW, 0), is_copy(1, 0), Fill(0, 3), by_rule(0, ONES, RO, 0), advance(0), restore(1), See(0, 3)]);
+    edge("a rule deleted, and the cell held by a copy", USUAL,
+        vec![create(), by_rule(0, ZEROS, RW, 0), Answers(Call::delete(1, 0, 1), 0), Looks(1, 0, IN_MEMORY, 0), Fill(0, 2), copy(0, RO),
+             Fill(0, 9), restore(1), See(0, 2)]);
+    edge("kinds 0 and 1 take any rule number", USUAL,
+        vec![create(), Answers(Call::copy(0, 1, RW).with_rule(4), 0), create(), Answers(Call::via_parent(0, 1, RW).with_rule(u32::MAX), 0)]);
+
+    edge("7 and 8 come before 18, and 18 before 16", Sizes { e: 1, ..USUAL },
+        vec![create(), Answers(Call::pattern(0, 1, 4, 2), 7), Answers(Call::add(0, 1, 3, RO), 7), Answers(Call::pattern(4, 1, 4, RO), 8),
+             Answers(Call::pattern(3, 2, 4, RO), 8), by_rule(0, ZEROS, RW, 0), by_rule(1, 4, RO, 18), by_rule(1, ONES, RO, 18),
+             by_rule(1, ZEROS, RO, 16)]);
+    edge("a rule number above B, eight times", Sizes { m: 8, e: 8, b: 1 },
+        [(0..8).map(|c| Pattern(c, SCALE)).collect(), vec![create(), Answers(Call::pattern(0, 8, SCALE, RW), 0), Answers(Call::Open, 0)],
+         (0..8).map(|c| Fill(c, 9)).collect(), vec![restore(1)], (0..8).map(|c| SeePattern(c, SCALE)).collect(),
+         (0..8).map(|c| is_rule(1, c, SCALE)).collect(), vec![advance(17)]].concat());
+    edge("a copy in body 2 beside two cells by rule 2", USUAL,
+        vec![Fill(2, 7), create(), Answers(Call::copy(0, 3, RW), 0), Answers(Call::delete(1, 0, 2), 0), Pattern(0, INDEX), Pattern(1, INDEX),
+             Answers(Call::pattern(0, 2, INDEX, RW), 0), Answers(Call::Open, 0), Fill(0, 1), Fill(1, 1), Fill(2, 1), restore(1),
+             SeePattern(0, INDEX), SeePattern(1, INDEX), See(2, 7), advance(0)]);
+    edge("a rule takes no body", Sizes { b: 1, ..USUAL },
+        vec![create(), copy(0, RO), Answers(Call::copy(1, 1, RO), 17), by_rule(1, ZEROS, RO, 0), advance(0), by_rule(1, ZEROS, RW, 0), advance(17)]);
+    edge("an advance counts a read-write rule", Sizes { b: 2, ..USUAL },
+        vec![create(), copy(0, RO), by_rule(1, ZEROS, RW, 0), advance(0), advance(17)]);
+    edge("the smallest store, by a rule", Sizes { m: 1, e: 1, b: 1 },
+        vec![Pattern(0, SCALE), create(), by_rule(0, SCALE, RW, 0), Fill(0, 6), restore(0), SeePattern(0, SCALE), advance(0), advance(17), commit(), Live(0)]);
     list
 }

@@ -1,8 +1,8 @@
 //! Plausible errors, switched on one at a time.
 //!
 //! A comparison that finds no difference says something only if it would have found one. Each of
-//! these is an error that somebody could make on reading document 01 quickly; with one of them
-//! switched on, the model and a right store have to differ within a few sessions.
+//! these is an error that somebody could make on reading document 01 or a request quickly; with one
+//! of them switched on, the model and a right store have to differ within a few sessions.
 
 /// One plausible error.
 #[derive(Clone, Copy, PartialEq, Eq, Debug)]
@@ -70,6 +70,36 @@ pub enum Fault {
     TableMissesSharedBody,
     /// The table's rules look at the raw words while pairs are pending.
     TableReadsRaw,
+    /// A pattern is added without a look at memory.
+    NoQuestion18,
+    /// A rule above 3 is refused only where a cell is new.
+    RuleAskedOfNewCellsOnly,
+    /// Via parent may rest on a cell that the next domain out holds by a rule.
+    NoQuestion19,
+    /// 19 is asked before 12.
+    Question19BeforeQuestion12,
+    /// A pattern is counted as a copy, so that bodies seem to run out.
+    PatternCountsAsCopy,
+    /// Add by copy turns a cell that is held by a rule into a copy.
+    AddTurnsPattern,
+    /// Advance leaves a read-write cell by its rule, though memory has changed.
+    AdvanceKeepsRule,
+    /// Restore puts no cell back that is held by a rule.
+    RestoreSkipsPatterns,
+    /// Rule 3's bytes are turned round: 63, 128, 0, 0.
+    ScaleTurnedRound,
+    /// Look tells a rule's number as that of a body.
+    LookTellsRuleAsBody,
+    /// The body whose number a rule has is marked as in use.
+    RuleMarksBody,
+    /// The table's rules hold a rule's number to be below B.
+    TableBoundsRuleByBodies,
+    /// The table's rules miss a rule above 3.
+    TableMissesRuleNumber,
+    /// The table's rules miss an entry that is via parent and by a rule.
+    TableMissesBothBits,
+    /// The table's rules miss a via parent entry that rests on a rule.
+    TableMissesViaOnRule,
     /// Notebook: a program write spoils nothing.
     NotebookWithoutSpoiltWrites,
     /// Notebook: a delete spoils nothing.
@@ -85,7 +115,7 @@ pub enum Fault {
 }
 
 impl Fault {
-    pub const ALL: [Fault; 37] = [
+    pub const ALL: [Fault; 52] = [
         Fault::NewestWinsInRestore,
         Fault::NewestWinsInCommit,
         Fault::AdvanceInPlace,
@@ -117,6 +147,21 @@ impl Fault {
         Fault::TableMissesOrphan,
         Fault::TableMissesSharedBody,
         Fault::TableReadsRaw,
+        Fault::NoQuestion18,
+        Fault::RuleAskedOfNewCellsOnly,
+        Fault::NoQuestion19,
+        Fault::Question19BeforeQuestion12,
+        Fault::PatternCountsAsCopy,
+        Fault::AddTurnsPattern,
+        Fault::AdvanceKeepsRule,
+        Fault::RestoreSkipsPatterns,
+        Fault::ScaleTurnedRound,
+        Fault::LookTellsRuleAsBody,
+        Fault::RuleMarksBody,
+        Fault::TableBoundsRuleByBodies,
+        Fault::TableMissesRuleNumber,
+        Fault::TableMissesBothBits,
+        Fault::TableMissesViaOnRule,
         Fault::NotebookWithoutSpoiltWrites,
         Fault::NotebookWithoutSpoiltDeletes,
         Fault::NotebookDeleteSpoilsNamedOnly,

@@ -1,8 +1,10 @@
 //! An independent model of the domain store.
 //!
-//! It is written from document 01 and from nothing else, so that a mistake in the proved code, in
-//! its statements, or on the way to the compiled library does not repeat itself here. The parts:
+//! It is written from document 01, with the requests that have landed since, and from nothing else,
+//! so that a mistake in the proved code, in its statements, or on the way to the compiled library
+//! does not repeat itself here. The parts:
 //!
+//! - [`rules`]: the rules that a cell may follow instead of being copied (request A.1).
 //! - [`state`]: what a store means: next handle, live domains, and what each holds of each cell.
 //! - [`calls`]: the ten calls: the questions in their order, what a call leaves, how many steps it
 //!   takes, and what a cut at each step leaves.
@@ -14,7 +16,7 @@
 //!   never sees table or bodies.
 //! - [`fault`]: plausible errors that can be switched on one at a time, to show that a comparison
 //!   with this model finds them.
-//! - [`edges`]: document 01's "edges to run" as scripts.
+//! - [`edges`]: document 01's "edges to run" as scripts, with those of the requests.
 //!
 //! Besides, what all tests share and document 01 says nothing of: [`buffers`], the lent buffers with
 //! guards around each; [`reply`], what a call tells; [`rng`], numbers at random.
@@ -27,11 +29,12 @@ pub mod notebook;
 pub mod plan;
 pub mod reply;
 pub mod rng;
+pub mod rules;
 pub mod state;
 pub mod table;
 
 pub use buffers::{Buffer, Buffers};
-pub use calls::{Add, Call, Lengths, Looked, Model, Reading, Sizes, Verdict, Work};
+pub use calls::{Add, Call, Lengths, Looked, Model, Reading, Shown, Sizes, Verdict, Work};
 pub use fault::Fault;
 pub use notebook::{Ended, Notebook};
 pub use plan::{Place, Step};

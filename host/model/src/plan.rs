@@ -11,7 +11,7 @@ use crate::state::{CELL, Kept, State};
 use crate::table::{Decoded, ENTRIES, MAGIC, NEXT, PENDING, encode};
 use std::collections::{BTreeMap, BTreeSet};
 
-/// Where a holding is kept. For via parent the body is 0.
+/// Where a holding is kept. Via parent and by a rule the body is 0.
 #[derive(Clone, Copy, PartialEq, Eq, Debug)]
 pub struct Place {
     pub entry: u32,
@@ -173,10 +173,8 @@ fn places_after(
                     place
                 }
             };
-            let copied =
-                at == innermost && taken.contains(cell) && matches!(held.kept, Kept::Copy(_));
-            let had_body =
-                old.is_some() && matches!(before.state.domains[at].cells[cell].kept, Kept::Copy(_));
+            let copied = at == innermost && taken.contains(cell) && held.kept.is_copy();
+            let had_body = old.is_some() && before.state.domains[at].cells[cell].kept.is_copy();
             let over_old = had_body
                 && (in_place
                     || fault == Some(Fault::AddTakesNewValue) && matches!(call, Call::Add(_)));
@@ -203,7 +201,7 @@ fn places_after(
                     place.body = before.places[&(innermost, *cell)].body;
                 }
             }
-            if held.kept == Kept::ViaParent {
+            if !held.kept.is_copy() {
                 place.body = 0;
             }
             after.insert((at, *cell), place);
@@ -232,7 +230,7 @@ fn lowest_places(
         } else {
             entries.next()?
         };
-        let copy = matches!(work.after.domains[at].cells[&cell].kept, Kept::Copy(_));
+        let copy = work.after.domains[at].cells[&cell].kept.is_copy();
         let body = if copy { bodies.next()? } else { 0 };
         given.insert((at, cell), Place { entry, body });
         given.get(&(at, cell)).copied()

@@ -9,6 +9,11 @@ pub const STOPPED: u32 = 255;
 /// A budget that stops no call.
 pub const FULL: u64 = u64::MAX;
 
+/// The places that look tells: a part of memory, a part of bodies, and no part at all but a rule.
+pub const IN_MEMORY: u32 = 1;
+pub const IN_BODIES: u32 = 2;
+pub const BY_RULE: u32 = 3;
+
 /// What a call told, with every out parameter. Those that a call does not have are 0.
 #[derive(Clone, Copy, PartialEq, Eq, Debug, Default)]
 pub struct Reply {
@@ -18,9 +23,11 @@ pub struct Reply {
     pub handle: u32,
     pub handles: [u32; 8],
     pub count: u32,
-    /// 1 memory, 2 bodies, 0 refused.
+    /// 1 memory, 2 bodies, 3 a rule, 0 refused.
     pub place: u32,
     pub offset: u64,
+    /// The rule's number where the place is one, else 0.
+    pub rule: u32,
     /// A store beside an out parameter.
     pub strayed: bool,
 }

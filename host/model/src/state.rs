@@ -1,6 +1,7 @@
 //! What a store means, without places: next handle, live domains outermost first, and what each
 //! holds of each cell.
 
+use crate::rules;
 use std::collections::BTreeMap;
 
 /// Bytes in a cell.
@@ -16,6 +17,32 @@ pub enum Kept {
     Copy(Bytes),
     /// By what the next domain out holds.
     ViaParent,
+    /// By the rule with this number: the bytes are made afresh.
+    Rule(u32),
+}
+
+impl Kept {
+    /// The bytes, where the domain has them by itself: none for via parent.
+    fn bytes(self) -> Option<Bytes> {
+        match self {
+            Kept::Copy(bytes) => Some(bytes),
+            Kept::ViaParent => None,
+            Kept::Rule(rule) => rules::pattern(rule),
+        }
+    }
+
+    /// Whether a body is in use for it.
+    pub fn is_copy(self) -> bool {
+        matches!(self, Kept::Copy(_))
+    }
+
+    /// The rule, where it is one that keeps the cell.
+    pub fn rule(self) -> Option<u32> {
+        match self {
+            Kept::Rule(rule) => Some(rule),
+            _ => None,
+        }
+    }
 }
 
 /// One cell held by one domain.
@@ -35,6 +62,11 @@ pub struct Domain {
 impl Domain {
     pub fn holds(&self, cell: u32) -> bool {
         self.cells.contains_key(&cell)
+    }
+
+    /// The rule by which the domain holds a cell, if it does so by one.
+    pub fn rule(&self, cell: u32) -> Option<u32> {
+        self.cells.get(&cell)?.kept.rule()
     }
 }
 
@@ -63,25 +95,27 @@ impl State {
         self.domains.iter().position(|d| d.handle == handle)
     }
 
-    /// The domain whose body is the value of a cell held by `domain`: itself, or further out for
-    /// via parent.
+    /// The domain whose body or rule is the value of a cell held by `domain`: itself, or further
+    /// out for via parent.
     pub fn keeper(&self, domain: usize, cell: u32) -> Option<usize> {
         let mut at = domain;
         loop {
             match self.domains[at].cells.get(&cell)?.kept {
-                Kept::Copy(_) => return Some(at),
+                Kept::Copy(_) | Kept::Rule(_) => return Some(at),
                 Kept::ViaParent => at = at.checked_sub(1)?,
             }
         }
     }
 
+    /// The copy or the rule that is the value of a cell held by `domain`.
+    pub fn kept(&self, domain: usize, cell: u32) -> Option<Kept> {
+        let keeper = self.keeper(domain, cell)?;
+        Some(self.domains[keeper].cells[&cell].kept)
+    }
+
     /// The value of a cell held by `domain`.
     pub fn value(&self, domain: usize, cell: u32) -> Option<Bytes> {
-        let keeper = self.keeper(domain, cell)?;
-        match self.domains[keeper].cells[&cell].kept {
-            Kept::Copy(bytes) => Some(bytes),
-            Kept::ViaParent => None,
-        }
+        self.kept(domain, cell)?.bytes()
     }
 
     /// Entries in use: one for each cell held by each domain.
@@ -91,11 +125,17 @@ impl State {
 
     /// Copies in use: one body each.
     pub fn copies(&self) -> u64 {
-        self.domains
-            .iter()
-            .flat_map(|d| d.cells.values())
-            .filter(|h| matches!(h.kept, Kept::Copy(_)))
-            .count() as u64
+        self.count(Kept::is_copy)
+    }
+
+    /// Cells held by a rule: an entry each, and no body.
+    pub fn patterns(&self) -> u64 {
+        self.count(|kept| kept.rule().is_some())
+    }
+
+    fn count(&self, is_it: impl Fn(Kept) -> bool) -> u64 {
+        let all = self.domains.iter().flat_map(|d| d.cells.values());
+        all.filter(|held| is_it(held.kept)).count() as u64
     }
 }
 

@@ -5,7 +5,8 @@ use crate::buffers::Buffers;
 use crate::calls::{Reading, Sizes};
 use crate::fault::Fault;
 use crate::plan::Place;
-use crate::state::{Bytes, CELL, Domain, Holding, Kept, State};
+use crate::rules::RULES;
+use crate::state::{CELL, Domain, Holding, Kept, State};
 use std::collections::{BTreeMap, BTreeSet};
 
 /// Word 0 of every store.
@@ -37,7 +38,8 @@ pub enum Broken {
 pub struct Decoded {
     pub sizes: Sizes,
     pub state: State,
-    /// Entry and body of each holding, by domain (from 0) and cell. For via parent the body is 0.
+    /// Entry and body of each holding, by domain (from 0) and cell. Where it is no copy the body
+    /// is 0.
     pub places: BTreeMap<(usize, u32), Place>,
     /// Pending pairs: word number, new value.
     pub pairs: Vec<(u32, u32)>,
@@ -54,10 +56,9 @@ impl Decoded {
 
     /// The body of a domain's own copy of a cell.
     pub fn body(&self, domain: usize, cell: u32) -> Option<u32> {
-        match self.state.domains.get(domain)?.cells.get(&cell)?.kept {
-            Kept::Copy(_) => Some(self.places[&(domain, cell)].body),
-            Kept::ViaParent => None,
-        }
+        let held = self.state.domains.get(domain)?.cells.get(&cell)?;
+        let place = self.places.get(&(domain, cell))?;
+        held.kept.is_copy().then_some(place.body)
     }
 
     /// Bodies not in use.
@@ -141,7 +142,14 @@ fn pairs(sizes: Sizes, table: &[u32]) -> Result<Vec<(u32, u32)>, String> {
     Ok(pairs)
 }
 
-type Meaning = (State, BTreeMap<(usize, u32), Place>);
+/// The bits of an entry's first word.
+const READ_WRITE: u32 = 1 << 27;
+const VIA_PARENT: u32 = 1 << 26;
+const BY_RULE: u32 = 1 << 25;
+/// Bits 16 to 24, which are zero.
+const SPARE: u32 = 0x01FF_0000;
+
+type Places = BTreeMap<(usize, u32), Place>;
 
 /// Reads the words that pairs may name: words 4, 5, 8 to 15 and the entries.
 fn meaning(
@@ -149,7 +157,27 @@ fn meaning(
     bodies: &[u8],
     words: &[u32],
     fault: Option<Fault>,
-) -> Result<Meaning, String> {
+) -> Result<(State, Places), String> {
+    let mut reader = Reader {
+        sizes,
+        bodies,
+        fault,
+        state: live_domains(words)?,
+        places: BTreeMap::new(),
+        used: BTreeSet::new(),
+    };
+    for (entry, pair) in (0..sizes.e).zip(words[ENTRIES..].chunks_exact(2)) {
+        reader
+            .entry(entry, pair[0], pair[1])
+            .map_err(|why| format!("entry {entry} {why}"))?;
+    }
+    // The next domain out may have its entry further on, so this comes last.
+    reader.outer_holders()?;
+    Ok((reader.state, reader.places))
+}
+
+/// Next handle and live domains, which hold nothing yet.
+fn live_domains(words: &[u32]) -> Result<State, String> {
     let live = words[LIVE];
     if live > 8 {
         return Err(format!("{live} domains live"));
@@ -178,84 +206,134 @@ fn meaning(
             return Err(format!("handle {handle} in an unused word"));
         }
     }
-    let mut places = BTreeMap::new();
-    let mut bodies_used = BTreeSet::new();
-    for entry in 0..sizes.e {
-        let (first, second) = (
-            words[ENTRIES + 2 * entry as usize],
-            words[ENTRIES + 2 * entry as usize + 1],
-        );
+    Ok(state)
+}
+
+/// Reads entries one after the other.
+struct Reader<'a> {
+    sizes: Sizes,
+    bodies: &'a [u8],
+    fault: Option<Fault>,
+    state: State,
+    places: Places,
+    /// Bodies in use.
+    used: BTreeSet<u32>,
+}
+
+impl Reader<'_> {
+    fn misses(&self, fault: Fault) -> bool {
+        self.fault == Some(fault)
+    }
+
+    /// Takes one entry up, or says what is wrong with it.
+    fn entry(&mut self, entry: u32, first: u32, second: u32) -> Result<(), String> {
         if first == 0 {
-            if second != 0 {
-                return Err(format!(
-                    "entry {entry} is free with {second} as its second word"
-                ));
-            }
-            continue;
+            return match second {
+                0 => Ok(()),
+                _ => Err(format!("is free with {second} as its second word")),
+            };
         }
-        let (depth, read_write, via_parent, cell) = (
-            first >> 28,
-            first >> 27 & 1 == 1,
-            first >> 26 & 1 == 1,
-            first & 0xFFFF,
-        );
-        if first >> 16 & 0x3FF != 0 {
-            return Err(format!("entry {entry} has spare bits"));
+        let (depth, cell) = (first >> 28, first & 0xFFFF);
+        if first & SPARE != 0 {
+            return Err("has spare bits".into());
         }
-        if depth < 1 || depth > live {
-            return Err(format!("entry {entry} has depth {depth}"));
+        if depth < 1 || depth > self.state.domains.len() as u32 {
+            return Err(format!("has depth {depth}"));
         }
-        if cell >= sizes.m {
-            return Err(format!("entry {entry} has cell {cell}"));
+        if cell >= self.sizes.m {
+            return Err(format!("has cell {cell}"));
         }
-        let kept = if via_parent {
-            if second != 0 {
-                return Err(format!("entry {entry} is via parent with body {second}"));
-            }
-            if depth < 2 {
-                return Err(format!("entry {entry} is via parent at depth 1"));
-            }
-            Kept::ViaParent
-        } else {
-            if second >= sizes.b {
-                return Err(format!("entry {entry} has body {second}"));
-            }
-            if !bodies_used.insert(second) && fault != Some(Fault::TableMissesSharedBody) {
-                return Err(format!("entry {entry} shares body {second}"));
-            }
-            let at = second as usize * CELL;
-            let bytes: Bytes = bodies[at..at + CELL].try_into().expect("64 bytes");
-            Kept::Copy(bytes)
+        let kept = self.kept(first, second)?;
+        let held = Holding {
+            read_write: first & READ_WRITE != 0,
+            kept,
         };
         let domain = depth as usize - 1;
-        if state.domains[domain]
-            .cells
-            .insert(cell, Holding { read_write, kept })
-            .is_some()
-        {
-            return Err(format!("depth {depth} has cell {cell} twice"));
+        let twice = self.state.domains[domain].cells.insert(cell, held);
+        if twice.is_some() {
+            return Err(format!("has cell {cell} at depth {depth} a second time"));
         }
-        places.insert(
-            (domain, cell),
-            Place {
-                entry,
-                body: second,
-            },
-        );
+        let body = if kept.is_copy() { second } else { 0 };
+        self.places.insert((domain, cell), Place { entry, body });
+        Ok(())
     }
-    // The next domain out may have its entry further on, so this comes last.
-    for (at, domain) in state.domains.iter().enumerate() {
-        for (cell, held) in &domain.cells {
-            let orphan = held.kept == Kept::ViaParent && !state.domains[at - 1].holds(*cell);
-            if orphan && fault != Some(Fault::TableMissesOrphan) {
-                return Err(format!(
-                    "depth {} has cell {cell} via parent, and the next domain out does not hold it",
-                    at + 1
-                ));
+
+    /// How an entry keeps its cell; each kind has its own rule on the second word.
+    fn kept(&mut self, first: u32, second: u32) -> Result<Kept, String> {
+        match (first & VIA_PARENT != 0, first & BY_RULE != 0) {
+            (true, true) if !self.misses(Fault::TableMissesBothBits) => {
+                Err("is via parent and by a rule".into())
+            }
+            (true, _) => via_parent(first, second),
+            (false, true) => self.by_rule(second),
+            (false, false) => self.copy(second),
+        }
+    }
+
+    fn by_rule(&mut self, rule: u32) -> Result<Kept, String> {
+        if !RULES.contains(&rule) && !self.misses(Fault::TableMissesRuleNumber) {
+            return Err(format!("has rule {rule}"));
+        }
+        // A rule is no body: neither B nor the bodies in use have to do with it.
+        if self.misses(Fault::TableBoundsRuleByBodies) && rule >= self.sizes.b {
+            return Err(format!("has rule {rule} of so many bodies"));
+        }
+        if self.misses(Fault::RuleMarksBody) && !self.used.insert(rule) {
+            return Err(format!("shares rule {rule}"));
+        }
+        Ok(Kept::Rule(rule))
+    }
+
+    fn copy(&mut self, body: u32) -> Result<Kept, String> {
+        if body >= self.sizes.b {
+            return Err(format!("has body {body}"));
+        }
+        if !self.used.insert(body) && !self.misses(Fault::TableMissesSharedBody) {
+            return Err(format!("shares body {body}"));
+        }
+        let bytes = &self.bodies[body as usize * CELL..][..CELL];
+        Ok(Kept::Copy(bytes.try_into().expect("64 bytes")))
+    }
+
+    /// The next domain out of a via parent entry holds the cell, by copy or via parent: so no chain
+    /// ends in a rule.
+    fn outer_holders(&self) -> Result<(), String> {
+        for (at, domain) in self.state.domains.iter().enumerate() {
+            let rests = |held: &Holding| held.kept == Kept::ViaParent;
+            for (cell, _) in domain.cells.iter().filter(|(_, held)| rests(held)) {
+                let outer = &self.state.domains[at - 1];
+                let what = format!("depth {} has cell {cell} via parent", at + 1);
+                if !outer.holds(*cell) && !self.misses(Fault::TableMissesOrphan) {
+                    return Err(format!("{what}, and the next domain out does not hold it"));
+                }
+                if outer.rule(*cell).is_some() && !self.misses(Fault::TableMissesViaOnRule) {
+                    return Err(format!("{what}, and the next domain out by a rule"));
+                }
             }
         }
+        Ok(())
     }
-    Ok((state, places))
+}
+
+fn via_parent(first: u32, second: u32) -> Result<Kept, String> {
+    if second != 0 {
+        return Err(format!("is via parent with {second} as its second word"));
+    }
+    if first >> 28 < 2 {
+        return Err("is via parent at depth 1".into());
+    }
+    Ok(Kept::ViaParent)
+}
+
+/// The two words of an entry.
+fn entry_words(depth: u32, cell: u32, held: &Holding, body: u32) -> [u32; 2] {
+    let label = if held.read_write { READ_WRITE } else { 0 };
+    let (kind, second) = match held.kept {
+        Kept::Copy(_) => (0, body),
+        Kept::ViaParent => (VIA_PARENT, 0),
+        Kept::Rule(rule) => (BY_RULE, rule),
+    };
+    [depth << 28 | label | kind | cell, second]
 }
 
 /// Words 0 to 15 + 2E of a table for this state, with nothing pending. The pairs after them are
@@ -272,13 +350,8 @@ pub fn encode(sizes: Sizes, state: &State, places: &BTreeMap<(usize, u32), Place
         }
         for (cell, held) in &domain.cells {
             let place = places[&(at, *cell)];
-            let via_parent = held.kept == Kept::ViaParent;
-            let first = ((at as u32 + 1) << 28)
-                | (held.read_write as u32) << 27
-                | (via_parent as u32) << 26
-                | cell;
-            words[ENTRIES + 2 * place.entry as usize] = first;
-            words[ENTRIES + 2 * place.entry as usize + 1] = if via_parent { 0 } else { place.body };
+            let pair = entry_words(at as u32 + 1, *cell, held, place.body);
+            words[ENTRIES + 2 * place.entry as usize..][..2].copy_from_slice(&pair);
         }
     }
     words

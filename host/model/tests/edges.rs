@@ -1,83 +1,36 @@
-//! Document 01's edges on the model alone: states and memory, no buffers.
+//! The edges on the model alone: states and memory, no buffers.
+
+mod meant;
 
 use domain_model::edges::{Line, scripts};
-use domain_model::{Call, Lengths, Model, Reading, Sizes, State, Verdict, Work};
-
-/// A store that is nothing but its meaning.
-struct Meant {
-    lengths: Lengths,
-    reading: Reading,
-    memory: Vec<u8>,
-}
-
-impl Meant {
-    /// A fresh store, with memory of one byte.
-    fn fresh(sizes: Sizes, byte: u8) -> Meant {
-        let lengths = sizes.lengths();
-        Meant {
-            lengths,
-            reading: Reading::Store {
-                state: State::fresh(),
-                pending: 0,
-            },
-            memory: vec![byte; lengths.memory],
-        }
-    }
-
-    fn state(&mut self) -> &mut State {
-        match &mut self.reading {
-            Reading::Store { state, .. } => state,
-            other => panic!("{other:?}"),
-        }
-    }
-
-    fn verdict(&self, call: &Call) -> Verdict {
-        Model::default().verdict(self.lengths, &self.reading, &self.memory, call)
-    }
-
-    /// What a call has to do that is not refused.
-    fn work(&self, call: &Call) -> Work {
-        match self.verdict(call) {
-            Verdict::Work(work) => work,
-            other => panic!("{call}: {other:?}"),
-        }
-    }
-
-    fn carry_out(&mut self, work: &Work) {
-        work.memory_after(&mut self.memory, work.need);
-        self.reading = work.reading_after(&self.reading, work.need);
-    }
-
-    /// The call's number and the handle that it gives.
-    fn play(&mut self, call: &Call) -> (u32, u32) {
-        match self.verdict(call) {
-            Verdict::Refused(number) => (number, 0),
-            Verdict::Work(work) => {
-                self.carry_out(&work);
-                (0, work.handle)
-            }
-            _ => (0, 0),
-        }
-    }
-}
+use domain_model::rules::pattern;
+use domain_model::{Call, Lengths, Reading, Sizes};
+use meant::Meant;
 
 #[test]
 fn every_edge() {
     for script in scripts() {
         let name = script.name;
         let mut meant = Meant::fresh(script.sizes, 0);
-        let bytes = |cell: &u32| 64 * *cell as usize..64 * *cell as usize + 64;
         for line in &script.lines {
             match line {
-                Line::Fill(cell, byte) => meant.memory[bytes(cell)].fill(*byte),
+                Line::Fill(cell, byte) => meant.cell(*cell).fill(*byte),
+                Line::Pattern(cell, rule) => meant.follow(*cell, *rule),
+                Line::Byte(at, byte) => meant.memory[*at] = *byte,
                 Line::Answers(call, answer) => {
                     assert_eq!(meant.play(call).0, *answer, "{name}: {call}");
                 }
                 Line::CreateGives(handle) => {
                     assert_eq!(meant.play(&Call::Create), (0, *handle), "{name}");
                 }
-                Line::See(cell, byte) => {
-                    assert_eq!(meant.memory[bytes(cell)], [*byte; 64], "{name}")
+                Line::See(cell, byte) => assert_eq!(meant.cell(*cell), [*byte; 64], "{name}"),
+                Line::SeePattern(cell, rule) => {
+                    let should = pattern(*rule).expect("a rule");
+                    assert_eq!(meant.cell(*cell), should, "{name}: cell {cell}");
+                }
+                Line::Looks(handle, cell, place, rule) => {
+                    let told = meant.looks(*handle, *cell);
+                    assert_eq!(told, (*place, *rule), "{name}: cell {cell}");
                 }
                 Line::Live(n) => assert_eq!(meant.state().domains.len(), *n, "{name}"),
                 Line::Set(word, value) => {

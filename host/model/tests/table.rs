@@ -103,7 +103,7 @@ fn each_rule() {
     for edit in [(0, 0), (0, MAGIC + 1), (1, 5), (2, 5), (3, 6), (7, 1)] {
         assert_eq!(damaged(&[edit]), Some(Broken::Header), "{edit:x?}");
     }
-    let broken: [(&str, &[(usize, u32)]); 27] = [
+    let broken: [(&str, &[(usize, u32)]); 31] = [
         ("nine domains", &[(4, 9)]),
         ("fewer domains than handles", &[(4, 1)]),
         ("more domains than handles", &[(4, 3)]),
@@ -117,7 +117,11 @@ fn each_rule() {
         ("depth 0", &[(16, 0x0000_0002)]),
         ("depth 3", &[(16, 0x3000_0002)]),
         ("a spare bit, lowest", &[(16, 0x1001_0002)]),
-        ("a spare bit, highest", &[(16, 0x1200_0002)]),
+        ("a spare bit, highest", &[(16, 0x1100_0002)]),
+        ("a spare bit beside a rule", &[(16, 0x1300_0002)]),
+        ("a rule above 3", &[(16, 0x1200_0002), (17, 4)]),
+        ("via parent and by a rule", &[(20, 0x2E00_0000), (21, 0)]),
+        ("via parent on a rule", &[(26, 0x1A00_0000), (27, 0)]),
         ("a cell past memory", &[(16, 0x1000_0004)]),
         ("a body past the bodies", &[(17, 5)]),
         ("a shared body", &[(17, 4)]),
@@ -142,12 +146,18 @@ fn each_rule() {
             other => panic!("{name}: {other:?}"),
         }
     }
-    let good: [(&str, &[(usize, u32)]); 5] = [
+    let good: [(&str, &[(usize, u32)]); 8] = [
         ("the highest next handle", &[(5, u32::MAX)]),
         ("another label", &[(16, 0x1800_0002)]),
         ("another cell", &[(16, 0x1000_0003)]),
         ("an entry gone", &[(16, 0), (17, 0)]),
         ("bodies exchanged", &[(17, 4), (27, 1)]),
+        ("a rule where a copy was", &[(16, 0x1200_0002)]),
+        (
+            "a rule with the number of a body",
+            &[(16, 0x1200_0002), (17, 3), (27, 3)],
+        ),
+        ("a rule inside a copy", &[(20, 0x2A00_0000), (21, 3)]),
     ];
     for (name, edits) in good {
         assert_eq!(damaged(edits), None, "{name}");
@@ -193,4 +203,45 @@ fn pending_pairs() {
             Reading::Damaged { pending: true }
         );
     }
+}
+
+/// Cells by rules are written and read back: bit 25, and the rule as the second word, whatever B is.
+#[test]
+fn rules_written_and_read_back() {
+    let held = |read_write, kept| Holding { read_write, kept };
+    let cells = BTreeMap::from([
+        (0, held(true, Kept::Rule(3))),
+        (1, held(false, Kept::Rule(3))),
+        (2, held(true, Kept::Copy([10; 64]))),
+        (3, held(false, Kept::Rule(0))),
+    ]);
+    let state = State {
+        next: 2,
+        domains: vec![Domain { handle: 1, cells }],
+    };
+    let places: Places = (0..4)
+        .map(|c| ((0, c), Place { entry: c, body: 0 }))
+        .collect();
+    // One body alone, so that rule 3 is above every body's number.
+    let sizes = Sizes { m: 4, e: 4, b: 1 };
+    let mut buffers = Buffers::filled(sizes.lengths(), 10, 0);
+    let table = encode(sizes, &state, &places);
+    assert_eq!(
+        table[16..24],
+        [
+            0x1A00_0000,
+            3,
+            0x1200_0001,
+            3,
+            0x1800_0002,
+            0,
+            0x1200_0003,
+            0
+        ]
+    );
+    buffers.table[..24].copy_from_slice(&table);
+    let read = buffers.decode(None).expect("a store");
+    assert_eq!((&read.state, &read.places), (&state, &places));
+    assert_eq!((state.copies(), state.patterns()), (1, 3));
+    assert!(read.free_bodies().is_empty());
 }

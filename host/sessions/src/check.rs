@@ -1,9 +1,11 @@
 //! One call on both sides, with every comparison: answer, step count, handle, buffers after exactly
 //! that many stores, meaning, guards, notebook.
 
+use domain_model::calls::{PATTERN, VIA_PARENT};
+use domain_model::reply::{BY_RULE, IN_BODIES, IN_MEMORY};
 use domain_model::{
-    Add, Buffers, Call, Ended, FULL, Holding, Kept, Model, Notebook, Reading, Reply, Rng, STOPPED,
-    State, Store, Verdict, Work, calls::VIA_PARENT, plan, table,
+    Add, Buffers, Call, Ended, FULL, Holding, Kept, Looked, Model, Notebook, Reading, Reply, Rng,
+    STOPPED, State, Store, Verdict, Work, plan, rules, table,
 };
 use std::collections::{BTreeMap, BTreeSet};
 
@@ -73,6 +75,13 @@ pub struct Tally {
     pub turning_advances: u64,
     pub raising_commits: u64,
     pub moving_commits: u64,
+    /// Cells by rules: adds that took or raised some, restores that put some back, advances that
+    /// turned some into copies, commits that moved some, looks that told one.
+    pub pattern_adds: u64,
+    pub pattern_restores: u64,
+    pub pattern_advances: u64,
+    pub pattern_commits: u64,
+    pub pattern_looks: u64,
     /// Most entries in use.
     pub entries: u64,
 }
@@ -110,6 +119,11 @@ impl Tally {
         self.turning_advances += other.turning_advances;
         self.raising_commits += other.raising_commits;
         self.moving_commits += other.moving_commits;
+        self.pattern_adds += other.pattern_adds;
+        self.pattern_restores += other.pattern_restores;
+        self.pattern_advances += other.pattern_advances;
+        self.pattern_commits += other.pattern_commits;
+        self.pattern_looks += other.pattern_looks;
         self.entries = self.entries.max(other.entries);
     }
 }
@@ -173,15 +187,8 @@ impl<'a> Checker<'a> {
             Verdict::Refused(_) | Verdict::Listed(_) => unchanged(&line.buffers, &before)?,
             Verdict::Looked(looked) => {
                 unchanged(&line.buffers, &before)?;
-                let from = reply.offset as usize;
-                let shown = if reply.place == 1 {
-                    &line.buffers.memory
-                } else {
-                    &line.buffers.bodies
-                };
-                if shown.get(from..from + 64) != Some(&looked.bytes[..]) {
-                    return Err("look shows other bytes than a restore would leave".into());
-                }
+                shows(&reply, looked, &line.buffers)?;
+                self.tally.pattern_looks += u64::from(reply.place == BY_RULE);
             }
             Verdict::Work(work) => {
                 let (steps, done) = work.steps(budget);
@@ -449,6 +456,7 @@ impl<'a> Checker<'a> {
         if !done {
             return;
         }
+        self.tally_patterns(call, work, before);
         let tally = &mut self.tally;
         let after = &work.after;
         tally.deepest = tally.deepest.max(after.domains.len());
@@ -501,6 +509,52 @@ impl<'a> Checker<'a> {
             }
             _ => {}
         }
+    }
+
+    /// The same for cells by rules.
+    fn tally_patterns(&mut self, call: &Call, work: &Work, before: &State) {
+        let tally = &mut self.tally;
+        let inner = before.domains.last();
+        let ruled = |cell: u32| inner.is_some_and(|d| d.rule(cell).is_some());
+        match *call {
+            Call::Add(Add { kind: PATTERN, .. }) => {
+                tally.pattern_adds += u64::from(work.words > 0);
+            }
+            Call::Restore { handle } => {
+                let named = before.find(handle).unwrap_or(0);
+                let holder = |c: u32| before.domains[named..].iter().find(|d| d.holds(c));
+                let some = |c: u32| holder(c).is_some_and(|d| d.rule(c).is_some());
+                tally.pattern_restores += u64::from(work.put_back.iter().any(|(c, _)| some(*c)));
+            }
+            Call::Advance { .. } => {
+                tally.pattern_advances += u64::from(work.taken.iter().any(|(c, _)| ruled(*c)));
+            }
+            Call::Commit { .. } => {
+                let outer = work.after.domains.last();
+                let moved = |d: &domain_model::Domain| {
+                    let was = &before.domains[before.domains.len() - 2];
+                    d.cells.keys().any(|c| !was.holds(*c) && ruled(*c))
+                };
+                tally.pattern_commits += u64::from(outer.is_some_and(moved));
+            }
+            _ => {}
+        }
+    }
+}
+
+/// Whether look shows the bytes that a restore would leave. A rule has no part to show: its number
+/// stands for the bytes.
+fn shows(reply: &Reply, looked: &Looked, buffers: &Buffers) -> Result<(), String> {
+    let from = reply.offset as usize;
+    let by_rule = rules::pattern(reply.rule);
+    let shown = match reply.place {
+        IN_MEMORY => buffers.memory.get(from..from + 64),
+        IN_BODIES => buffers.bodies.get(from..from + 64),
+        _ => by_rule.as_ref().map(|bytes| &bytes[..]),
+    };
+    match shown == Some(&looked.bytes[..]) {
+        true => Ok(()),
+        false => Err("look shows other bytes than a restore would leave".into()),
     }
 }
 
@@ -570,7 +624,13 @@ fn tell(reply: &Reply, call: &Call) -> String {
         text += &format!(", {} live {:?}", reply.count, reply.handles);
     }
     if let Call::Look { .. } = call {
-        text += &format!(", place {} offset {}", reply.place, reply.offset);
+        let Reply {
+            place,
+            offset,
+            rule,
+            ..
+        } = reply;
+        text += &format!(", place {place} offset {offset} rule {rule}");
     }
     if reply.strayed {
         text += ", with a store beside an out parameter";
@@ -648,6 +708,7 @@ fn holding(held: Option<&Holding>) -> String {
     };
     match held.kept {
         Kept::ViaParent => format!("{label} via parent"),
+        Kept::Rule(rule) => format!("{label} by rule {rule}"),
         Kept::Copy(bytes) if bytes.iter().all(|v| *v == bytes[0]) => {
             format!("{label} as a copy of {}", bytes[0])
         }

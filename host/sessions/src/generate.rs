@@ -2,12 +2,20 @@
 //!
 //! Calls with random numbers are nearly all refused, and a store that is seldom more than empty
 //! shows little. So the choice looks at the state that the model is in: it nests domains, adds near
-//! what is held, makes memory equal before an add via parent, and cuts where steps are.
+//! what is held, makes memory equal before an add via parent and like the rule before an add by a
+//! rule, and cuts where steps are.
 
 use crate::check::Line;
 use crate::session::{Input, Made};
+use domain_model::calls::{COPY, PATTERN, VIA_PARENT};
+use domain_model::rules::{self, RULES};
 use domain_model::{Call, FULL, Kept, Lengths, Model, Rng, Sizes, State, Verdict, state::cell_of};
 use std::collections::VecDeque;
+
+/// Bits of an entry's first word.
+const READ_WRITE_BIT: u32 = 1 << 27;
+const VIA_PARENT_BIT: u32 = 1 << 26;
+const BY_RULE_BIT: u32 = 1 << 25;
 
 /// What a session is like. Numbers are out of a thousand.
 #[derive(Clone, Debug)]
@@ -208,6 +216,44 @@ impl Generator {
         self.rng.below(self.habits.letters) as u8
     }
 
+    /// A rule's number: mostly one that there is.
+    fn rule(&mut self) -> u32 {
+        match self.rng.chance(930) {
+            true => self.rng.below(4) as u32,
+            false => *self.rng.pick(&[4, 5, 7, 1 << 31, u32::MAX]),
+        }
+    }
+
+    /// A kind with a number that it may take for a rule: two kinds ignore it.
+    fn kind_and_rule(&mut self) -> (u32, u32) {
+        let kind = *self.rng.pick(&[COPY, VIA_PARENT, PATTERN]);
+        let ignored = kind != PATTERN && self.rng.chance(700);
+        (kind, if ignored { 0 } else { self.rule() })
+    }
+
+    /// The program writes a rule's bytes into these cells, at times with one byte off: at either end
+    /// of a cell, mostly of the last one.
+    fn write_pattern(&mut self, first: u32, count: u32, rule: u32) {
+        let Some(pattern) = rules::pattern(rule) else {
+            return;
+        };
+        let mut bytes = pattern.repeat(count as usize);
+        if self.rng.chance(70) {
+            let cell = match self.rng.chance(600) {
+                true => count - 1,
+                false => self.rng.below(count.into()) as u32,
+            };
+            let place = match self.rng.below(3) {
+                0 => 0,
+                1 => 63,
+                _ => self.rng.below(64) as usize,
+            };
+            bytes[64 * cell as usize + place] ^= 1 << self.rng.below(8);
+        }
+        self.wants
+            .push_back(Want::Write(64 * first as usize, bytes));
+    }
+
     fn write_cell(&mut self, cell: u32, bytes: Vec<u8>) {
         self.wants.push_back(Want::Write(64 * cell as usize, bytes));
     }
@@ -255,11 +301,12 @@ impl Generator {
             return;
         }
         let nest = self.habits.nest;
-        let weights: [(u64, Act); 12] = [
+        let weights: [(u64, Act); 13] = [
             (200, Generator::write),
             (nest, Generator::creates),
-            (180, Generator::add_copy),
+            (160, Generator::add_copy),
             (130, Generator::add_via),
+            (110, Generator::add_pattern),
             (45, Generator::add_again),
             (55, Generator::delete),
             (70, Generator::commit),
@@ -299,6 +346,10 @@ impl Generator {
             }
             // The same bytes again: a write of equal bytes is a write.
             3 => self.write_cell(cell, cell_of(&line.buffers.memory, cell).to_vec()),
+            4 => {
+                let rule = self.rng.below(4) as u32;
+                self.write_pattern(cell, 1, rule);
+            }
             _ => {
                 for _ in 0..self.rng.between(1, 3) {
                     let (cell, letter) = (self.cell(state), self.letter());
@@ -337,6 +388,38 @@ impl Generator {
         self.call(Call::copy(first, count, label).on(handle));
     }
 
+    /// Add by a rule, mostly after memory was made like it.
+    fn add_pattern(&mut self, state: &State, line: &Line) {
+        let inner = state.domains.last().expect("live");
+        let first = self.cell(state);
+        let (count, rule) = (self.count(first), self.rule());
+        let differs = |c: u32| rules::pattern(rule) != Some(cell_of(&line.buffers.memory, c));
+        let mut new = (first..first + count).filter(|c| !inner.holds(*c));
+        if new.any(differs) && self.rng.chance(920) {
+            self.write_pattern(first, count, rule);
+        }
+        let label = self.rng.chance(600) as u32;
+        let handle = self.handle(state, state.domains.len() - 1);
+        self.call(Call::pattern(first, count, rule, label).on(handle));
+        match self.rng.below(10) {
+            // What was held by the rule comes back by it, also through look.
+            0 | 1 => {
+                self.write(state, line);
+                self.call(Call::Look {
+                    handle: 0,
+                    cell: first,
+                });
+                self.call(Call::Restore { handle: 0 });
+            }
+            // Via parent must not rest on it.
+            2 => {
+                self.call(Call::Create);
+                self.call(Call::via_parent(first, count, label));
+            }
+            _ => {}
+        }
+    }
+
     /// Add via parent: cells that the next domain out holds, after memory was made equal.
     fn add_via(&mut self, state: &State, line: &Line) {
         let inner = state.domains.len() - 1;
@@ -345,11 +428,17 @@ impl Generator {
             let first = self.cell(state);
             return self.call(Call::via_parent(first, 1, 1));
         };
+        // Cells that are held by a rule out there are refused by 19, and few of those are enough.
+        let any = self.rng.chance(200);
+        let serves = |c: u32| {
+            let outer = &state.domains[outer];
+            outer.holds(c) && (any || outer.rule(c).is_none())
+        };
         let open: Vec<u32> = state.domains[outer]
             .cells
             .keys()
             .copied()
-            .filter(|c| !state.domains[inner].holds(*c))
+            .filter(|c| serves(*c) && !state.domains[inner].holds(*c))
             .collect();
         if open.is_empty() {
             return self.add_copy(state, line);
@@ -359,9 +448,7 @@ impl Generator {
         while count < self.habits.most as u32 && self.rng.chance(600) {
             let next = first + count;
             // At times the run goes on over a cell that nobody holds.
-            if next >= self.habits.sizes.m
-                || !(state.domains[outer].holds(next) || self.rng.chance(40))
-            {
+            if next >= self.habits.sizes.m || !(serves(next) || self.rng.chance(40)) {
                 break;
             }
             count += 1;
@@ -385,7 +472,7 @@ impl Generator {
         }
     }
 
-    /// Add over what is held already, by either kind.
+    /// Add over what is held already, by any kind.
     fn add_again(&mut self, state: &State, line: &Line) {
         let inner = state.domains.last().expect("live");
         if inner.cells.is_empty() {
@@ -398,8 +485,9 @@ impl Generator {
         } else {
             self.count(first)
         };
-        let (kind, label) = (self.rng.below(2) as u32, self.rng.below(2) as u32);
-        self.call(Call::add(first, count, kind, label));
+        let (kind, rule) = self.kind_and_rule();
+        let label = self.rng.below(2) as u32;
+        self.call(Call::add(first, count, kind, label).with_rule(rule));
     }
 
     fn delete(&mut self, state: &State, line: &Line) {
@@ -515,7 +603,13 @@ impl Generator {
         for _ in 0..self.rng.between(1, 3) {
             let (kind, label) = (self.rng.chance(400) as u32, self.rng.chance(750) as u32);
             self.call(Call::Create);
-            self.call(Call::add(first, count, kind, label));
+            if self.rng.chance(150) {
+                let rule = self.rng.below(4) as u32;
+                self.write_pattern(first, count, rule);
+                self.call(Call::pattern(first, count, rule, label));
+            } else {
+                self.call(Call::add(first, count, kind, label));
+            }
             if self.rng.chance(600) {
                 let (cell, letter) = (first + self.rng.below(count as u64) as u32, self.letter());
                 self.write_cell(cell, vec![letter; 64]);
@@ -570,19 +664,18 @@ impl Generator {
             },
             22..=28 => Call::delete(handle, self.wild_number(), self.wild_number()),
             _ => {
-                let odd = |rng: &mut Rng| {
-                    if rng.chance(150) {
-                        *rng.pick(&[2, 7, u32::MAX])
-                    } else {
-                        rng.below(2) as u32
-                    }
+                // Kinds below 3 and labels below 2, and others.
+                let odd = |rng: &mut Rng, below: u32| match rng.chance(150) {
+                    true => *rng.pick(&[below, 7, u32::MAX]),
+                    false => rng.below(below.into()) as u32,
                 };
                 Call::add(
                     self.wild_number(),
                     self.wild_number(),
-                    odd(&mut self.rng),
-                    odd(&mut self.rng),
+                    odd(&mut self.rng, 3),
+                    odd(&mut self.rng, 2),
                 )
+                .with_rule(odd(&mut self.rng, 4))
                 .on(handle)
             }
         }
@@ -612,12 +705,11 @@ impl Generator {
             },
             9 => Call::delete(any(&mut self.rng, state), self.cell(state), 1),
             10 => self.wild_call(),
-            _ => Call::add(
-                self.cell(state),
-                1,
-                self.rng.below(2) as u32,
-                self.rng.below(2) as u32,
-            ),
+            _ => {
+                let (kind, rule) = self.kind_and_rule();
+                let label = self.rng.below(2) as u32;
+                Call::add(self.cell(state), 1, kind, label).with_rule(rule)
+            }
         }
     }
 
@@ -625,10 +717,9 @@ impl Generator {
     fn damaged(&mut self, line: &Line) -> Input {
         let table = &line.buffers.table;
         let state = line.state().expect("a store").clone();
-        let Sizes { m, e, b } = self.habits.sizes;
-        let entries_end = 16 + 2 * e as usize;
+        let entries_end = self.habits.sizes.pairs_at();
         let mut edits: Vec<(usize, u32)> = Vec::new();
-        match self.rng.below(10) {
+        match self.rng.below(11) {
             0 | 1 => {
                 for _ in 0..self.rng.between(1, 3) {
                     let within = if self.rng.chance(500) {
@@ -684,59 +775,8 @@ impl Generator {
                     }
                 }
             }
-            4..=6 => {
-                // One field of an entry, or an entry written by hand; others stay right.
-                let place = 16 + 2 * self.rng.below(e as u64) as usize;
-                let used: Vec<usize> = (16..entries_end)
-                    .step_by(2)
-                    .filter(|at| table[*at] != 0)
-                    .collect();
-                let place = if used.is_empty() || self.rng.chance(200) {
-                    place
-                } else {
-                    *self.rng.pick(&used)
-                };
-                let (first, second) = (table[place], table[place + 1]);
-                let other = if used.is_empty() {
-                    place
-                } else {
-                    *self.rng.pick(&used)
-                };
-                match self.rng.below(12) {
-                    0 => edits.push((
-                        place,
-                        first & 0x0FFF_FFFF | (self.rng.below(16) as u32) << 28,
-                    )),
-                    1 => edits.push((place, first ^ 1 << 27)),
-                    2 => edits.push((place, first ^ 1 << 26)),
-                    3 => edits.extend([(place, first | 1 << 26), (place + 1, 0)]),
-                    4 => edits.push((
-                        place,
-                        first & 0xFFFF_0000 | self.rng.below(m as u64 + 2) as u32 & 0xFFFF,
-                    )),
-                    5 => edits.push((place, first ^ 1 << self.rng.between(16, 25))),
-                    6 => edits.push((place + 1, self.rng.below(b as u64 + 2) as u32)),
-                    7 => edits.push((place + 1, table[other + 1])),
-                    8 => edits.push((place, table[other])),
-                    9 => edits.push((place + 1, second.wrapping_add(1))),
-                    10 => edits.extend([
-                        (place, 0),
-                        (place + 1, if self.rng.chance(500) { 0 } else { second }),
-                    ]),
-                    _ => {
-                        let word = (self.rng.between(1, 8) as u32) << 28
-                            | (self.rng.below(2) as u32) << 27
-                            | (self.rng.below(2) as u32) << 26
-                            | self.rng.below(m as u64) as u32;
-                        let body = if word >> 26 & 1 == 1 {
-                            0
-                        } else {
-                            self.rng.below(b as u64) as u32
-                        };
-                        edits.extend([(place, word), (place + 1, body)]);
-                    }
-                }
-            }
+            4..=6 => self.damaged_entry(table, &mut edits),
+            7 => self.damaged_kind(table, &mut edits),
             _ => self.pending(table, entries_end, &mut edits),
         }
         let mut then = Vec::new();
@@ -754,6 +794,88 @@ impl Generator {
             then.push((call, budget));
         }
         Input::Damaged { edits, then }
+    }
+
+    /// The place of an entry: mostly one in use that passes the question.
+    fn entry_at(&mut self, table: &[u32], is_it: impl Fn(u32) -> bool) -> usize {
+        let used: Vec<usize> = (16..self.habits.sizes.pairs_at())
+            .step_by(2)
+            .filter(|at| table[*at] != 0 && is_it(table[*at]))
+            .collect();
+        if used.is_empty() || self.rng.chance(200) {
+            return 16 + 2 * self.rng.below(self.habits.sizes.e.into()) as usize;
+        }
+        *self.rng.pick(&used)
+    }
+
+    /// One field of an entry, or an entry written by hand; others stay right.
+    fn damaged_entry(&mut self, table: &[u32], edits: &mut Vec<(usize, u32)>) {
+        let Sizes { m, b, .. } = self.habits.sizes;
+        let place = self.entry_at(table, |_| true);
+        let other = self.entry_at(table, |_| true);
+        let (first, second) = (table[place], table[place + 1]);
+        match self.rng.below(12) {
+            0 => edits.push((
+                place,
+                first & 0x0FFF_FFFF | (self.rng.below(16) as u32) << 28,
+            )),
+            1 => edits.push((place, first ^ READ_WRITE_BIT)),
+            2 => edits.push((place, first ^ VIA_PARENT_BIT)),
+            3 => edits.extend([(place, first | VIA_PARENT_BIT), (place + 1, 0)]),
+            4 => edits.push((
+                place,
+                first & 0xFFFF_0000 | self.rng.below(m as u64 + 2) as u32 & 0xFFFF,
+            )),
+            // Bit 24 is the highest that has to be zero.
+            5 => edits.push((place, first ^ 1 << self.rng.between(16, 24))),
+            6 => edits.push((place + 1, self.rng.below(b as u64 + 2) as u32)),
+            7 => edits.push((place + 1, table[other + 1])),
+            8 => edits.push((place, table[other])),
+            9 => edits.push((place + 1, second.wrapping_add(1))),
+            10 => edits.extend([
+                (place, 0),
+                (place + 1, if self.rng.chance(500) { 0 } else { second }),
+            ]),
+            _ => {
+                let kind = *self.rng.pick(&[0, VIA_PARENT_BIT, BY_RULE_BIT]);
+                let word = (self.rng.between(1, 8) as u32) << 28
+                    | (self.rng.below(2) as u32) << 27
+                    | kind
+                    | self.rng.below(m as u64) as u32;
+                let second = match kind {
+                    VIA_PARENT_BIT => 0,
+                    BY_RULE_BIT => self.rng.below(5) as u32,
+                    _ => self.rng.below(b as u64) as u32,
+                };
+                edits.extend([(place, word), (place + 1, second)]);
+            }
+        }
+    }
+
+    /// An entry of another kind: a rule where there is none, both bits, a rule's number that there
+    /// is not, or a rule under a via parent entry.
+    fn damaged_kind(&mut self, table: &[u32], edits: &mut Vec<(usize, u32)>) {
+        let any = self.entry_at(table, |_| true);
+        let via = self.entry_at(table, |first| first & VIA_PARENT_BIT != 0);
+        let ruled = self.entry_at(table, |first| first & BY_RULE_BIT != 0);
+        match self.rng.below(8) {
+            0 => edits.push((any, table[any] ^ BY_RULE_BIT)),
+            1 => edits.push((any, table[any] ^ (BY_RULE_BIT | VIA_PARENT_BIT))),
+            // All that a via parent entry has to be, but for the bit.
+            2 => edits.push((via, table[via] | BY_RULE_BIT)),
+            3 => edits.extend([(any, table[any] | BY_RULE_BIT), (any + 1, self.rule())]),
+            4 => edits.push((ruled + 1, *self.rng.pick(&[3, 4, 5, u32::MAX]))),
+            5 => edits.push((ruled, table[ruled] ^ 1 << self.rng.between(24, 27))),
+            _ => {
+                // Where a via parent entry rests, the next domain out gets a rule.
+                let same = !(READ_WRITE_BIT | VIA_PARENT_BIT | BY_RULE_BIT);
+                let wanted = (table[via] & same).wrapping_sub(1 << 28);
+                let out = self.entry_at(table, |first| first & same == wanted);
+                let word = table[out] & !VIA_PARENT_BIT | BY_RULE_BIT;
+                let rule = self.rng.below(RULES.count() as u64) as u32;
+                edits.extend([(out, word), (out + 1, rule)]);
+            }
+        }
     }
 
     /// Pairs pending: some words of a right table move into pairs, and what stands raw is garbled;

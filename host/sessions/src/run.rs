@@ -172,6 +172,16 @@ pub fn long(tally: &Tally) -> String {
         tally.ending_restores, tally.outward_restores, tally.turning_advances, tally.raising_commits, tally.moving_commits
     )
     .unwrap();
+    writeln!(
+        text,
+        "by rules: adds {}, restores {}, advances {}, commits that moved {}, looks {}",
+        tally.pattern_adds,
+        tally.pattern_restores,
+        tally.pattern_advances,
+        tally.pattern_commits,
+        tally.pattern_looks
+    )
+    .unwrap();
     for (name, answers) in Call::NAMES.iter().zip(&tally.answers) {
         let times = |number| answers.get(&number).copied().unwrap_or(0);
         write!(text, "{name:8} done {}", times(0)).unwrap();

@@ -1,7 +1,7 @@
 //! A session as a plain list of inputs: it can be played again, shrunk and printed.
 
 use crate::check::{Checker, Line, Mismatch};
-use domain_model::{Buffers, Call, FULL, Lengths, Notebook, STOPPED, Sizes};
+use domain_model::{Buffers, Call, FULL, Lengths, Notebook, STOPPED, Sizes, rules};
 use std::fmt;
 
 /// A call with what belongs to it. If it is stopped, openings with these budgets follow, and at last
@@ -125,6 +125,17 @@ impl Input {
     }
 }
 
+/// What a write of whole cells that all follow one rule writes; most follow none.
+fn rule_of(at: usize, bytes: &[u8]) -> Option<u32> {
+    let (cells, rest) = bytes.as_chunks::<64>();
+    if !at.is_multiple_of(64) || !rest.is_empty() {
+        return None;
+    }
+    let rule = rules::followed(cells.first()?)?;
+    let same = cells.iter().all(|cell| rules::followed(cell) == Some(rule));
+    same.then_some(rule)
+}
+
 fn budget_text(budget: u64) -> String {
     if budget == FULL {
         String::new()
@@ -140,6 +151,10 @@ impl fmt::Display for Input {
                 let same = bytes.iter().all(|b| *b == bytes[0]);
                 if same && at % 64 == 0 && bytes.len() == 64 {
                     return write!(f, "write cell {} := {}", at / 64, bytes[0]);
+                }
+                if let Some(rule) = rule_of(*at, bytes) {
+                    let (first, count) = (at / 64, bytes.len() / 64);
+                    return write!(f, "write {count} cells from {first} on := rule {rule}");
                 }
                 write!(f, "write {} bytes from byte {at} on := ", bytes.len())?;
                 if same {

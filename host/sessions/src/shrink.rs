@@ -195,8 +195,8 @@ fn simpler_call(call: &Call) -> Vec<Call> {
     let mut list = Vec::new();
     // A number that the call does not have is 0, below which there is none. The label stays.
     let order = match call {
-        Call::Look { .. } => [0, 1, 2, 3],
-        _ => [2, 1, 0, 3],
+        Call::Look { .. } => [0, 1, 2, 3, 4],
+        _ => [2, 1, 0, 3, 4],
     };
     for at in order {
         for number in lower(call.numbers()[at]) {
@@ -262,6 +262,15 @@ fn simpler(input: &Input) -> Vec<Input> {
                     at: at / 64 * 64,
                     bytes: vec![bytes[0]; 64],
                 });
+            }
+            // A rule's bytes over several cells: over the first of them alone, or over all but one.
+            if at % 64 == 0 && bytes.len() > 64 {
+                for len in [64, (bytes.len() - 1) / 64 * 64] {
+                    list.push(Input::Write {
+                        at: *at,
+                        bytes: bytes[..len].to_vec(),
+                    });
+                }
             }
             if bytes[0] > 1 && bytes.len() == 64 {
                 list.push(Input::Write {

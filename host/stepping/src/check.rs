@@ -18,11 +18,13 @@ pub struct Tally {
     pub stores: u64,
     pub cuts: u64,
     pub restores: u64,
-    /// The widest store of bytes.
+    /// The widest store of bytes, and the fewest that a store of a call made on the average.
     pub widest: usize,
-    /// Stores of bytes that came before bytes of a lower number in the plan: opening never reads them, so they lose nothing.
-    pub notes: Vec<String>,
+    pub narrowest: Option<usize>,
 }
+
+/// How many bytes a store of bytes makes at least, on the average over a call: copies and the bytes of rules go in wide moves.
+const WIDE: usize = 8;
 
 /// The stores of a call in their order, as document 01, "Steps and cuts", gives them.
 #[derive(Default)]
@@ -165,6 +167,16 @@ impl Case {
                 walk.made + 1,
                 self.plan.steps.len()
             ));
+        }
+        if let Some(average) = self.plan.bytes.checked_div(walk.byte_stores) {
+            if average < WIDE {
+                return Err(format!(
+                    "{} bytes are stored {average} at a time",
+                    self.plan.bytes
+                ));
+            }
+            let least = tally.narrowest.unwrap_or(average);
+            tally.narrowest = Some(least.min(average));
         }
         tally.calls += 1;
         tally.instructions += trace.instructions;
@@ -322,6 +334,8 @@ struct Walk<'a> {
     /// Steps made; while bytes are stored, the number of bytes stored.
     made: usize,
     bytes: Vec<bool>,
+    /// Instructions that stored bytes.
+    byte_stores: usize,
 }
 
 impl<'a> Walk<'a> {
@@ -331,6 +345,7 @@ impl<'a> Walk<'a> {
             last: case.before.clone(),
             made: 0,
             bytes: vec![false; case.plan.bytes],
+            byte_stores: 0,
         }
     }
 
@@ -380,7 +395,7 @@ impl<'a> Walk<'a> {
         Ok(())
     }
 
-    /// Bytes: any number of those planned, with their values, before the first table word.
+    /// Bytes: any number of those planned, with their values, before the first table word, and rising.
     fn bytes(
         &mut self,
         stored: &Stored,
@@ -388,6 +403,7 @@ impl<'a> Walk<'a> {
         start: usize,
         tally: &mut Tally,
     ) -> Result<(), String> {
+        self.byte_stores += 1;
         let plan = &self.case.plan;
         if self.made > plan.bytes || plan.bytes == 0 {
             return Err(format!(
@@ -441,10 +457,8 @@ impl<'a> Walk<'a> {
                     ));
                 }
                 if first + width != self.made {
-                    tally.notes.push(format!(
-                        "{}: {} stores {width} bytes at step {} with {} stored before",
-                        self.case.name,
-                        at(stored.instruction),
+                    return Err(format!(
+                        "stores {width} bytes at step {} with {} stored before",
                         first + 1,
                         self.made - width
                     ));

@@ -68,6 +68,12 @@ fn right_way(arena: &Arena, plan: &Plan) -> (Vec<Piece>, usize) {
     (pieces, bytes)
 }
 
+/// The plan's stores one by one, the bytes too.
+fn narrow(arena: &Arena, plan: &Plan) -> Vec<Piece> {
+    let steps = plan.steps.iter();
+    steps.map(|&step| Piece::of(arena, step)).collect()
+}
+
 /// Each wrong way of making the plan's stores, with its name.
 fn wrong_ways(arena: &Arena, plan: &Plan) -> Vec<(String, Vec<Piece>)> {
     let (right, bytes) = right_way(arena, plan);
@@ -123,6 +129,10 @@ fn wrong_ways(arena: &Arena, plan: &Plan) -> Vec<(String, Vec<Piece>)> {
         let mut way = right.clone();
         way.remove(bytes - 1);
         ways.push(("the last bytes left out".into(), way));
+        let mut way = right.clone();
+        way[..bytes].reverse();
+        ways.push(("bytes falling".into(), way));
+        ways.push(("bytes one by one".into(), narrow(arena, plan)));
         if bytes < right.len() {
             let mut way = right.clone();
             way.rotate_left(bytes);

@@ -8,8 +8,11 @@ use crate::state;
 use crate::sys::{self, Status};
 use domain_lend::pages::{Arena, Pages, READ_WRITE, Side};
 use domain_lend::{Lent, Linked, call};
-use domain_model::calls::{READ_ONLY, READ_WRITE as RW, VIA_PARENT};
-use domain_model::{Add, Buffers, Call, Ended, FULL, Lengths, Notebook, Reply, Rng, Sizes, Store};
+use domain_model::calls::{PATTERN, READ_ONLY, READ_WRITE as RW, VIA_PARENT};
+use domain_model::rules::pattern;
+use domain_model::{
+    Add, Buffers, CELL, Call, Ended, FULL, Lengths, Notebook, Reply, Rng, Sizes, Store,
+};
 use std::sync::atomic::{AtomicU64, Ordering};
 use std::time::{Duration, Instant};
 
@@ -33,12 +36,30 @@ const LINES: usize = 500;
 #[derive(Clone, Copy)]
 enum Act {
     Call(Call),
-    /// A program write of whole cells with one byte.
+    /// A program write of whole cells.
     Write {
         first: u32,
         count: u32,
-        byte: u8,
+        what: Bytes,
     },
+}
+
+/// What a program write puts into each cell.
+#[derive(Clone, Copy)]
+enum Bytes {
+    /// One byte over and over.
+    All(u8),
+    /// The bytes of this rule.
+    Rule(u32),
+}
+
+impl Bytes {
+    fn cell(self) -> [u8; CELL] {
+        match self {
+            Bytes::All(byte) => [byte; CELL],
+            Bytes::Rule(rule) => pattern(rule).expect("a rule"),
+        }
+    }
 }
 
 /// The log's head: acts begun, acts that have returned with their answer written down, and acts whose memory is written down too.
@@ -123,7 +144,17 @@ pub struct Ends {
     pub restores: u64,
 }
 
-fn choose(random: &mut Rng, cells: u32, handles: &[u32]) -> Act {
+/// The next act. After a write of a rule's bytes it is mostly an add by that rule, which would hardly ever be done else.
+fn choose(random: &mut Rng, cells: u32, handles: &[u32], last: Option<Act>) -> Act {
+    if let Some(Act::Write {
+        first,
+        count,
+        what: Bytes::Rule(rule),
+    }) = last
+        && random.below(8) > 0
+    {
+        return Act::Call(Call::pattern(first, count, rule, random.below(2) as u32));
+    }
     let any = match handles.is_empty() {
         true => 0,
         false => *random.pick(handles),
@@ -140,11 +171,15 @@ fn choose(random: &mut Rng, cells: u32, handles: &[u32]) -> Act {
         200..=249 => Call::Advance { handle: 0 },
         250..=299 => Call::Restore { handle: any },
         300..=309 => Call::Open,
+        310..=339 => {
+            let what = Bytes::Rule(random.below(4) as u32);
+            return Act::Write { first, count, what };
+        }
         _ => {
             return Act::Write {
                 first,
                 count: 1 + count / 4,
-                byte: random.below(256) as u8,
+                what: Bytes::All(random.below(256) as u8),
             };
         }
     })
@@ -157,6 +192,7 @@ fn work(arena: &Arena, log: &Log, work: Work) -> ! {
     let mut random = Rng::new(0);
     let mut lines = 1;
     let mut timer = None;
+    let mut last = None;
     match work {
         Work::Session { seed } => {
             random = Rng::new(seed);
@@ -169,9 +205,10 @@ fn work(arena: &Arena, log: &Log, work: Work) -> ! {
     }
     for number in 0..lines {
         let act = match work {
-            Work::Session { .. } => choose(&mut random, cells, live_handles(lent)),
+            Work::Session { .. } => choose(&mut random, cells, live_handles(lent), last),
             Work::One { call, .. } => Act::Call(call),
         };
+        last = Some(act);
         let line = log.line(number);
         log.stand(number).load_from(arena);
         unsafe { (&raw mut (*line).act).write_volatile(act) };
@@ -181,9 +218,12 @@ fn work(arena: &Arena, log: &Log, work: Work) -> ! {
         }
         let reply = match act {
             Act::Call(one) => unsafe { call(lent, &one, FULL) },
-            Act::Write { first, count, byte } => {
-                let at = 64 * first as usize;
-                unsafe { core::ptr::write_bytes(lent.memory.add(at), byte, 64 * count as usize) };
+            Act::Write { first, count, what } => {
+                let bytes = what.cell();
+                for cell in first..first + count {
+                    let to = unsafe { lent.memory.add(CELL * cell as usize) };
+                    unsafe { core::ptr::copy_nonoverlapping(bytes.as_ptr(), to, CELL) };
+                }
                 Reply::default()
             }
         };
@@ -324,10 +364,12 @@ impl Trial {
     fn call_to_aim_at(&mut self) -> Result<Call, String> {
         // Half of them a call that stores no bytes: the table words of the others take but a small part of their time.
         let words_only = self.random.below(2) == 0;
+        let mut last = None;
         loop {
             let mut tried = self.arena.buffers();
             let cells = tried.sizes().m;
-            let act = choose(&mut self.random, cells, handles_in(&tried.table));
+            let act = choose(&mut self.random, cells, handles_in(&tried.table), last);
+            last = Some(act);
             let mut reply = Reply::default();
             match act {
                 Act::Call(call) => {
@@ -343,8 +385,9 @@ impl Trial {
                         continue;
                     }
                 }
-                Act::Write { first, count, byte } => {
-                    tried.memory[64 * first as usize..][..64 * count as usize].fill(byte);
+                Act::Write { first, count, what } => {
+                    let cells = first..first + count;
+                    cells.for_each(|cell| tried.write_cell(cell, &what.cell()));
                 }
             }
             feed(&mut self.notebook, Line { act, reply }, &tried.memory)?;
@@ -452,7 +495,7 @@ fn no_bytes(call: &Call) -> bool {
             | Call::Commit { .. }
             | Call::Delete { .. }
             | Call::Add(Add {
-                kind: VIA_PARENT,
+                kind: VIA_PARENT | PATTERN,
                 ..
             })
     )

@@ -3,6 +3,7 @@
 use crate::check::{Case, note};
 use crate::state;
 use domain_lend::Linked;
+use domain_model::rules::{INDEX, ONES, SCALE, ZEROS, pattern};
 use domain_model::{Buffers, Call, Ended, FULL, Notebook, Rng, STOPPED, Sizes, Store, plan};
 
 /// What happens before the call that is stepped.
@@ -14,6 +15,8 @@ pub enum Act {
     Cut(Call, u64),
     /// A program write of a whole cell.
     Write { cell: u32, version: u32 },
+    /// A program write of a rule's bytes into a cell.
+    Follow { cell: u32, rule: u32 },
 }
 
 pub struct Scenario {
@@ -31,8 +34,8 @@ pub struct Scenario {
 /// Small enough that every store can be looked at, with room for an advance.
 pub const SMALL: Sizes = Sizes { m: 4, e: 6, b: 6 };
 
-/// What a program write puts into a cell: two versions differ in every byte, and none has the byte 255, with which what means nothing
-/// is filled, so that a store shows in every byte it covers.
+/// What a program write puts into a cell: two versions differ in every byte, and all bytes are below 251, so that none is that with
+/// which what means nothing is filled, and a store shows in every byte it covers.
 pub fn contents(cell: u32, version: u32) -> [u8; 64] {
     std::array::from_fn(|byte| ((37 * version + 61 * cell + 3 * byte as u32) % 251) as u8)
 }
@@ -44,6 +47,15 @@ fn copy(first: u32, count: u32, label: u32) -> Act {
 fn via_parent(first: u32, count: u32, label: u32) -> Act {
     Act::Done(Call::via_parent(first, count, label))
 }
+
+/// A cell made to follow a rule, and held by it.
+fn by_rule(cell: u32, rule: u32, label: u32) -> Vec<Act> {
+    let held = Call::pattern(cell, 1, rule, label);
+    vec![Act::Follow { cell, rule }, Act::Done(held)]
+}
+
+/// A version of which no byte, in any of the first four cells, is that of a rule: a restore by a rule shows in every byte.
+const UNRULED: u32 = 6;
 
 fn write(cells: std::ops::Range<u32>, version: u32) -> Vec<Act> {
     cells.map(|cell| Act::Write { cell, version }).collect()
@@ -114,7 +126,62 @@ pub fn scenarios() -> Vec<Scenario> {
     add("add past the memory", one(), Call::copy(3, 2, 1), 8, 0, 0);
     add("commit the outer", two(), Commit { handle: 1 }, 6, 0, 0);
     add("restore a dead handle", two(), Restore { handle: 9 }, 5, 0, 0);
+    patterns(&mut all);
     all
+}
+
+/// The calls that meet cells by rules: all four, alone and beside copies.
+#[rustfmt::skip]
+fn patterns(all: &mut Vec<Scenario>) {
+    use Call::*;
+    let made = || [vec![MAKE], write(0..4, 1)].concat();
+    let follow = |cells: std::ops::Range<u32>, rule| cells.map(|cell| Act::Follow { cell, rule }).collect::<Vec<_>>();
+    // A domain that holds nothing, and two cells that follow a rule.
+    let two_follow = |rule| [made(), vec![CREATE], follow(1..3, rule)].concat();
+    // Domain 1 holds every cell by a rule, each by another, read-only where the rule is odd.
+    let rules = || [made(), vec![CREATE], by_rule(0, ZEROS, 1), by_rule(1, ONES, 0), by_rule(2, INDEX, 1), by_rule(3, SCALE, 0)].concat();
+    // Domain 1 holds 0 and 2 by copies, 1 and 3 by rules.
+    let mixed = || [made(), vec![CREATE, copy(0, 1, 1)], by_rule(1, SCALE, 1), vec![copy(2, 1, 0)], by_rule(3, ONES, 0)].concat();
+    // Domain 1 holds 0 by a rule and 1 by a copy; domain 2 holds 0 by a copy, 2 and 3 by rules.
+    let inside = || [made(), vec![CREATE], by_rule(0, INDEX, 0), vec![copy(1, 1, 1)], write(0..1, 2),
+                     vec![CREATE, copy(0, 1, 1)], by_rule(2, ZEROS, 1), by_rule(3, SCALE, 1)].concat();
+    let over = |before: Vec<Act>| [before, write(0..4, UNRULED)].concat();
+    let then = |before: Vec<Act>, act: Act| [before, vec![act]].concat();
+
+    let mut add = |name, before, call, number, cells, pairs| all.push(Scenario { name, before, call, number, cells, pairs });
+    //   Name, what went before, the call, and its number, cells and pairs.
+    add("add by rule 0", two_follow(ZEROS), Call::pattern(1, 2, ZEROS, 1), 0, 0, 4);
+    add("add by rule 1", two_follow(ONES), Call::pattern(1, 2, ONES, 1), 0, 0, 4);
+    add("add by rule 2", two_follow(INDEX), Call::pattern(1, 2, INDEX, 0), 0, 0, 4);
+    add("add by rule 3", two_follow(SCALE), Call::pattern(1, 2, SCALE, 0), 0, 0, 4);
+    add("add by rule, one label raised", [made(), vec![CREATE], follow(0..3, SCALE), by_rule(1, SCALE, 0)].concat(),
+        Call::pattern(0, 3, SCALE, 1), 0, 0, 6);
+    add("add by rule beside copies", [made(), vec![CREATE, copy(0, 1, 0), copy(2, 1, 1)], follow(1..2, INDEX), follow(3..4, INDEX)].concat(),
+        Call::pattern(0, 4, INDEX, 1), 0, 0, 6);
+    add("add by rule inside", [mixed(), vec![CREATE], follow(0..2, ONES)].concat(), Call::pattern(0, 2, ONES, 0).on(2), 0, 0, 4);
+    add("add of cells held by rules", over(rules()), Call::pattern(0, 4, ONES, 0), 0, 0, 0);
+
+    add("restore of all four rules", over(rules()), Restore { handle: 0 }, 0, 4, 0);
+    add("restore of rules beside copies", over(mixed()), Restore { handle: 1 }, 0, 4, 0);
+    add("restore of rules ending a domain", over(inside()), Restore { handle: 1 }, 0, 4, 8);
+    add("restore of rules inside", over(inside()), Restore { handle: 2 }, 0, 3, 0);
+
+    add("advance over rules", over(rules()), Advance { handle: 1 }, 0, 2, 4);
+    add("advance over rules and copies", over(mixed()), Advance { handle: 0 }, 0, 2, 4);
+    add("advance over an unchanged rule", [made(), vec![CREATE], by_rule(1, ONES, 1)].concat(), Advance { handle: 0 }, 0, 1, 2);
+    // Freed: 0; moved: 2 and 3; raised in domain 1: 0.
+    add("commit of rules", over(inside()), Commit { handle: 2 }, 0, 0, 10);
+    add("delete of rules", over(rules()), Call::delete(1, 1, 3), 0, 0, 6);
+
+    add("open a cut add by rule", then(two_follow(SCALE), Act::Cut(Call::pattern(1, 2, SCALE, 1), 11)), Open, 0, 0, 4);
+    add("open a cut advance over rules", then(over(rules()), Act::Cut(Advance { handle: 0 }, 128 + 9)), Open, 0, 0, 4);
+    add("open a cut restore of rules", then(over(inside()), Act::Cut(Restore { handle: 1 }, 256 + 18)), Open, 0, 0, 8);
+
+    add("look by rule", over(rules()), Look { handle: 1, cell: 3 }, 0, 0, 0);
+    add("add by rule 4", two_follow(SCALE), Call::pattern(1, 2, 4, 1), 18, 0, 0);
+    add("add by another rule", two_follow(SCALE), Call::pattern(1, 2, ONES, 1), 18, 0, 0);
+    add("add via parent on a rule", [two_follow(SCALE), vec![Act::Done(Call::pattern(1, 1, SCALE, 1)), CREATE]].concat(),
+        Call::via_parent(1, 1, 1), 19, 0, 0);
 }
 
 /// The buffers and the notebook as they stand before the call. The buffers are what stood in them before the first make, any bytes.
@@ -140,16 +207,24 @@ pub fn prepare(scenario: &Scenario, sizes: Sizes) -> Result<(Buffers, Notebook),
                 }
                 note(&mut notebook, call, Ended::Stopped, steps, &buffers.memory)?;
             }
-            Act::Write { cell, version } => write_cell(&mut buffers, &mut notebook, cell, version),
+            Act::Write { cell, version } => {
+                write_cell(&mut buffers, &mut notebook, cell, &contents(cell, version));
+            }
+            Act::Follow { cell, rule } => follow_rule(&mut buffers, &mut notebook, cell, rule),
         }
     }
     Ok((buffers, notebook))
 }
 
 /// A program write of a whole cell.
-fn write_cell(buffers: &mut Buffers, notebook: &mut Notebook, cell: u32, version: u32) {
-    buffers.write_cell(cell, &contents(cell, version));
+fn write_cell(buffers: &mut Buffers, notebook: &mut Notebook, cell: u32, bytes: &[u8; 64]) {
+    buffers.write_cell(cell, bytes);
     notebook.write(64 * cell as usize, 64);
+}
+
+/// A program write of a rule's bytes.
+fn follow_rule(buffers: &mut Buffers, notebook: &mut Notebook, cell: u32, rule: u32) {
+    write_cell(buffers, notebook, cell, &pattern(rule).expect("a rule"));
 }
 
 /// Room for calls of many cells: a compiler may have another code for long loops than for short ones.
@@ -224,23 +299,38 @@ impl Session {
         note(&mut self.notebook, case.call, ended, steps, memory)
     }
 
-    /// Writes these cells with the next version that nobody holds of any of them: two versions differ in every byte.
+    /// Writes these cells, each with the next version that differs in every byte from what anybody holds of it: two versions do so, and
+    /// of a rule some.
     fn write(&mut self, cells: std::ops::Range<u32>) -> Result<(), String> {
         let state = state::state(&self.buffers)?;
-        let holds = |cell: u32, version: u32| {
-            let first = contents(cell, version)[0];
-            (0..state.domains.len())
-                .filter_map(|domain| state.value(domain, cell))
-                .any(|value| value[0] == first)
-        };
-        self.version = (1..=251)
-            .map(|more| (self.version + more) % 251)
-            .find(|version| !cells.clone().any(|cell| holds(cell, *version)))
-            .ok_or("every version is held")?;
         for cell in cells {
-            write_cell(&mut self.buffers, &mut self.notebook, cell, self.version);
+            let held: Vec<_> = (0..state.domains.len())
+                .filter_map(|domain| state.value(domain, cell))
+                .collect();
+            let differs = |version: &u32| {
+                let bytes = contents(cell, *version);
+                let mut both = held.iter().flat_map(|value| value.iter().zip(&bytes));
+                both.all(|(one, other)| one != other)
+            };
+            self.version = (1..=251)
+                .map(|more| (self.version + more) % 251)
+                .find(differs)
+                .ok_or("every version is held")?;
+            let bytes = contents(cell, self.version);
+            write_cell(&mut self.buffers, &mut self.notebook, cell, &bytes);
         }
         Ok(())
+    }
+
+    /// An add by a rule: memory is made to follow it in most cases.
+    fn choose_pattern(&mut self, first: u32, count: u32, label: u32) -> Call {
+        let rule = self.random.below(4) as u32;
+        if self.random.below(8) > 0 {
+            for cell in first..first + count {
+                follow_rule(&mut self.buffers, &mut self.notebook, cell, rule);
+            }
+        }
+        Call::pattern(first, count, rule, label)
     }
 
     fn choose(&mut self) -> Result<Call, String> {
@@ -260,8 +350,9 @@ impl Session {
         Ok(match self.random.below(20) {
             0 if handles.len() > 2 => Call::Make,
             0..=4 => Call::Create,
-            5..=8 => Call::copy(first, count, label),
-            9..=12 => Call::via_parent(first, count, label),
+            5..=7 => Call::copy(first, count, label),
+            8..=9 => self.choose_pattern(first, 1 + count / 3, label),
+            10..=12 => Call::via_parent(first, count, label),
             13 => Call::delete(any, first, 1),
             14..=15 => Call::Commit { handle: 0 },
             16..=17 => Call::Advance { handle: 0 },

@@ -28,7 +28,11 @@ pub fn put_back(state: &State, handle: u32) -> BTreeMap<u32, Bytes> {
     cells
 }
 
-/// The free bodies and the spare pairs of a store with nothing pending mean nothing; filled with ones, every later store into them shows.
+/// A byte that neither a program write of the tests nor a rule has anywhere, so that a store over it shows.
+pub const NO_BYTE: u8 = 253;
+
+/// The free bodies and the spare pairs of a store with nothing pending mean nothing; filled with what no call stores there, every later
+/// store into them shows.
 pub fn fill_what_means_nothing(buffers: &mut Buffers) {
     let Ok(decoded) = buffers.decode(None) else {
         return;
@@ -37,7 +41,7 @@ pub fn fill_what_means_nothing(buffers: &mut Buffers) {
         return;
     }
     for body in decoded.free_bodies() {
-        buffers.bodies[64 * body as usize..64 * body as usize + 64].fill(0xFF);
+        buffers.bodies[64 * body as usize..64 * body as usize + 64].fill(NO_BYTE);
     }
     buffers.table[decoded.sizes.pairs_at()..].fill(u32::MAX);
 }

@@ -1,10 +1,11 @@
-//! The sequencer's story, as a table to show in a training: an advance is cut at every single
-//! store, and the restore that follows never puts a scale of zero on a channel.
+//! The sequencer's story, as tables to show in a training: an advance is cut at every single store,
+//! and the restore that follows never puts a scale of zero on a channel; and a channel that still has
+//! its start value is held by a rule, without a copy.
 
 use std::error::Error;
 use std::process::ExitCode;
 
-use domain_store::{Buffers, CELL, Handle, Kind, Label, Refusal, Store};
+use domain_store::{Buffers, CELL, Handle, Kind, Label, Place, Refusal, Rule, Store};
 
 /// The channel's cell: its scale in the first four bytes, its phasing behind it, and filling that
 /// differs from byte to byte, so that a mixture of two cells would show.
@@ -84,6 +85,15 @@ fn cut_at(budget: u64, old: &[u8; CELL], new: &[u8; CELL]) -> Result<Seen, Box<d
 }
 
 fn main() -> Result<ExitCode, Box<dyn Error>> {
+    let right = cut_at_every_store()? & held_by_a_rule()?;
+    Ok(match right {
+        true => ExitCode::SUCCESS,
+        false => ExitCode::FAILURE,
+    })
+}
+
+/// Whether no cut left a scale of zero or a wrong byte.
+fn cut_at_every_store() -> Result<bool, Box<dyn Error>> {
     let (old, new) = (channel(1.0, 0.012), channel(0.8, 0.015));
 
     // How many stores does the advance make, uncut?
@@ -143,12 +153,69 @@ fn main() -> Result<ExitCode, Box<dyn Error>> {
     if zeros > 0 || wrong > 0 {
         println!("The scale was zero after {zeros} of {cuts} cuts, and {wrong} bytes were wrong:");
         println!("this library does not do what it promises.");
-        return Ok(ExitCode::FAILURE);
+        return Ok(false);
     }
     println!("The scale was never zero: {cuts} cuts.");
     println!("(Zero would be worst on a dark channel: 0 / 0 is NaN, every comparison with NaN is");
     println!("false, and the caller would label the whole cycle A.)");
-    Ok(ExitCode::SUCCESS)
+    Ok(true)
+}
+
+/// Whether a channel that is held by rule 3 comes back with every byte.
+fn held_by_a_rule() -> Result<bool, Box<dyn Error>> {
+    let scale = Rule::Scale;
+    // The one body stays free: a rule needs none.
+    let mut buffers = Buffers::allocate(4, 8, 1)?;
+    let mut store = buffers.store();
+    store.make()?;
+    *store.cell_mut(CHANNEL) = scale.bytes();
+    let cycle = store.create()?;
+
+    println!();
+    println!("A CHANNEL THAT IS HELD BY A RULE");
+    println!();
+    println!("The channel still has its start value, a scale of 1.0 sixteen times over. A domain");
+    println!("holds it by rule 3, so it keeps the rule's number and no copy.");
+    println!();
+    rule_line("", "stores", "in memory", "a restore brings");
+    println!("  {}", "-".repeat(84));
+    let cells = CHANNEL..CHANNEL + 1;
+    let steps = store.add(cycle, cells, Kind::Pattern(scale), Label::ReadWrite)?;
+    rule_row(&store, cycle, "the channel is added", Some(steps))?;
+    store.cell_mut(CHANNEL).fill(0);
+    rule_row(&store, cycle, "the card writes zeros over it", None)?;
+    let steps = store.restore(cycle)?;
+    rule_row(&store, cycle, "the restore brings it back", Some(steps))?;
+    println!();
+
+    let untouched = store.bodies().iter().all(|byte| *byte == 0);
+    let right = untouched && *store.cell(CHANNEL) == scale.bytes();
+    if right {
+        println!(
+            "All {CELL} bytes are those of the rule, and the store's one body was never used."
+        );
+    } else {
+        println!("Bytes are wrong: this library does not do what it promises.");
+    }
+    Ok(right)
+}
+
+/// A row for a channel that is held by a rule: what was done, with the stores of a call, and how it
+/// stands then.
+fn rule_row(store: &Store, cycle: Handle, what: &str, steps: Option<u64>) -> Result<(), Refusal> {
+    let brings = match store.look_place(cycle, CHANNEL)? {
+        Place::Rule(rule) => format!("rule {}: {:?}", rule.number(), scale_of(&rule.bytes())),
+        Place::Bodies { .. } => "a copy".into(),
+        Place::Memory { .. } => "nothing".into(),
+    };
+    let scale = format!("{:?}", scale_of(store.cell(CHANNEL)));
+    let stores = steps.map_or("-".into(), |steps| steps.to_string());
+    rule_line(what, &stores, &scale, &brings);
+    Ok(())
+}
+
+fn rule_line(what: &str, stores: &str, scale: &str, brings: &str) {
+    println!("  {what:<32} {stores:>8}   {scale:>12}   {brings:>24}");
 }
 
 /// A row for the cuts from `first` to `last`.

@@ -29,7 +29,17 @@ pub(crate) struct Add {
     pub(crate) first: u32,
     pub(crate) count: u32,
     pub(crate) kind: u32,
+    pub(crate) rule: u32,
     pub(crate) label: u32,
+}
+
+/// What a look gives, by its numbers.
+#[derive(Clone, Copy, Default)]
+pub(crate) struct Looked {
+    pub(crate) number: u32,
+    pub(crate) place: u32,
+    pub(crate) offset: u64,
+    pub(crate) rule: u32,
 }
 
 fn counted(call: impl FnOnce(&mut u64) -> u32) -> Answer {
@@ -71,7 +81,9 @@ impl Slices<'_> {
     pub(crate) fn add(&mut self, a: Add, budget: u64) -> Answer {
         let lent = self.lent();
         counted(|steps| unsafe {
-            lent.add(a.handle, a.first, a.count, a.kind, a.label, budget, steps)
+            lent.add(
+                a.handle, a.first, a.count, a.kind, a.rule, a.label, budget, steps,
+            )
         })
     }
 
@@ -99,11 +111,14 @@ impl Slices<'_> {
         (number, handles, count)
     }
 
-    /// The number, the place (memory or bodies) and the offset in it.
-    pub(crate) fn look(&self, handle: u32, cell: u32) -> (u32, u32, u64) {
-        let (mut place, mut offset) = (0, 0);
+    /// The number; the place (memory or bodies) with the offset in it, or a rule.
+    pub(crate) fn look(&self, handle: u32, cell: u32) -> Looked {
+        let mut told = Looked::default();
         let lent = self.lent_to_read();
-        let number = unsafe { lent.look(handle, cell, &mut place, &mut offset) };
-        (number, place, offset)
+        told.number = unsafe {
+            let (place, offset, rule) = (&mut told.place, &mut told.offset, &mut told.rule);
+            lent.look(handle, cell, place, offset, rule)
+        };
+        told
     }
 }

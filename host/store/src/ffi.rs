@@ -55,6 +55,9 @@ pub const IN_MEMORY: u32 = 1;
 /// What [`ds_look`] puts into `place` for a part of bodies.
 pub const IN_BODIES: u32 = 2;
 
+/// What [`ds_look`] puts into `place` for a cell that is held by a rule: no part of a buffer.
+pub const BY_RULE: u32 = 3;
+
 /// The lent buffers as every C function takes them first: a pointer and a length in elements each.
 #[derive(Clone, Copy, Debug)]
 pub struct Lent {
@@ -162,10 +165,12 @@ functions! {
     /// call is done.
     ds_create, create: const const mut (budget: u64, steps: *mut u64, handle: *mut u32);
 
-    /// Holds cells in the innermost domain. `kind` is 0 for a copy, 1 for via parent; `label` is 0
-    /// for read-only, 1 for read-write. Stores into bodies and the table.
+    /// Holds cells in the innermost domain. `kind` is 0 for a copy, 1 for via parent, 2 for a
+    /// pattern, whose `rule` is from 0 to 3 (other kinds ignore it); `label` is 0 for read-only, 1
+    /// for read-write. Stores into bodies and the table.
     ds_add, add: const mut mut (
-        handle: u32, first: u32, count: u32, kind: u32, label: u32, budget: u64, steps: *mut u64
+        handle: u32, first: u32, count: u32, kind: u32, rule: u32, label: u32, budget: u64,
+        steps: *mut u64
     );
 
     /// Frees cells that a domain holds. Stores into the table.
@@ -189,8 +194,11 @@ functions! {
 
     /// Tells where the 64 bytes stand that a restore would leave in a cell: `place` is
     /// [`IN_MEMORY`], [`IN_BODIES`] or 0 when refused, and `offset` counts bytes from the start of
-    /// that buffer. Stores nothing.
-    ds_look, look: const const const (handle: u32, cell: u32, place: *mut u32, offset: *mut u64);
+    /// that buffer. With [`BY_RULE`] they stand nowhere: `offset` is 0 and `rule` the number of the
+    /// rule that they follow (0 elsewhere). Stores nothing.
+    ds_look, look: const const const (
+        handle: u32, cell: u32, place: *mut u32, offset: *mut u64, rule: *mut u32
+    );
 }
 
 #[cfg(test)]

@@ -68,6 +68,26 @@
 //! # Ok::<(), Box<dyn std::error::Error>>(())
 //! ```
 //!
+//! # Cells that follow a pattern
+//!
+//! A cell that still has its start value needs no copy: its domain keeps the [`Rule`] that the bytes
+//! follow, and a restore makes them afresh.
+//!
+//! ```
+//! use domain_store::{Buffers, Kind, Label, Place, Rule};
+//! # let mut buffers = Buffers::allocate(4, 8, 8)?;
+//! # let mut store = buffers.store();
+//! # store.make()?;
+//! *store.cell_mut(0) = Rule::Scale.bytes(); // sixteen scales of one
+//! let cycle = store.create()?;
+//! store.add(cycle, 0..1, Kind::Pattern(Rule::Scale), Label::ReadWrite)?;
+//! store.cell_mut(0).fill(0);
+//! assert_eq!(store.look_place(cycle, 0)?, Place::Rule(Rule::Scale));
+//! store.restore(cycle)?;
+//! assert_eq!(store.cell(0), &Rule::Scale.bytes());
+//! # Ok::<(), Box<dyn std::error::Error>>(())
+//! ```
+//!
 //! # Where the buffers come from
 //!
 //! [`Store`] takes any three slices. [`Buffers`] are allocated for given sizes; [`MappedBuffers`]
@@ -108,7 +128,7 @@ mod store;
 
 pub use buffers::{Buffers, SizeError, Sizes};
 pub use map::MappedBuffers;
-pub use names::{Domain, Handle, Handles, Innermost, Kind, Label};
+pub use names::{Domain, Handle, Handles, Innermost, Kind, Label, Rule};
 pub use outcome::Outcome;
 pub use refusal::Refusal;
 pub use store::{Place, Store};

@@ -1,8 +1,10 @@
-//! The names that calls take and give: handles, domains, kinds, labels.
+//! The names that calls take and give: handles, domains, kinds, rules, labels.
 
 use std::fmt;
 use std::num::NonZeroU32;
 use std::ops::Deref;
+
+use crate::CELL;
 
 /// The handle of a domain: a number from 1, which a store gives out once and never again.
 ///
@@ -103,20 +105,128 @@ pub enum Kind {
     /// The domain relies on the value that its parent holds, which takes no body. Memory must have
     /// that value still.
     ViaParent,
+    /// The domain keeps only the rule that the 64 bytes follow, which takes no body: a restore makes
+    /// them afresh. Memory must follow the rule.
+    Pattern(Rule),
 }
 
 impl Kind {
     /// The kind's number in the C functions.
     ///
     /// ```
-    /// # use domain_store::Kind;
+    /// # use domain_store::{Kind, Rule};
     /// assert_eq!((Kind::Copy.number(), Kind::ViaParent.number()), (0, 1));
+    /// assert_eq!(Kind::Pattern(Rule::Scale).number(), 2);
     /// ```
     pub const fn number(self) -> u32 {
         match self {
             Kind::Copy => 0,
             Kind::ViaParent => 1,
+            Kind::Pattern(_) => 2,
         }
+    }
+
+    /// The rule of a pattern.
+    ///
+    /// ```
+    /// # use domain_store::{Kind, Rule};
+    /// assert_eq!(Kind::Pattern(Rule::Scale).rule(), Some(Rule::Scale));
+    /// assert_eq!(Kind::Copy.rule(), None);
+    /// ```
+    pub const fn rule(self) -> Option<Rule> {
+        match self {
+            Kind::Pattern(rule) => Some(rule),
+            Kind::Copy | Kind::ViaParent => None,
+        }
+    }
+}
+
+/// What the 64 bytes of a cell are that is held as a [pattern](Kind::Pattern).
+///
+/// ```
+/// use domain_store::Rule;
+///
+/// assert_eq!(Rule::Zeros.bytes(), [0; 64]);
+/// assert_eq!(Rule::Ones.bytes(), [255; 64]);
+/// assert_eq!(Rule::Index.bytes()[61..], [61, 62, 63]);
+/// assert_eq!(Rule::Scale.bytes()[60..], 1.0_f32.to_le_bytes());
+/// ```
+#[derive(Clone, Copy, Debug, PartialEq, Eq, Hash)]
+#[repr(u32)]
+pub enum Rule {
+    /// All 0.
+    Zeros = 0,
+    /// All 255: every bit is one.
+    Ones = 1,
+    /// Byte i is i.
+    Index = 2,
+    /// 0, 0, 128, 63 over and over: sixteen little-endian floats of 1, a scale of one.
+    Scale = 3,
+}
+
+/// The bytes of each rule, by its number.
+static PATTERNS: [[u8; CELL]; 4] = [
+    Rule::Zeros.bytes(),
+    Rule::Ones.bytes(),
+    Rule::Index.bytes(),
+    Rule::Scale.bytes(),
+];
+
+impl Rule {
+    /// All rules, by rising number.
+    pub const ALL: [Rule; 4] = [Rule::Zeros, Rule::Ones, Rule::Index, Rule::Scale];
+
+    /// The rule's number in the C functions.
+    ///
+    /// ```
+    /// # use domain_store::Rule;
+    /// assert_eq!(Rule::ALL.map(Rule::number), [0, 1, 2, 3]);
+    /// ```
+    pub const fn number(self) -> u32 {
+        self as u32
+    }
+
+    /// The rule with this number; none above 3.
+    ///
+    /// ```
+    /// # use domain_store::Rule;
+    /// assert_eq!(Rule::from_number(3), Some(Rule::Scale));
+    /// assert_eq!(Rule::from_number(4), None);
+    /// ```
+    pub const fn from_number(number: u32) -> Option<Rule> {
+        match number {
+            0 => Some(Rule::Zeros),
+            1 => Some(Rule::Ones),
+            2 => Some(Rule::Index),
+            3 => Some(Rule::Scale),
+            _ => None,
+        }
+    }
+
+    /// The byte at a place of a cell that follows the rule.
+    const fn byte(self, place: usize) -> u8 {
+        match self {
+            Rule::Zeros => 0,
+            Rule::Ones => 255,
+            Rule::Index => place as u8,
+            Rule::Scale => [0, 0, 128, 63][place % 4],
+        }
+    }
+
+    /// The 64 bytes of a cell that follows the rule.
+    pub const fn bytes(self) -> [u8; CELL] {
+        let mut bytes = [0; CELL];
+        let mut place = 0;
+        while place < CELL {
+            bytes[place] = self.byte(place);
+            place += 1;
+        }
+        bytes
+    }
+
+    /// The same bytes, where they stand for good.
+    pub(crate) fn pattern(self) -> &'static [u8; CELL] {
+        &PATTERNS[self as usize]
     }
 }
 

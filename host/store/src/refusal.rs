@@ -6,9 +6,10 @@ use std::fmt;
 /// Why a call was refused. A refused call changed nothing: every word and byte of the buffers has
 /// the value that it had before.
 ///
-/// A call puts its questions in the order of these numbers and is refused by the first that is
-/// answered by no. The text of a refusal says what was wrong and what to do about it. The header has
-/// them by the same names: `NoStore` is `DS_REFUSED_NO_STORE` in C.
+/// A call puts its questions in the order of these numbers, save that 18 and 19 come right after
+/// 12, and is refused by the first that is answered by no. The text of a refusal says what was
+/// wrong and what to do about it. The header has them by the same names: `NoStore` is
+/// `DS_REFUSED_NO_STORE` in C.
 ///
 /// ```
 /// use domain_store::{Buffers, Refusal};
@@ -42,8 +43,8 @@ pub enum Refusal {
     NoSuchDomain = 5,
     /// 6: the domain is not the innermost.
     NotInnermost = 6,
-    /// 7: kind or label is neither 0 nor 1. This crate's enums cannot be wrong, so only callers of
-    /// [`ffi`](crate::ffi) meet it.
+    /// 7: kind is not 0 to 2, or label is neither 0 nor 1. This crate's enums cannot be wrong, so
+    /// only callers of [`ffi`](crate::ffi) meet it.
     KindOrLabel = 7,
     /// 8: the range of cells is empty or ends past memory.
     Range = 8,
@@ -65,6 +66,11 @@ pub enum Refusal {
     NoFreeEntry = 16,
     /// 17: too few free bodies.
     NoFreeBody = 17,
+    /// 18: memory differs from the rule's bytes in a cell that is newly held by it. The same number
+    /// tells a rule above 3, which only callers of [`ffi`](crate::ffi) can pass.
+    PatternDiffers = 18,
+    /// 19: the parent holds by a rule a cell that is newly held via parent.
+    ParentHoldsByRule = 19,
 }
 
 impl Refusal {
@@ -93,6 +99,8 @@ impl Refusal {
         Refusal::ParentLacksReadWrite,
         Refusal::NoFreeEntry,
         Refusal::NoFreeBody,
+        Refusal::PatternDiffers,
+        Refusal::ParentHoldsByRule,
     ];
 
     /// The refusal's number, which is what the C functions return: the number of the question that
@@ -156,8 +164,8 @@ impl fmt::Display for Refusal {
                  commit the inner domains first, or name the innermost."
             }
             Refusal::KindOrLabel => {
-                "Kind and label must each be 0 or 1: pass 0 for copy or 1 for via parent, and \
-                 0 for read-only or 1 for read-write."
+                "Kind must be 0 to 2 and label 0 or 1: pass 0 for copy, 1 for via parent or 2 \
+                 for a pattern, and 0 for read-only or 1 for read-write."
             }
             Refusal::Range => {
                 "The range of cells is empty or ends past memory: name at least one cell, and \
@@ -203,6 +211,14 @@ impl fmt::Display for Refusal {
                  each read-write cell before it frees the old ones): delete or commit what is \
                  no longer needed, or use another store in larger buffers (a make forgets this \
                  one)."
+            }
+            Refusal::PatternDiffers => {
+                "There is no such rule, or memory differs from its bytes in a cell that is newly \
+                 held by it: pass a rule from 0 to 3, and hold cells with other bytes by copy."
+            }
+            Refusal::ParentHoldsByRule => {
+                "The parent holds a cell by a rule, and via parent never rests on a rule: hold \
+                 the cell by the same rule or by copy."
             }
         })
     }

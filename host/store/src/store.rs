@@ -4,7 +4,7 @@ use std::fmt;
 use std::ops::Range;
 
 use crate::call::{Add, Answer, Slices};
-use crate::{CELL, Domain, Handle, Handles, Kind, Label, Outcome, Refusal, ffi};
+use crate::{CELL, Domain, Handle, Handles, Kind, Label, Outcome, Refusal, Rule, ffi};
 
 /// The budget of a call that must not be stopped: no call needs so many steps. It goes over the C
 /// boundary as any other number, so the compiled library makes the same stores in the same order as
@@ -52,14 +52,16 @@ pub struct Store<'a> {
 /// Where the bytes stand that [`Store::look`] shows.
 ///
 /// ```
-/// use domain_store::{Buffers, Kind, Label, Place};
+/// use domain_store::{Buffers, Kind, Label, Place, Rule};
 ///
 /// let mut buffers = Buffers::allocate(4, 8, 8)?;
 /// let mut store = buffers.store();
 /// store.make()?;
 /// let cycle = store.create()?;
 /// store.add(cycle, 1..2, Kind::Copy, Label::ReadOnly)?;
+/// store.add(cycle, 2..3, Kind::Pattern(Rule::Zeros), Label::ReadOnly)?;
 /// assert!(matches!(store.look_place(cycle, 1)?, Place::Bodies { .. }));
+/// assert_eq!(store.look_place(cycle, 2)?, Place::Rule(Rule::Zeros));
 /// assert_eq!(store.look_place(cycle, 3)?, Place::Memory { offset: 3 * 64 });
 /// # Ok::<(), Box<dyn std::error::Error>>(())
 /// ```
@@ -75,6 +77,8 @@ pub enum Place {
         /// The first of the 64 bytes, counted from the start of bodies.
         offset: usize,
     },
+    /// In no buffer: the cell is held by this rule, and a restore makes its bytes afresh.
+    Rule(Rule),
 }
 
 impl<'a> Store<'a> {
@@ -308,9 +312,10 @@ impl<'a> Store<'a> {
 
     /// Holds cells in the innermost domain, which `domain` has to name.
     ///
-    /// A cell that the domain does not hold yet is held with memory's bytes: as a copy, or via the
-    /// parent, which holds the same bytes. A cell that it holds already keeps its kind and value;
-    /// it becomes read-write if `label` is, and never goes back. All cells are held, or none.
+    /// A cell that the domain does not hold yet is held with memory's bytes: as a copy, via the
+    /// parent, which holds the same bytes, or by the rule that they follow. A cell that it holds
+    /// already keeps its kind and value; it becomes read-write if `label` is, and never goes back.
+    /// All cells are held, or none.
     ///
     /// Gives the steps that it took.
     ///
@@ -319,8 +324,9 @@ impl<'a> Store<'a> {
     /// [`NoSuchDomain`](Refusal::NoSuchDomain), [`NotInnermost`](Refusal::NotInnermost),
     /// [`Range`](Refusal::Range); for cells that are new, [`NoFreeEntry`](Refusal::NoFreeEntry),
     /// for new copies [`NoFreeBody`](Refusal::NoFreeBody), via parent
-    /// [`ParentLacksCell`](Refusal::ParentLacksCell) and [`MemoryDiffers`](Refusal::MemoryDiffers);
-    /// and those of every call.
+    /// [`ParentLacksCell`](Refusal::ParentLacksCell), [`MemoryDiffers`](Refusal::MemoryDiffers) and
+    /// [`ParentHoldsByRule`](Refusal::ParentHoldsByRule), for patterns
+    /// [`PatternDiffers`](Refusal::PatternDiffers); and those of every call.
     ///
     /// ```
     /// use domain_store::{Buffers, Innermost, Kind, Label, Refusal};
@@ -338,6 +344,31 @@ impl<'a> Store<'a> {
     /// assert_eq!(store.add(Innermost, 2..3, Kind::ViaParent, Label::ReadWrite), Err(Refusal::ParentLacksCell));
     /// assert_eq!(store.add(cycle, 2..3, Kind::Copy, Label::ReadWrite), Err(Refusal::NotInnermost));
     /// assert_eq!(store.add(tile, 4..5, Kind::Copy, Label::ReadOnly), Err(Refusal::Range));
+    /// # Ok::<(), Box<dyn std::error::Error>>(())
+    /// ```
+    ///
+    /// By a rule, which takes an entry and no body:
+    ///
+    /// ```
+    /// use domain_store::{Buffers, Kind, Label, Refusal, Rule};
+    ///
+    /// // One body for four cells.
+    /// let mut buffers = Buffers::allocate(4, 8, 1)?;
+    /// let mut store = buffers.store();
+    /// store.make()?;
+    /// for cell in 0..4 {
+    ///     *store.cell_mut(cell) = Rule::Scale.bytes();
+    /// }
+    /// let cycle = store.create()?;
+    /// store.add(cycle, 0..4, Kind::Pattern(Rule::Scale), Label::ReadWrite)?;
+    /// store.memory_mut().fill(0);
+    /// store.restore(cycle)?;
+    /// assert_eq!(store.cell(3), &Rule::Scale.bytes());
+    ///
+    /// // Via parent never rests on a rule, and memory has to follow the rule that is named.
+    /// let tile = store.create()?;
+    /// assert_eq!(store.add(tile, 0..1, Kind::ViaParent, Label::ReadWrite), Err(Refusal::ParentHoldsByRule));
+    /// assert_eq!(store.add(tile, 0..1, Kind::Pattern(Rule::Ones), Label::ReadWrite), Err(Refusal::PatternDiffers));
     /// # Ok::<(), Box<dyn std::error::Error>>(())
     /// ```
     pub fn add(
@@ -366,6 +397,8 @@ impl<'a> Store<'a> {
             first,
             count,
             kind: kind.number(),
+            // Kinds without a rule ignore the number.
+            rule: kind.rule().map_or(0, Rule::number),
             label: label.number(),
         };
         outcome(self.lent.add(add, budget))
@@ -456,8 +489,8 @@ impl<'a> Store<'a> {
     }
 
     /// Moves the checkpoint of the innermost domain, which `domain` has to name, to now: each of
-    /// its read-write cells is held with memory's bytes, as a copy. Read-only cells keep what they
-    /// were held with.
+    /// its read-write cells is held with memory's bytes, as a copy, also where it was held via
+    /// parent or by a rule. Read-only cells keep what they were held with.
     ///
     /// The new copies take free bodies, one for each read-write cell, and the old ones become free
     /// at the end: a fault in between finds either all of the old checkpoint or all of the new one.
@@ -593,7 +626,8 @@ impl<'a> Store<'a> {
     }
 
     /// The 64 bytes that a restore of the domain would leave in a cell: a part of bodies, or of
-    /// memory where nobody from that domain inwards holds the cell. Nothing is changed.
+    /// memory where nobody from that domain inwards holds the cell, or the rule's own bytes where it
+    /// is held by one. Nothing is changed.
     ///
     /// # Errors
     ///
@@ -618,23 +652,27 @@ impl<'a> Store<'a> {
         Ok(match self.look_place(domain, cell)? {
             Place::Memory { offset } => as_cell(&self.lent.memory[offset..offset + CELL]),
             Place::Bodies { offset } => as_cell(&self.lent.bodies[offset..offset + CELL]),
+            Place::Rule(rule) => rule.pattern(),
         })
     }
 
     /// Where the bytes stand that [`look`](Store::look) shows, with the same refusals. It also
-    /// tells whether the cell is held at all.
+    /// tells whether the cell is held at all, and by which rule.
     pub fn look_place(&self, domain: impl Into<Domain>, cell: u32) -> Result<Place, Refusal> {
-        let (number, place, offset) = self.lent.look(domain.into().number(), cell);
-        if number != ffi::DONE {
-            return Err(refusal(number));
+        let told = self.lent.look(domain.into().number(), cell);
+        if told.number != ffi::DONE {
+            return Err(refusal(told.number));
         }
-        let offset = usize::try_from(offset).expect("the library told an offset inside a buffer");
-        match place {
-            ffi::IN_MEMORY => Ok(Place::Memory { offset }),
-            ffi::IN_BODIES => Ok(Place::Bodies { offset }),
-            other => panic!(
-                "the library told the place {other}, which is neither memory nor bodies: \
-                 library and crate do not match"
+        let offset =
+            usize::try_from(told.offset).expect("the library told an offset inside a buffer");
+        match (told.place, Rule::from_number(told.rule)) {
+            (ffi::IN_MEMORY, _) => Ok(Place::Memory { offset }),
+            (ffi::IN_BODIES, _) => Ok(Place::Bodies { offset }),
+            (ffi::BY_RULE, Some(rule)) => Ok(Place::Rule(rule)),
+            _ => panic!(
+                "the library told the place {} with the rule {}, which this crate does not know: \
+                 library and crate do not match",
+                told.place, told.rule
             ),
         }
     }

@@ -2,7 +2,8 @@
 //! safe interface.
 
 use domain_store::{
-    Buffers, Domain, Handle, Innermost, Kind, Label, Outcome, Place, Refusal, Store, ffi::Lent,
+    Buffers, Domain, Handle, Innermost, Kind, Label, Outcome, Place, Refusal, Rule, Store,
+    ffi::Lent,
 };
 
 fn fresh() -> Buffers {
@@ -228,6 +229,153 @@ fn a_look_shows_what_a_restore_leaves() {
     );
 }
 
+/// A store whose only domain holds cell c by rule c, all with this label.
+fn by_each_rule(buffers: &mut Buffers, label: Label) -> (Store<'_>, Handle) {
+    let mut store = buffers.store();
+    let one = store.create().unwrap();
+    for (cell, rule) in (0..).zip(Rule::ALL) {
+        *store.cell_mut(cell) = rule.bytes();
+        let added = store.add(one, cell..cell + 1, Kind::Pattern(rule), label);
+        // No byte is stored: one entry, two words.
+        assert_eq!(added, Ok(3 * 2 + 2));
+    }
+    (store, one)
+}
+
+#[test]
+fn each_rule_comes_back() {
+    for label in [Label::ReadOnly, Label::ReadWrite] {
+        let mut buffers = fresh();
+        let (mut store, one) = by_each_rule(&mut buffers, label);
+        store.memory_mut().fill(200);
+        for (cell, rule) in (0..).zip(Rule::ALL) {
+            assert_eq!(store.look_place(one, cell), Ok(Place::Rule(rule)));
+            assert_eq!(store.look(one, cell), Ok(&rule.bytes()));
+        }
+        assert_eq!(store.restore(one), Ok(4 * 64));
+        for (cell, rule) in (0..).zip(Rule::ALL) {
+            assert_eq!(store.cell(cell), &rule.bytes());
+        }
+    }
+}
+
+#[test]
+fn an_advance_turns_read_write_rules_into_copies() {
+    for (label, steps, byte) in [
+        (Label::ReadOnly, 0, None),
+        (Label::ReadWrite, 4 * 64 + 3 * 8 + 2, Some(9)),
+    ] {
+        let mut buffers = fresh();
+        let (mut store, one) = by_each_rule(&mut buffers, label);
+        store.memory_mut().fill(9);
+        assert_eq!(store.advance(one), Ok(steps));
+        store.memory_mut().fill(200);
+        store.restore(one).unwrap();
+        for (cell, rule) in (0..).zip(Rule::ALL) {
+            let wanted = byte.map_or(rule.bytes(), |byte| [byte; 64]);
+            assert_eq!(store.cell(cell), &wanted, "{rule:?}");
+            let by_rule = store.look_place(one, cell) == Ok(Place::Rule(rule));
+            assert_eq!(by_rule, byte.is_none(), "{rule:?}");
+        }
+    }
+}
+
+#[test]
+fn a_pattern_has_to_be_in_memory() {
+    let mut buffers = fresh();
+    let mut store = buffers.store();
+    let one = store.create().unwrap();
+    for cell in 0..3 {
+        *store.cell_mut(cell) = Rule::Index.bytes();
+    }
+    let index = Kind::Pattern(Rule::Index);
+    for place in [0, 63, 2 * 64 + 63] {
+        store.memory_mut()[place] ^= 1;
+        let added = store.add(one, 0..3, index, Label::ReadWrite);
+        assert_eq!(added, Err(Refusal::PatternDiffers), "byte {place}");
+        store.memory_mut()[place] ^= 1;
+    }
+    assert_eq!(store.add(one, 0..3, index, Label::ReadWrite), Ok(20));
+    // Held cells are not compared, and keep their rule.
+    store.memory_mut().fill(9);
+    let again = Kind::Pattern(Rule::Ones);
+    assert_eq!(store.add(one, 0..3, again, Label::ReadOnly), Ok(0));
+    assert_eq!(store.look_place(one, 2), Ok(Place::Rule(Rule::Index)));
+}
+
+#[test]
+fn via_parent_never_rests_on_a_rule() {
+    let mut buffers = fresh();
+    let mut store = buffers.store();
+    copy(&mut store, 0);
+    hold(&mut store, 0, Kind::Pattern(Rule::Zeros), Label::ReadWrite);
+    let three = store.create().unwrap();
+    let add = |store: &mut Store| store.add(three, 0..1, Kind::ViaParent, Label::ReadOnly);
+    assert_eq!(add(&mut store), Err(Refusal::ParentHoldsByRule));
+    store.cell_mut(0).fill(9);
+    assert_eq!(add(&mut store), Err(Refusal::MemoryDiffers));
+}
+
+#[test]
+fn rules_need_entries_and_no_bodies() {
+    let mut buffers = sized(8, 8, 1);
+    let mut store = buffers.store();
+    for cell in 0..8 {
+        *store.cell_mut(cell) = Rule::Scale.bytes();
+    }
+    let one = store.create().unwrap();
+    let scale = Kind::Pattern(Rule::Scale);
+    assert_eq!(store.add(one, 0..8, scale, Label::ReadWrite), Ok(50));
+    assert_eq!(store.open(), Ok(0));
+    store.memory_mut().fill(0);
+    assert_eq!(store.restore(one), Ok(8 * 64));
+    assert!((0..8).all(|cell| store.cell(cell) == &Rule::Scale.bytes()));
+    assert_eq!(store.advance(one), Err(Refusal::NoFreeBody));
+    let two = store.create().unwrap();
+    let added = store.add(two, 0..1, scale, Label::ReadOnly);
+    assert_eq!(added, Err(Refusal::NoFreeEntry));
+}
+
+#[test]
+fn a_commit_keeps_rules() {
+    let mut buffers = fresh();
+    let mut store = buffers.store();
+    let one = hold(&mut store, 0, Kind::Copy, Label::ReadOnly);
+    let two = store.create().unwrap();
+    let zeros = Kind::Pattern(Rule::Zeros);
+    store.add(two, 0..2, zeros, Label::ReadWrite).unwrap();
+    store.commit(two).unwrap();
+    // The outer copy stays where there is one; where there is none, the rule moves.
+    assert!(matches!(store.look_place(one, 0), Ok(Place::Bodies { .. })));
+    assert_eq!(store.look_place(one, 1), Ok(Place::Rule(Rule::Zeros)));
+}
+
+/// A scale of one that is held by its rule, and a new scale written over it: whichever store the
+/// advance is cut at, the domain goes back to the one or to the other.
+#[test]
+fn every_cut_of_a_scale_of_one_is_old_or_new() {
+    for budget in 0..=72 {
+        let mut buffers = fresh();
+        let mut store = buffers.store();
+        *store.cell_mut(0) = Rule::Scale.bytes();
+        let one = store.create().unwrap();
+        let scale = Kind::Pattern(Rule::Scale);
+        store.add(one, 0..1, scale, Label::ReadWrite).unwrap();
+        store.cell_mut(0).fill(8);
+        let outcome = store.advance_with_budget(one, budget).unwrap();
+        assert_eq!((outcome.steps(), outcome.is_done()), (budget, budget == 72));
+        store.open().unwrap();
+        store.cell_mut(0).fill(0);
+        store.restore(one).unwrap();
+        let kept = if budget < 69 {
+            Rule::Scale.bytes()
+        } else {
+            [8; 64]
+        };
+        assert_eq!(store.cell(0), &kept, "budget {budget}");
+    }
+}
+
 #[test]
 fn every_cut_of_an_advance_is_old_or_new() {
     let mut outcomes = [0, 0];
@@ -384,23 +532,35 @@ fn the_raw_functions_set_their_out_parameters() {
     let (mut memory, mut bodies, mut table) = ([0_u8; 64], [0_u8; 64], [5_u32; 42]);
     let lent = Lent::new(&mut memory, &mut bodies, &mut table);
     let (mut steps, mut handle, mut handles, mut count) = (77, 77, [77; 8], 77);
-    let (mut place, mut offset) = (77, 77);
+    let (mut place, mut offset, mut rule) = (77, 77, 77);
     // SAFETY: the arrays are as long as is said, and nothing overlaps.
     unsafe {
         assert_eq!(lent.create(u64::MAX, &mut steps, &mut handle), 2);
         assert_eq!((steps, handle), (0, 0));
         assert_eq!(lent.list(handles.as_mut_ptr(), &mut count), 2);
         assert_eq!((handles, count), ([0; 8], 0));
-        assert_eq!(lent.look(0, 0, &mut place, &mut offset), 2);
-        assert_eq!((place, offset), (0, 0));
+        assert_eq!(lent.look(0, 0, &mut place, &mut offset, &mut rule), 2);
+        assert_eq!((place, offset, rule), (0, 0, 0));
         assert_eq!(lent.make(u64::MAX, &mut steps), 0);
         assert_eq!(steps, 19);
         assert_eq!(lent.create(u64::MAX, &mut steps, &mut handle), 0);
-        // Kind and label reach question 7 only from here.
-        for (kind, label) in [(2, 0), (0, 2)] {
+        // Wrong kinds, labels and rules reach the library only from here.
+        for (kind, rule, label, answer) in [
+            (3, 0, 0, 7),
+            (0, 0, 2, 7),
+            (2, 4, 2, 7),
+            (2, 4, 0, 18),
+            (2, u32::MAX, 1, 18),
+        ] {
             steps = 77;
-            let number = lent.add(handle, 0, 1, kind, label, u64::MAX, &mut steps);
-            assert_eq!((number, steps), (7, 0));
+            let number = lent.add(handle, 0, 1, kind, rule, label, u64::MAX, &mut steps);
+            assert_eq!((number, steps), (answer, 0));
         }
+        // A look at a cell that is held by a rule.
+        assert_eq!(lent.add(handle, 0, 1, 2, 0, 0, u64::MAX, &mut steps), 0);
+        assert_eq!(steps, 8);
+        (place, offset, rule) = (77, 77, 77);
+        assert_eq!(lent.look(0, 0, &mut place, &mut offset, &mut rule), 0);
+        assert_eq!((place, offset, rule), (3, 0, 0));
     }
 }

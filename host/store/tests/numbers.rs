@@ -1,9 +1,9 @@
 //! The numbers: document 01's questions, the header's constants and this crate say the same, and the library answers by them.
 
-use domain_store::{Buffers, Handle, Innermost, Kind, Label, Refusal, Store, ffi};
+use domain_store::{Buffers, Handle, Innermost, Kind, Label, Refusal, Rule, Store, ffi};
 use std::collections::BTreeMap;
 
-/// Document 01, "Questions put to every call, in this order": the number, the question, and what a no is called here.
+/// Document 01, "Questions put to every call, in this order", with request A.1's: the number, the question, and what a no is called here.
 #[rustfmt::skip]
 const QUESTIONS: &[(u32, &str, Refusal)] = &[
     (1, "Are the three lengths allowed?", Refusal::Lengths),
@@ -12,7 +12,7 @@ const QUESTIONS: &[(u32, &str, Refusal)] = &[
     (4, "Is the table, pending pairs included, as described above?", Refusal::Corrupt),
     (5, "Does the handle name a live domain?", Refusal::NoSuchDomain),
     (6, "Is it the innermost?", Refusal::NotInnermost),
-    (7, "Are kind and label each 0 or 1?", Refusal::KindOrLabel),
+    (7, "Is the kind 0 to 2 and the label 0 or 1?", Refusal::KindOrLabel),
     (8, "Is the count at least 1 and first + count at most m?", Refusal::Range),
     (9, "Are fewer than 8 domains live?", Refusal::TooManyDomains),
     (10, "Is word 5 below 4,294,967,295?", Refusal::NoHandleLeft),
@@ -23,6 +23,8 @@ const QUESTIONS: &[(u32, &str, Refusal)] = &[
     (15, "Does the next domain out, if any, hold every read-write cell?", Refusal::ParentLacksReadWrite),
     (16, "Are live entries plus newly held cells at most E?", Refusal::NoFreeEntry),
     (17, "Are copies in use plus new bodies at most B?", Refusal::NoFreeBody),
+    (18, "Is the rule at most 3, and memory like it in every newly held cell?", Refusal::PatternDiffers),
+    (19, "Does the next domain out hold none of them by a rule?", Refusal::ParentHoldsByRule),
 ];
 
 /// The header's constants: name and number.
@@ -66,8 +68,14 @@ fn header_crate_and_document_01_number_alike() {
             ("DS_STOPPED", ffi::STOPPED),
             ("DS_IN_MEMORY", ffi::IN_MEMORY),
             ("DS_IN_BODIES", ffi::IN_BODIES),
+            ("DS_BY_RULE", ffi::BY_RULE),
             ("DS_COPY", Kind::Copy.number()),
             ("DS_VIA_PARENT", Kind::ViaParent.number()),
+            ("DS_PATTERN", Kind::Pattern(Rule::Zeros).number()),
+            ("DS_RULE_ZEROS", Rule::Zeros.number()),
+            ("DS_RULE_ONES", Rule::Ones.number()),
+            ("DS_RULE_INDEX", Rule::Index.number()),
+            ("DS_RULE_SCALE", Rule::Scale.number()),
             ("DS_READ_ONLY", Label::ReadOnly.number()),
             ("DS_READ_WRITE", Label::ReadWrite.number()),
         ]
@@ -167,6 +175,14 @@ fn provoked(number: u32) -> Option<Refusal> {
             small.add(one, 0..1, copy, rw).unwrap();
             small.advance(one).err()
         }
+        18 => store.add(two, 0..1, Kind::Pattern(Rule::Ones), rw).err(),
+        19 => {
+            store.commit(two).unwrap();
+            let zeros = Kind::Pattern(Rule::Zeros);
+            store.add(one, 0..1, zeros, rw).unwrap();
+            store.create().unwrap();
+            store.add(Innermost, 0..1, Kind::ViaParent, rw).err()
+        }
         _ => None,
     }
 }
@@ -176,8 +192,9 @@ fn by_number(buffers: &mut Buffers) -> Option<Refusal> {
     let (memory, bodies, table) = buffers.store().into_buffers();
     let mut steps = 0;
     // SAFETY: three slices with their lengths, and an out parameter of its own.
-    let number =
-        unsafe { ffi::Lent::new(memory, bodies, table).add(0, 0, 1, 2, 0, u64::MAX, &mut steps) };
+    let number = unsafe {
+        ffi::Lent::new(memory, bodies, table).add(0, 0, 1, 3, 0, 0, u64::MAX, &mut steps)
+    };
     Refusal::from_number(number)
 }
 

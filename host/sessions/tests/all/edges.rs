@@ -1,15 +1,16 @@
-//! Document 01's edges on the lent buffers, and fixed cases at both ends of the sizes.
+//! The edges on the lent buffers, and fixed cases at both ends of the sizes.
 
 use crate::{agreed, fail, library};
 use domain_model::calls::REFUSALS;
 use domain_model::edges::{Line as Edge, scripts};
+use domain_model::rules::pattern;
 use domain_model::{Buffers, Call, FULL, Lengths, Model, Sizes, Store};
 use domain_sessions::StandIn;
 use domain_sessions::check::{Checker, Line};
 use domain_sessions::session::{Input, Made, Session};
 
 /// The stand-in goes first, to show that a script itself is right; the account is the library's.
-fn both(script: impl Fn(&mut Checker)) {
+pub fn both(script: impl Fn(&mut Checker)) {
     for (store, counts) in [
         (Box::new(StandIn { fault: None }) as Box<dyn Store>, false),
         (library(), true),
@@ -22,14 +23,14 @@ fn both(script: impl Fn(&mut Checker)) {
     }
 }
 
-fn made(checker: &mut Checker, sizes: Sizes) -> Line {
+pub fn made(checker: &mut Checker, sizes: Sizes) -> Line {
     let mut line = Line::new(Buffers::any(sizes.lengths(), 5), checker.model);
     line.buffers.memory.fill(0);
     done(checker, &mut line, &Call::Make);
     line
 }
 
-fn done(checker: &mut Checker, line: &mut Line, call: &Call) {
+pub fn done(checker: &mut Checker, line: &mut Line, call: &Call) {
     let reply = checker.call(line, call, FULL).unwrap_or_else(|m| fail(m));
     assert_eq!(reply.code, 0, "{call}");
 }
@@ -43,6 +44,11 @@ fn every_edge() {
             for edge in &script.lines {
                 match edge {
                     Edge::Fill(cell, byte) => line.buffers.write_cell(*cell, &[*byte; 64]),
+                    Edge::Pattern(cell, rule) => {
+                        let bytes = pattern(*rule).expect("a rule");
+                        line.buffers.write_cell(*cell, &bytes);
+                    }
+                    Edge::Byte(at, byte) => line.buffers.memory[*at] = *byte,
                     Edge::Answers(call, answer) => {
                         checker
                             .every_cut(&line, call, 3)
@@ -63,6 +69,22 @@ fn every_edge() {
                         [*byte; 64],
                         "{name}"
                     ),
+                    Edge::SeePattern(cell, rule) => assert_eq!(
+                        line.buffers.memory[64 * *cell as usize..][..64],
+                        pattern(*rule).expect("a rule"),
+                        "{name}: cell {cell}"
+                    ),
+                    Edge::Looks(handle, cell, place, rule) => {
+                        let look = Call::Look {
+                            handle: *handle,
+                            cell: *cell,
+                        };
+                        let reply = checker
+                            .call(&mut line, &look, FULL)
+                            .unwrap_or_else(|m| panic!("{name}: {}: {}", m.call, m.what));
+                        let told = (reply.place, reply.rule);
+                        assert_eq!(told, (*place, *rule), "{name}: {look}");
+                    }
                     Edge::Live(n) => {
                         let reply = checker
                             .call(&mut line, &Call::List, FULL)

@@ -4,6 +4,7 @@ mod bits;
 mod edges;
 mod faults;
 mod meddling;
+mod patterns;
 mod random;
 mod small;
 #[cfg(all(feature = "linked", target_os = "linux"))]

@@ -2,7 +2,9 @@
 //! each of them.
 
 use crate::found;
-use domain_model::{Buffers, Call, Reply, STOPPED, Store};
+use domain_model::calls::PATTERN;
+use domain_model::reply::{BY_RULE, IN_BODIES};
+use domain_model::{Add, Buffers, Call, Reply, STOPPED, Store};
 use domain_sessions::StandIn;
 use domain_sessions::run::{Plan, run};
 use std::time::Duration;
@@ -48,7 +50,7 @@ fn before<T: Copy>(buffer: &mut [T], change: impl Fn(T) -> T) {
 
 #[test]
 fn each_small_thing_is_seen() {
-    let list: [(&str, Meddle); 16] = [
+    let list: [(&str, Meddle); 21] = [
         ("one byte past memory", |b, c, _| {
             if matches!(c, Call::Restore { .. }) {
                 past(&mut b.memory, |v| v ^ 1)
@@ -80,7 +82,7 @@ fn each_small_thing_is_seen() {
             }
         }),
         ("a spare pair in a refused call", |b, _, r| {
-            let last = b.table.len() - 1;
+            let last = b.table.len().saturating_sub(1);
             if r.code == 17 {
                 flip(&mut b.table, last, |v| v ^ 1);
             }
@@ -96,13 +98,13 @@ fn each_small_thing_is_seen() {
             }
         }),
         ("a spare pair in a stopped opening", |b, c, r| {
-            let last = b.table.len() - 1;
+            let last = b.table.len().saturating_sub(1);
             if *c == Call::Open && r.code == STOPPED {
                 flip(&mut b.table, last, |v| v ^ 1);
             }
         }),
         ("a body byte in a delete", |b, c, r| {
-            let last = b.bodies.len() - 1;
+            let last = b.bodies.len().saturating_sub(1);
             if matches!(c, Call::Delete { .. }) && r.code == 0 {
                 flip(&mut b.bodies, last, |v| v ^ 1);
             }
@@ -125,6 +127,31 @@ fn each_small_thing_is_seen() {
         ("a place told by a refused look", |_, c, r| {
             if matches!(c, Call::Look { .. }) && r.code == 5 {
                 r.place = 1
+            }
+        }),
+        ("a rule told by a refused look", |_, c, r| {
+            if matches!(c, Call::Look { .. }) && r.code == 8 {
+                r.rule = 3
+            }
+        }),
+        ("a rule told beside a part of bodies", |_, _, r| {
+            if r.place == IN_BODIES {
+                r.rule = 1
+            }
+        }),
+        ("a look that tells another rule", |_, _, r| {
+            if r.place == BY_RULE {
+                r.rule ^= 1
+            }
+        }),
+        ("an offset told beside a rule", |_, _, r| {
+            if r.place == BY_RULE {
+                r.offset = 64
+            }
+        }),
+        ("a body byte in an add by a rule", |b, c, r| {
+            if matches!(c, Call::Add(Add { kind: PATTERN, .. })) && r.code == 0 {
+                flip(&mut b.bodies, 0, |v| v ^ 1);
             }
         }),
         ("a store beside an out parameter", |_, c, r| {

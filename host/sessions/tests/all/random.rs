@@ -34,6 +34,10 @@ fn the_store_and_the_model_agree() {
     assert!(
         tally.turning_advances >= 20 && tally.raising_commits >= 20 && tally.moving_commits >= 100
     );
+    assert!(
+        tally.pattern_adds >= 500 && tally.pattern_restores >= 200 && tally.pattern_looks >= 100
+    );
+    assert!(tally.pattern_advances >= 50 && tally.pattern_commits >= 50);
     assert!(tally.cuts >= 10_000 && tally.stopped_openings >= 2_000 && tally.counts >= 2_000);
 }
 

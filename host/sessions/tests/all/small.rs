@@ -4,18 +4,23 @@
 //! handles only are looked at once.
 
 use crate::{agreed, library};
+use domain_model::rules::{SCALE, ZEROS};
 use domain_model::{Buffers, Call, FULL, Holding, Kept, Model, Notebook, Sizes, Store};
 use domain_sessions::check::{Checker, Line, Mismatch};
 use domain_sessions::run::short;
 use std::collections::{BTreeSet, VecDeque};
 
-type Key = (Vec<Vec<(u32, bool, Option<u8>)>>, Vec<u8>);
+/// How a cell is kept: the kind, and the byte of a copy or the rule.
+type How = (u8, u32);
+
+type Key = (Vec<Vec<(u32, bool, How)>>, Vec<u8>);
 
 fn key(line: &Line) -> Key {
     let state = line.state().expect("a store");
     let kept = |h: &Holding| match h.kept {
-        Kept::Copy(bytes) => Some(bytes[0]),
-        Kept::ViaParent => None,
+        Kept::Copy(bytes) => (0, bytes[0].into()),
+        Kept::ViaParent => (1, 0),
+        Kept::Rule(rule) => (2, rule),
     };
     let domains = state
         .domains
@@ -58,8 +63,13 @@ fn walk(
             .flat_map(|first| (1..=sizes.m - first).map(move |count| (first, count)))
             .collect();
         for (first, count) in &ranges {
-            for (kind, label) in [(0, 0), (0, 1), (1, 0), (1, 1)] {
-                calls.push(Call::add(*first, *count, kind, label));
+            for label in [0, 1] {
+                calls.push(Call::copy(*first, *count, label));
+                calls.push(Call::via_parent(*first, *count, label));
+                // The program writes zeros, which follow a rule, or ones, which follow none.
+                calls.extend(
+                    [ZEROS, SCALE, 4].map(|rule| Call::pattern(*first, *count, rule, label)),
+                );
             }
         }
         for handle in live.iter().map(|d| d.handle).chain([0, 1000]) {
