@@ -5,10 +5,10 @@ use mathlib.Core.List.{List}
 use mathlib.Core.Path.{_≡_, ap, _∙_}
 use native.Mathlib.Omega.{arith}
 use lib.ListN.{length}
-use lib.Seq.{take-all}
 use Rattle.words.specs.Layout.{cellAt}
 use Rattle.words.specs.Cells.{cellBytes, sameCell}
 use Rattle.words.proofs.Scan.{by-bool}
+use Rattle.words.proofs.Cells.{first-cell}
 use Rattle.patterns.specs.Pattern.{pattern}
 use Rattle.patterns.proofs.Bytes.{pattern-length}
 use Rattle.table.specs.Entry.{live, word1, word2, isPattern}
@@ -18,10 +18,6 @@ use Rattle.search.specs.declared.Held.the-variants.{Nowhere, InBody, ByRule}
 use Rattle.search.proofs.Behind.{value-here}
 use Rattle.model.specs.Answer.{ask}
 use Rattle.add.specs.Walking.{Source, valueNumber}
-
--- 64 bytes are their own first cell
-pub first-cell : (v : List ℕ) → length v ≡ 64 → cellBytes v 0 ≡ v
-first-cell v q = take-all 64 v (omega arith)
 
 module _ (memory bodies : List ℕ) (e : ℕ) (t : List ℕ) (d c : ℕ) (l : d ≤ live t) (s : Source e t bodies d c) where
   abbrev src : ℕ

@@ -9,7 +9,7 @@ use borrow.Author.Tests.{eqb-true}
 use borrow.Rule.Slice.PartMut.{putMid, midOf}
 use lib.Dec.{eqb}
 use lib.ListN.{length, getD, take, drop, length-take, length-drop}
-use lib.Seq.{ext-getD, getD-take, getD-drop}
+use lib.Seq.{ext-getD, getD-take, getD-drop, take-all}
 use Rattle.words.specs.Layout.{cellAt}
 use Rattle.words.specs.Stores.{tab, Store, _≔_, stores}
 use Rattle.words.specs.Cells.{cellBytes, sameCell, copyPlan, cellPlan}
@@ -39,6 +39,10 @@ cell-kept ps l c out =
     short l j h = let z = rw length-take at h in omega arith
 
 -- a part from k to k + 64, as the code has it
+-- 64 bytes are their own first cell
+pub first-cell : (v : List ℕ) → length v ≡ 64 → cellBytes v 0 ≡ v
+first-cell v q = take-all 64 v (omega arith)
+
 pub part-from : (s : List ℕ) (k : ℕ) → take (k + 64 - k) (drop k s) ≡ take 64 (drop k s)
 part-from s k =
     let e : k + 64 - k ≡ 64 = omega arith in

@@ -5,7 +5,7 @@ use mathlib.Core.List.{List}
 use Prim.Native.Nat.{ℕ}
 use borrow.Author.Tests.{not-true, not-false}
 use Rattle.words.specs.Cells.{cellBytes, sameCell}
-use Rattle.add.proofs.Comparing.{first-cell}
+use Rattle.words.proofs.Cells.{first-cell}
 use borrow.Author.Needs.{needs}
 use Rattle.add.proofs.cell_follows.Statement.{statement}
 use Rattle.add.proofs.cell_follows.Tie as tie
