@@ -10,7 +10,7 @@ use lib.Dec.{eqb, leb}
 use lib.ListN.{length, getD, take}
 use Rattle.words.specs.Cells.{cellBytes, sameCell}
 use Rattle.words.specs.Scan.{all}
-use Rattle.words.proofs.Scan.{all-at, and-split}
+use Rattle.words.proofs.Scan.{by-bool, all-at, and-split}
 use Rattle.patterns.specs.Pattern.{maxRule, pattern}
 use Rattle.model.specs.State.{Label, readOnly, readWrite, Kind, copy, viaParent, byRule, Holding, Domain, State}
 use Rattle.model.specs.Holdings.{deeper, depthIn, named, holdingAt, isHeld, valueOr, onDepth, onInnermost, onCommit, holding, inRange, raised, added, givenValue, addTo, parentSame, ruleFits, advanced, merged}
@@ -145,10 +145,11 @@ agree-delete first n (suc (suc d)) (same e f a) = same e f (agree-delete first n
 
 -- ---- advance
 
+-- a read-write cell that did not change has memory's bytes already
 advanced-one : (bytes v w : List ℕ) (k : Kind) (a b : Label) → a ≡ b → ((j : ℕ) → j < 64 → getD v j 0 ≡ getD w j 0)
     → SameCell (advanced bytes (some (record { label = a; kind = k; value = v }))) (renewed bytes (some (record { label = b; bytes = w })))
 advanced-one bytes v w k readOnly readOnly e f = (refl, f)
-advanced-one bytes v w k readWrite readWrite e f = (refl, λ j l. refl)
+advanced-one bytes v w k readWrite readWrite e f = by-bool (sameCell v bytes) (λ y. rw y (refl, bytes-same v bytes y)) (λ y. rw y (refl, λ j l. refl))
 advanced-one bytes v w k readOnly readWrite e f = absurd (let z : _≡_ {A = ℕ} 0 1 = cc in omega arith)
 advanced-one bytes v w k readWrite readOnly e f = absurd (let z : _≡_ {A = ℕ} 0 1 = cc in omega arith)
 

@@ -15,7 +15,7 @@ use Rattle.words.proofs.Scan.{by-bool, by-le, and-split}
 use Rattle.words.proofs.Nth.{count-below}
 use Rattle.model.specs.State.{Label, readOnly, readWrite, Kind, Holding, Domain, State}
 use Rattle.model.specs.Answer.{ask}
-use Rattle.model.specs.Holdings.{holdingAt, isHeld, isWritable, heldWritable, heldReadOnly, isLive, inRange, onInnermost, holding, raised, added, givenValue, addTo, newlyHeld, relabelled, deleteChecks, advanced, writableCells}
+use Rattle.model.specs.Holdings.{holdingAt, isHeld, isWritable, heldChanged, heldReadOnly, isLive, inRange, onInnermost, holding, raised, added, givenValue, addTo, newlyHeld, relabelled, deleteChecks, advanced, changedCells}
 use Rattle.model.specs.Holdings.{advance as advanceState}
 use Rattle.model.specs.Restore.{restored, endedDomains, freedEntries, restoreWords}
 use Rattle.model.specs.Session.{Within}
@@ -95,18 +95,17 @@ delete-some m h first n s q = go (isLive h s) (leb (first + n) m) _ q
 
 -- ---- advance
 
-advanced-same : (bytes : List ℕ) (o : Option Holding) → heldWritable o ≡ false → advanced bytes o ≡ o
-advanced-same bytes none e = refl
-advanced-same bytes (some h) e = rw e
+advanced-same : (bytes : List ℕ) (o : Option Holding) → heldChanged bytes o ≡ false → advanced bytes o ≡ o
+advanced-same bytes o e = rw e
 
-pub advance-idle : (cells : ℕ) (memory : List ℕ) (s : State) → Within cells s → writableCells cells s ≡ 0 → advanceState memory s ≡ s
+pub advance-idle : (cells : ℕ) (memory : List ℕ) (s : State) → Within cells s → changedCells cells memory s ≡ 0 → advanceState memory s ≡ s
 advance-idle cells memory s w e =
-    same-domains s _ (inner-same _ (s .domains) (λ d at. same-holdings _ d (λ c. advanced-same (cellBytes memory c) (d .holds c) (ap heldWritable (at c) ∙ one c))))
+    same-domains s _ (inner-same _ (s .domains) (λ d at. same-holdings _ d (λ c. advanced-same (cellBytes memory c) (d .holds c) (ap (heldChanged (cellBytes memory c)) (at c) ∙ one c))))
   where
-    one : (c : ℕ) → heldWritable (holdingAt (s .domains) (length (s .domains)) c) ≡ false
+    one : (c : ℕ) → heldChanged (cellBytes memory c) (holdingAt (s .domains) (length (s .domains)) c) ≡ false
     one c =
-        by-le cells c (λ l. ap heldWritable (w (length (s .domains)) c l))
-        (λ l. none-counted cells (λ x. heldWritable (holdingAt (s .domains) (length (s .domains)) x)) e c l)
+        by-le cells c (λ l. ap (heldChanged (cellBytes memory c)) (w (length (s .domains)) c l))
+        (λ l. none-counted cells (λ x. heldChanged (cellBytes memory x) (holdingAt (s .domains) (length (s .domains)) x)) e c l)
 
 -- ---- restore
 

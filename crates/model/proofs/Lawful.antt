@@ -48,7 +48,7 @@ lawful room m (delete h first n) s =
     (λ q size t z. delete-sound s m t h first n z)
     (λ q none w. absurd (let one = delete-some (room .cells) h first n s q in omega arith))
 lawful room m (advance h) s =
-    by-questions (advanceChecks room h s) _ _ _ _ refl
+    by-questions (advanceChecks room m h s) _ _ _ _ refl
     (λ q size t z. advance-sound room s m t h q size z)
     (λ q none w. advance-idle (room .cells) m s w (omega arith))
 lawful room m (commit h) s =

@@ -122,10 +122,11 @@ in-use : (liveEntries 1 both ≡ 2) × (copiesInUse 1 both ≡ 1)
 unfolding count
 in-use = (refl, refl)
 
--- "B = 1, one read-write copy, advance: 17. B = 2: done."
-one-body : (advanceChecks (record { cells = 1; slots = 8; bodies = 1 }) 1 outer ≡ 17) × (advanceChecks (record { cells = 1; slots = 8; bodies = 2 }) 1 outer ≡ 0)
-unfolding count
-one-body = (refl, refl)
+-- "B = 1, one read-write copy, advance: 17. B = 2: done." It "is refused only after a write that changes it"
+one-body : (advanceChecks (record { cells = 1; slots = 8; bodies = 1 }) (filled 9) 1 outer ≡ 17) × (advanceChecks (record { cells = 1; slots = 8; bodies = 2 }) (filled 9) 1 outer ≡ 0)
+    × (advanceChecks (record { cells = 1; slots = 8; bodies = 1 }) (filled 7) 1 outer ≡ 0)
+unfolding count all sameCell
+one-body = (refl, refl, refl)
 
 -- "E = 1, cell 0 held: add cells 0 and 1 gives 16; add cell 0 is done."
 one-slot : (addChecks (record { cells = 2; slots = 1; bodies = 8 }) (filled 7 ++ filled 7) 1 0 2 0 0 1 outer ≡ 16)

@@ -108,7 +108,7 @@ delete-sound s m n h first c z =
       inv = λ x l. inv-delete x (getD m x 0) first c (namedAmong h (n .domains)) (n .domains) (z .inv x l);
     })
 
-pub advance-sound : (room : Room) (s : State) (m : List ℕ) (n : History) (h : ℕ) → advanceChecks room h s ≡ 0 → length m ≡ 64 * room .cells → Sound s m n
+pub advance-sound : (room : Room) (s : State) (m : List ℕ) (n : History) (h : ℕ) → advanceChecks room m h s ≡ 0 → length m ≡ 64 * room .cells → Sound s m n
     → Sound (advanceState m s) m (changeLine (advance h) m n)
 advance-sound room s m n h q size z =
     let asked = advance-asked (isLive h s) (isInnermost h s) (parentCovers (room .cells) s) _ q in

@@ -290,11 +290,16 @@ deleteChecks m h first n s =
 abbrev pub deleteEffect : (m h first n : ℕ) → State → Effect
 deleteEffect m h first n s = orRefuse (deleteChecks m h first n s) (change 0 (2 * n) 0 (deleteFrom (named h s) first n s))
 
--- ---- advance: "gives every read-write cell of the innermost domain memory's bytes, as a copy. Read-only cells keep theirs"
+-- ---- advance: "gives every read-write cell of the innermost domain memory's bytes, as a copy. Read-only cells keep theirs"; and "copy only cells
+-- whose memory differs from the held value; the others keep kind and body"
 
-abbrev pub advanced : List ℕ → Option Holding → Option Holding
-advanced bytes none = none
-advanced bytes (some h) = cond (isWritable (h .label)) (some (record { label = readWrite; kind = copy; value = bytes })) (some h)
+-- held read-write, and memory, which has these bytes, differs from its value
+abbrev pub heldChanged : (bytes : List ℕ) → Option Holding → Bool
+heldChanged bytes none = false
+heldChanged bytes (some h) = isWritable (h .label) && not (sameCell (h .value) bytes)
+
+abbrev pub advanced : (bytes : List ℕ) → Option Holding → Option Holding
+advanced bytes o = cond (heldChanged bytes o) (some (record { label = readWrite; kind = copy; value = bytes })) o
 
 abbrev pub advance : List ℕ → State → State
 advance memory s = record {
@@ -302,9 +307,9 @@ advance memory s = record {
   domains = onInnermost (λ d. holding (λ c. advanced (cellBytes memory c) (d .holds c)) d) (s .domains);
 }
 
--- the read-write cells of the innermost domain, of m cells
-abbrev pub writableCells : ℕ → State → ℕ
-writableCells m s = count m (λ c. heldWritable (innerHolding s c))
+-- the changed read-write cells of the innermost domain, of m cells
+abbrev pub changedCells : (m : ℕ) → List ℕ → State → ℕ
+changedCells m memory s = count m (λ c. heldChanged (cellBytes memory c) (innerHolding s c))
 
 -- 15: "Does the next domain out, if any, hold every read-write cell?"
 abbrev pub parentCovers : ℕ → State → Bool
@@ -312,16 +317,18 @@ parentCovers m s =
     isOutermost (innermost s)
     || all m (λ c. not (heldWritable (innerHolding s c)) || isHeld (outerHolding s c))
 
-abbrev pub advanceChecks : Room → (h : ℕ) → State → ℕ
-advanceChecks room h s =
+-- 17: "Question 17 counts those k cells"
+abbrev pub advanceChecks : Room → List ℕ → (h : ℕ) → State → ℕ
+advanceChecks room memory h s =
     askInnermost h s
     (ask (parentCovers (room .cells) s) 15
-    (ask (leb (copiesInUse (room .cells) s + writableCells (room .cells) s) (room .bodies)) 17 0))
+    (ask (leb (copiesInUse (room .cells) s + changedCells (room .cells) memory s) (room .bodies)) 17 0))
 
+-- where none changed nothing is stored, so that the call is done at every budget
 abbrev pub advanceEffect : Room → List ℕ → (h : ℕ) → State → Effect
 advanceEffect room memory h s =
-    orRefuse (advanceChecks room h s)
-    (change (cellSize * writableCells (room .cells) s) (2 * writableCells (room .cells) s) 0 (advance memory s))
+    orRefuse (advanceChecks room memory h s)
+    (change (cellSize * changedCells (room .cells) memory s) (2 * changedCells (room .cells) memory s) 0 (advance memory s))
 
 -- ---- commit
 
