@@ -1,0 +1,2 @@
+-- The definitions that the contracts of `values` cite.
+pub mod Values
