@@ -1,34 +1,36 @@
 -- Advance, from its stores to what it means and to what opening finds after every cut of it. The laws on stores hold for any choice of
 -- different free bodies; the call takes the lowest ones. Assumes nothing.
 use Prim.Native.Nat.{ℕ, suc, _+_, _-_, _*_, _≤_, _<_}
-use mathlib.Core.Bool.{true, not, _||_}
+use mathlib.Core.Bool.{Bool, true, cond, not, _&&_, _||_}
 use mathlib.Core.List.{List, map}
 use mathlib.Core.Option.{Option}
 use mathlib.Core.Path.{_≡_, refl, sym, ap, subst, _∙_}
 use native.Mathlib.Omega.{arith}
-use borrow.Author.Tests.{ltb-true, leb-true, leb-false}
+use borrow.Author.Tests.{eqb-true, eqb-false, ne-eqb, ltb-true, leb-true, leb-false}
 use lib.Dec.{leb, ltb, eqb}
 use lib.ListN.{length, take, length-append, length-map}
 use Rattle.words.specs.Layout.{cellsOf, bodiesOf, slotsOf, pairsAt}
 use Rattle.words.specs.Scan.{all, count}
 use Rattle.words.specs.Stores.{Store, stores}
+use Rattle.words.specs.Cells.{cellBytes}
 use Rattle.words.specs.Journal.{pending, namesOk, journal}
 use Rattle.words.proofs.Scan.{by-bool, all-ext, count-ext}
 use Rattle.words.proofs.Plans.{Each}
 use Rattle.words.proofs.Copies.{copies-length, copies-stored}
-use Rattle.table.specs.Entry.{live, parent, holdsIn}
+use Rattle.table.specs.Entry.{live, word1, writableOf, parent, findIn, holdsIn, writesIn}
 use Rattle.table.proofs.Rule.{Rule}
 use Rattle.table.proofs.Entries.{changes-few, entries-names}
 use Rattle.search.specs.Domain.{depthNamed}
 use Rattle.search.specs.Free.{copies}
 use Rattle.search.proofs.Domain.{depth-small}
+use Rattle.values.specs.Values.{unchanged}
 use Rattle.model.specs.State.{State}
 use Rattle.model.specs.Answer.{Report, refused, ended, ask, orElse, view, stepsOf, View}
 use Rattle.model.specs.Calls.{viewed, change, orRefuse}
-use Rattle.model.specs.Holdings.{named, holdingAt, isHeld, heldWritable, copiesInUse, advance, writableCells, parentCovers, advanceChecks, advanceEffect}
+use Rattle.model.specs.Holdings.{named, holdingAt, isHeld, heldWritable, copiesInUse, heldChanged, advance, changedCells, parentCovers, advanceChecks, advanceEffect}
 use Rattle.store.specs.Outcome.{Buffers, buffers, inBodies, inTable, changePlan, outcome, leaves, Call, perform, unless}
 use Rattle.store.specs.Checks.{storeCheck, lent, lentOf}
-use Rattle.store.specs.State.{stateIn, stateOf}
+use Rattle.store.specs.State.{heldIn, stateIn, stateOf}
 use Rattle.store.specs.Means.{visibleOf, orRefused, callMeans, roomOf, leftPending, pendingAfter, afterPending, Reopens}
 use Rattle.store.proofs.Checks.{ask-yes, ask-stop, ask-rest, orElse-both, orElse-go, store-lengths}
 use Rattle.store.proofs.Outcome.{refuses}
@@ -46,12 +48,20 @@ use Rattle.store.proofs.Raw.{raw-rule, raw-long, raw-state, raw-next, raw-after
 use Rattle.advance.specs.Notes.{performed}
 use Rattle.advance.proofs.Turning.{advances-cell, words-count, takes-below, takes-own, turned-rule, turned-state}
 use Rattle.advance.proofs.Choosing.{chosen}
-use Rattle.advance.proofs.Noting.{cellsCheck}
+use Rattle.advance.proofs.Noting.{cellsCheck, advances-own}
+
+-- what is held changed where the cell does: of words and of a holding
+held-changed : (e : ℕ) (t memory bodies : List ℕ) (d c : ℕ) → heldChanged (cellBytes memory c) (heldIn e t bodies d c) ≡ (writesIn e t d c && not (unchanged memory bodies e t d c))
+unfolding heldIn
+held-changed e t memory bodies d c =
+    by-bool (holdsIn e t d c)
+    (λ z. rw z (by-bool (eqb (writableOf (word1 e t (findIn e t d c))) 1) (λ y. rw y) (λ y. rw y)))
+    (λ z. rw z)
 
 -- ---- for any choice of bodies
 
 module _ (memory bodies t : List ℕ) (yes : storeCheck (lent (length memory) (length bodies) t) ≡ 0) (low : 1 ≤ live t) (body : ℕ → ℕ)
-    (choice : Choice (cellsOf (length memory)) (slotsOf (length t)) (bodiesOf (length bodies)) t body) where
+    (choice : Choice (buffers memory bodies t) body) where
   abbrev m : ℕ
   m = cellsOf (length memory)
 
@@ -61,57 +71,60 @@ module _ (memory bodies t : List ℕ) (yes : storeCheck (lent (length memory) (l
   abbrev e : ℕ
   e = slotsOf (length t)
 
-  abbrev head : List ℕ
-  head = take (pairsAt (slotsOf (length t))) t
+  -- the cells that advance
+  abbrev f : ℕ → Bool
+  f = advances (buffers memory bodies t)
 
   -- the stores of the call that takes these bodies
   abbrev bytes : List Store
-  bytes = bytesWith (cellsOf (length memory)) memory t body
+  bytes = bytesWith (buffers memory bodies t) body
 
   abbrev words : List Store
-  words = wordsWith t body
+  words = wordsWith (buffers memory bodies t) body
 
   ok : Rule m e b t
   ok = raw-rule memory bodies t yes
 
   -- the bytes spare the bodies in use
   spares : Each (Spares e t) bytes
-  spares = copies-spare e t memory (advances e t) (λ c. c) body m (choice .was-free)
+  spares = copies-spare e t memory f (λ c. c) body m (choice .was-free)
 
   pub with-spares : Each (Spares (slotsOf (length t)) (take (pairsAt (slotsOf (length t))) t)) bytes
   with-spares = front-spares e t bytes spares
 
-  pub with-bytes : length bytes ≡ 64 * count (cellsOf (length memory)) (advances (slotsOf (length t)) t)
-  with-bytes = copies-length memory (advances e t) (λ c. c) body m
+  pub with-bytes : length bytes ≡ 64 * count (cellsOf (length memory)) (advances (buffers memory bodies t))
+  with-bytes = copies-length memory f (λ c. c) body m
 
-  pub with-words : length words ≡ 2 * count (cellsOf (length memory)) (advances (slotsOf (length t)) t)
-  with-words = words-count m e b t ok body low
+  pub with-words : length words ≡ 2 * count (cellsOf (length memory)) (advances (buffers memory bodies t))
+  with-words = words-count m e b t ok f (advances-own (buffers memory bodies t)) body low
 
   with-few : length words ≤ 2 * e
-  with-few = changes-few e (changeWith e t body)
+  with-few = changes-few e (changeWith e t f body)
 
   pub with-names : namesOk (pairsAt (slotsOf (length t))) 0 words ≡ true
-  with-names = entries-names e (changeWith e t body)
+  with-names = entries-names e (changeWith e t f body)
 
   -- the new table is right
   pub with-rule : Rule (cellsOf (length memory)) (slotsOf (length t)) (bodiesOf (length bodies)) (stores words (take (pairsAt (slotsOf (length t))) t))
-  with-rule = raw-next memory bodies t yes words with-names (turned-rule m e b t ok (raw-long memory bodies t yes) body choice)
+  with-rule = raw-next memory bodies t yes words with-names (turned-rule m e b t ok (raw-long memory bodies t yes) low f (advances-own (buffers memory bodies t)) body choice)
 
   -- and stands for the model's state
   pub with-state : stateIn (slotsOf (length t)) (stores words (take (pairsAt (slotsOf (length t))) t)) (stores bytes bodies) ≡ advance memory (stateOf (buffers memory bodies t))
   with-state =
-      let f = store-lengths (length memory) (length bodies) t yes in
-      raw-after memory bodies t yes words with-names (turned-rule m e b t ok (raw-long memory bodies t yes) body choice) (stores bytes bodies)
-      ∙ turned-state m e b t ok (raw-long memory bodies t yes) body choice memory bodies (stores bytes bodies)
+      let sized = store-lengths (length memory) (length bodies) t yes in
+      raw-after memory bodies t yes words with-names (turned-rule m e b t ok (raw-long memory bodies t yes) low f (advances-own (buffers memory bodies t)) body choice) (stores bytes bodies)
+      ∙ turned-state m e b t ok (raw-long memory bodies t yes) low f (advances-own (buffers memory bodies t)) body choice memory bodies (stores bytes bodies)
       (spared e t bytes bodies spares)
       (λ c goes.
-      let small : c < m = advances-cell m e b t ok c goes in
-      let fits : body c < b = takes-below m e b t ok body choice c goes in
-      copies-stored memory (advances e t) (λ c. c) body m c bodies small goes (omega arith) (omega arith) (λ k l other q. takes-own m e b t ok body choice c k goes other q))
+      let small : c < m = advances-cell m e b t ok f (advances-own (buffers memory bodies t)) c goes in
+      let fits : body c < b = takes-below m e b t ok f (advances-own (buffers memory bodies t)) body choice c goes in
+      copies-stored memory f (λ c. c) body m c bodies small goes (omega arith) (omega arith)
+      (λ k l other q. takes-own m e b t ok f (advances-own (buffers memory bodies t)) body choice c k goes other q))
+      (λ c. sym (held-changed e t memory bodies (live t) c))
       ∙ ap (advance memory) (sym (raw-state memory bodies t yes))
 
   pub with-seen : (k : ℕ) → visibleOf (outcome (perform (changePlan (pairsAt (slotsOf (length t))) bytes words) 0) k (buffers memory bodies t))
-      ≡ viewed (change (64 * count (cellsOf (length memory)) (advances (slotsOf (length t)) t)) (2 * count (cellsOf (length memory)) (advances (slotsOf (length t)) t)) 0
+      ≡ viewed (change (64 * count (cellsOf (length memory)) (advances (buffers memory bodies t))) (2 * count (cellsOf (length memory)) (advances (buffers memory bodies t))) 0
       (advance memory (stateOf (buffers memory bodies t)))) k (stateOf (buffers memory bodies t)) memory
   with-seen k =
       change-seen memory bodies t yes bytes words with-spares (omega (arith, with-few)) with-names with-rule 0 (advance memory (stateOf (buffers memory bodies t))) with-state k
@@ -119,14 +132,14 @@ module _ (memory bodies t : List ℕ) (yes : storeCheck (lent (length memory) (l
 
   -- as many pairs are left pending as its effect says
   pub with-pending : (k : ℕ) → pending ((outcome (perform (changePlan (pairsAt (slotsOf (length t))) bytes words) 0) k (buffers memory bodies t)) .buffers .table)
-      ≡ pendingAfter (64 * count (cellsOf (length memory)) (advances (slotsOf (length t)) t)) (2 * count (cellsOf (length memory)) (advances (slotsOf (length t)) t)) k
+      ≡ pendingAfter (64 * count (cellsOf (length memory)) (advances (buffers memory bodies t))) (2 * count (cellsOf (length memory)) (advances (buffers memory bodies t))) k
   with-pending k =
       performed-pending memory bodies t yes bytes words (omega (arith, with-few)) with-names 0 k
       ∙ (λ i. pendingAfter (with-bytes i) (with-words i) k)
 
   -- ---- cuts
 
-  pub with-reopens : Reopens (perform (changePlan (pairsAt (slotsOf (length t))) (bytesWith (cellsOf (length memory)) memory t body) (wordsWith t body)) 0) (buffers memory bodies t)
+  pub with-reopens : Reopens (perform (changePlan (pairsAt (slotsOf (length t))) (bytesWith (buffers memory bodies t) body) (wordsWith (buffers memory bodies t) body)) 0) (buffers memory bodies t)
   with-reopens =
       shape-reopens _ (buffers memory bodies t) (changes-shaped (buffers memory bodies t) bytes words 0) yes
       (λ k.
@@ -136,35 +149,38 @@ module _ (memory bodies t : List ℕ) (yes : storeCheck (lent (length memory) (l
   -- "every other call at most 70E + 32"
   pub with-bound : stepsOf (length bytes) (length words) ≤ 70 * slotsOf (length t) + 32
   with-bound =
-      let many = count m (advances e t) in
+      let many = count m f in
       rw with-bytes (change-bound many (length words) e (omega (arith, with-words, with-few)) (omega (arith, with-few)))
 
 -- ---- the questions, of words and of a state
 
 -- questions 5, 6, 15 and 17
-abbrev pub asked : (memory bodies : ℕ) → List ℕ → ℕ → ℕ
-asked memory bodies t h =
-    ask (ltb 0 (depthNamed t h)) 5 (ask (eqb (depthNamed t h) (live t)) 6 (cellsCheck (cellsOf memory) (slotsOf (length t)) (bodiesOf bodies) t))
+abbrev pub asked : Buffers → ℕ → ℕ
+asked b h = ask (ltb 0 (depthNamed (b .table) h)) 5 (ask (eqb (depthNamed (b .table) h) (live (b .table))) 6 (cellsCheck b))
 
-pub check-is : (memory bodies : ℕ) (t : List ℕ) (h : ℕ) → advanceCheck (lent memory bodies t) h ≡ orElse (storeCheck (lent memory bodies t)) (asked memory bodies t h)
+pub check-is : (b : Buffers) (h : ℕ) → advanceCheck b h ≡ orElse (storeCheck (lentOf b)) (asked b h)
 unfolding advanceCheck
-check-is memory bodies t h = refl
+check-is b h = refl
 
-module _ (e : ℕ) (t bodies : List ℕ) (low : 1 ≤ live t) where
+module _ (e : ℕ) (t memory bodies : List ℕ) (low : 1 ≤ live t) where
   abbrev s : State
   s = stateIn e t bodies
 
-  writable-same : (c : ℕ) → heldWritable (holdingAt (s .domains) (length (s .domains)) c) ≡ advances e t c
-  writable-same c = ap heldWritable (inner-holding e t bodies c low) ∙ held-writable e t bodies (live t) c
+  changed-same : (c : ℕ) → heldChanged (cellBytes memory c) (holdingAt (s .domains) (length (s .domains)) c) ≡ (writesIn e t (live t) c && not (unchanged memory bodies e t (live t) c))
+  changed-same c = ap (heldChanged (cellBytes memory c)) (inner-holding e t bodies c low) ∙ held-changed e t memory bodies (live t) c
 
-  cells-same : (m : ℕ) → writableCells m s ≡ count m (advances e t)
+  cells-same : (m : ℕ) → changedCells m memory s ≡ count m (λ c. writesIn e t (live t) c && not (unchanged memory bodies e t (live t) c))
   cells-same m =
-      count-ext m (λ c. heldWritable (holdingAt (s .domains) (length (s .domains)) c)) (advances e t) (λ c l. writable-same c)
+      count-ext m (λ c. heldChanged (cellBytes memory c) (holdingAt (s .domains) (length (s .domains)) c)) (λ c. writesIn e t (live t) c && not (unchanged memory bodies e t (live t) c))
+      (λ c l. changed-same c)
+
+  writable-same : (c : ℕ) → heldWritable (holdingAt (s .domains) (length (s .domains)) c) ≡ writesIn e t (live t) c
+  writable-same c = ap heldWritable (inner-holding e t bodies c low) ∙ held-writable e t bodies (live t) c
 
   outer-same : (c : ℕ) → 1 < live t → isHeld (holdingAt (s .domains) (length (s .domains) - 1) c) ≡ holdsIn e t (parent (live t)) c
   outer-same c two = ap isHeld (outer-holding e t bodies c two) ∙ held-holds e t bodies (live t - 1) c
 
-  covers-same : (m : ℕ) → parentCovers m s ≡ (leb (live t) 1 || all m (λ c. not (advances e t c) || holdsIn e t (parent (live t)) c))
+  covers-same : (m : ℕ) → parentCovers m s ≡ (leb (live t) 1 || all m (λ c. not (writesIn e t (live t) c) || holdsIn e t (parent (live t)) c))
   covers-same m =
       ap (λ (n : ℕ). leb n 1 || all m (λ c. not (heldWritable (holdingAt (s .domains) (length (s .domains)) c)) || isHeld (holdingAt (s .domains) (length (s .domains) - 1) c))) (domains-count e t bodies)
       ∙ by-bool (leb (live t) 1)
@@ -173,11 +189,11 @@ module _ (e : ℕ) (t bodies : List ℕ) (low : 1 ≤ live t) where
       let two = leb-false (live t) 1 z in
       rw z
       (all-ext m (λ c. not (heldWritable (holdingAt (s .domains) (length (s .domains)) c)) || isHeld (holdingAt (s .domains) (length (s .domains) - 1) c))
-      (λ c. not (advances e t c) || holdsIn e t (parent (live t)) c)
+      (λ c. not (writesIn e t (live t) c) || holdsIn e t (parent (live t)) c)
       (λ c l. λ i. not (writable-same c i) || outer-same c two i)))
 
 checks-raw : (memory bodies t : List ℕ) (h : ℕ) → Rule (cellsOf (length memory)) (slotsOf (length t)) (bodiesOf (length bodies)) t
-    → advanceChecks (roomOf (buffers memory bodies t)) h (stateIn (slotsOf (length t)) t bodies) ≡ asked (length memory) (length bodies) t h
+    → advanceChecks (roomOf (buffers memory bodies t)) memory h (stateIn (slotsOf (length t)) t bodies) ≡ asked (buffers memory bodies t) h
 checks-raw memory bodies t h ok =
     let e : ℕ = slotsOf (length t) in
     let name : named h (stateIn e t bodies) ≡ depthNamed t h = state-named e t bodies h in
@@ -188,97 +204,123 @@ checks-raw memory bodies t h ok =
     let low : 1 ≤ live t = omega arith in
     let in-use : copiesInUse (cellsOf (length memory)) (stateIn e t bodies) ≡ copies e t = copies-in-use (cellsOf (length memory)) e (bodiesOf (length bodies)) t ok bodies in
     (λ i. ask (ltb 0 (name i)) 5 (ask (eqb (name i) (domains-count e t bodies i)) 6
-    (ask (covers-same e t bodies low (cellsOf (length memory)) i) 15
-    (ask (leb (in-use i + cells-same e t bodies low (cellsOf (length memory)) i) (bodiesOf (length bodies))) 17 0)))))
+    (ask (covers-same e t memory bodies low (cellsOf (length memory)) i) 15
+    (ask (leb (in-use i + cells-same e t memory bodies low (cellsOf (length memory)) i) (bodiesOf (length bodies))) 17 0)))))
     (λ z.
     ask-stop _ 5 _ (ap (ltb 0) name ∙ z) ∙ sym (ask-stop _ 5 _ z))
 
 -- ---- what passed questions tell
 
-module _ (memory bodies : ℕ) (t : List ℕ) (h : ℕ) (pass : advanceCheck (lent memory bodies t) h ≡ 0) where
-  both : (storeCheck (lent memory bodies t) ≡ 0) × (asked memory bodies t h ≡ 0)
-  both = orElse-both (storeCheck (lent memory bodies t)) (asked memory bodies t h) (sym (check-is memory bodies t h) ∙ pass)
+module _ (b : Buffers) (h : ℕ) (pass : advanceCheck b h ≡ 0) where
+  abbrev t : List ℕ
+  t = b .table
 
-  pub advance-store : storeCheck (lent memory bodies t) ≡ 0
+  both : (storeCheck (lentOf b) ≡ 0) × (asked b h ≡ 0)
+  both = orElse-both (storeCheck (lentOf b)) (asked b h) (sym (check-is b h) ∙ pass)
+
+  pub advance-store : storeCheck (lentOf b) ≡ 0
   advance-store = both .0
 
-  rest6 : ask (eqb (depthNamed t h) (live t)) 6 (cellsCheck (cellsOf memory) (slotsOf (length t)) (bodiesOf bodies) t) ≡ 0
-  rest6 = ask-rest (ltb 0 (depthNamed t h)) 5 (ask (eqb (depthNamed t h) (live t)) 6 (cellsCheck (cellsOf memory) (slotsOf (length t)) (bodiesOf bodies) t)) (omega arith) (both .1)
+  rest6 : ask (eqb (depthNamed t h) (live t)) 6 (cellsCheck b) ≡ 0
+  rest6 = ask-rest (ltb 0 (depthNamed t h)) 5 (ask (eqb (depthNamed t h) (live t)) 6 (cellsCheck b)) (omega arith) (both .1)
 
-  pub advance-low : 1 ≤ live t
+  pub advance-low : 1 ≤ live (b .table)
   advance-low =
-      let a = ltb-true 0 (depthNamed t h) (ask-yes (ltb 0 (depthNamed t h)) 5 (ask (eqb (depthNamed t h) (live t)) 6 (cellsCheck (cellsOf memory) (slotsOf (length t)) (bodiesOf bodies) t)) (omega arith) (both .1)) in
-      let b = depth-small t h in
+      let x = ltb-true 0 (depthNamed t h) (ask-yes (ltb 0 (depthNamed t h)) 5 (ask (eqb (depthNamed t h) (live t)) 6 (cellsCheck b)) (omega arith) (both .1)) in
+      let y = depth-small t h in
       omega arith
 
-  rest15 : cellsCheck (cellsOf memory) (slotsOf (length t)) (bodiesOf bodies) t ≡ 0
-  rest15 = ask-rest (eqb (depthNamed t h) (live t)) 6 (cellsCheck (cellsOf memory) (slotsOf (length t)) (bodiesOf bodies) t) (omega arith) rest6
+  rest15 : cellsCheck b ≡ 0
+  rest15 = ask-rest (eqb (depthNamed t h) (live t)) 6 (cellsCheck b) (omega arith) rest6
 
-  pub advance-room : copies (slotsOf (length t)) t + count (cellsOf memory) (advances (slotsOf (length t)) t) ≤ bodiesOf bodies
+  pub advance-room : copies (slotsOf (length (b .table))) (b .table) + count (cellsOf (length (b .memory))) (advances b) ≤ bodiesOf (length (b .bodies))
   advance-room =
       let e : ℕ = slotsOf (length t) in
-      leb-true _ _ (ask-yes (leb (copies e t + count (cellsOf memory) (advances e t)) (bodiesOf bodies)) 17 0 (omega arith)
-      (ask-rest (leb (live t) 1 || all (cellsOf memory) (λ c. not (advances e t c) || holdsIn e t (parent (live t)) c)) 15
-      (ask (leb (copies e t + count (cellsOf memory) (advances e t)) (bodiesOf bodies)) 17 0) (omega arith) rest15))
+      let m : ℕ = cellsOf (length (b .memory)) in
+      leb-true _ _ (ask-yes (leb (copies e t + count m (advances b)) (bodiesOf (length (b .bodies)))) 17 0 (omega arith)
+      (ask-rest (leb (live t) 1 || all m (λ c. not (writesIn e t (live t) c) || holdsIn e t (parent (live t)) c)) 15
+      (ask (leb (copies e t + count m (advances b)) (bodiesOf (length (b .bodies)))) 17 0) (omega arith) rest15))
 
 -- ---- the call, which takes the lowest free bodies
 
-module _ (memory bodies t : List ℕ) (h : ℕ) (pass : advanceCheck (lent (length memory) (length bodies) t) h ≡ 0) where
-  abbrev yes : storeCheck (lent (length memory) (length bodies) t) ≡ 0
-  yes = advance-store (length memory) (length bodies) t h pass
-
-  pub lowest : Choice (cellsOf (length memory)) (slotsOf (length t)) (bodiesOf (length bodies)) t (bodyFor (slotsOf (length t)) (bodiesOf (length bodies)) t)
+module _ (b : Buffers) (h : ℕ) (pass : advanceCheck b h ≡ 0) where
+  pub lowest : Choice b (bodyFor b)
   lowest =
-      chosen (cellsOf (length memory)) (slotsOf (length t)) (bodiesOf (length bodies)) t (raw-rule memory bodies t yes)
-      (advance-room (length memory) (length bodies) t h pass)
+      chosen (cellsOf (length (b .memory))) (slotsOf (length (b .table))) (bodiesOf (length (b .bodies))) (b .table)
+      (raw-rule (b .memory) (b .bodies) (b .table) (advance-store b h pass)) (advances b) (advance-room b h pass)
 
-  pub advance-bound : stepsOf (length (advanceBytes (cellsOf (length memory)) (bodiesOf (length bodies)) memory t)) (length (advanceWords (bodiesOf (length bodies)) t)) ≤ 70 * slotsOf (length t) + 32
+  pub advance-bound : stepsOf (length (advanceBytes b)) (length (advanceWords b)) ≤ 70 * slotsOf (length (b .table)) + 32
   unfolding advanceBytes advanceWords
-  advance-bound =
-      with-bound memory bodies t yes (advance-low (length memory) (length bodies) t h pass) (bodyFor (slotsOf (length t)) (bodiesOf (length bodies)) t) lowest
+  advance-bound = with-bound (b .memory) (b .bodies) (b .table) (advance-store b h pass) (advance-low b h pass) (bodyFor b) lowest
+
+  -- it takes 70 steps for each cell that advances and 2 more, and none where none does
+  pub advance-steps : (k : ℕ) → (outcome (advanceCall h b) k b) .report
+      ≡ ended (cond (eqb (count (cellsOf (length (b .memory))) (advances b)) 0) 0 (70 * count (cellsOf (length (b .memory))) (advances b) + 2)) 0 k
+  unfolding advanceCall advanceBytes advanceWords outcome
+  advance-steps k =
+      rw pass
+      (ap (λ (n : ℕ). ended n 0 k)
+      (change-length (pairsAt (slotsOf (length (b .table)))) (advanceBytes b) (advanceWords b) ∙ steps-all))
+    where
+      many : (n : ℕ) → stepsOf (64 * n) (2 * n) ≡ cond (eqb n 0) 0 (70 * n + 2)
+      many n =
+          by-bool (eqb n 0)
+          (λ z. let q = eqb-true n 0 z in rw (z, q))
+          (λ z. let ne = eqb-false n 0 z in rw (z, ne-eqb (2 * n) 0 (λ q. ne (omega (arith, q)))) (omega arith))
+
+      steps-all : stepsOf (length (advanceBytes b)) (length (advanceWords b))
+          ≡ cond (eqb (count (cellsOf (length (b .memory))) (advances b)) 0) 0 (70 * count (cellsOf (length (b .memory))) (advances b) + 2)
+      steps-all =
+          (λ i. stepsOf (with-bytes (b .memory) (b .bodies) (b .table) (advance-store b h pass) (advance-low b h pass) (bodyFor b) lowest i)
+          (with-words (b .memory) (b .bodies) (b .table) (advance-store b h pass) (advance-low b h pass) (bodyFor b) lowest i))
+          ∙ many (count (cellsOf (length (b .memory))) (advances b))
 
 -- ---- what it means
 
 -- the questions and the number of cells, of words and of a state
-module _ (memory bodies t : List ℕ) (yes : storeCheck (lent (length memory) (length bodies) t) ≡ 0) (h : ℕ) where
-  same-checks : asked (length memory) (length bodies) t h ≡ advanceChecks (roomOf (buffers memory bodies t)) h (stateOf (buffers memory bodies t))
-  same-checks = sym (ap (advanceChecks (roomOf (buffers memory bodies t)) h) (raw-state memory bodies t yes) ∙ checks-raw memory bodies t h (raw-rule memory bodies t yes))
+module _ (b : Buffers) (yes : storeCheck (lentOf b) ≡ 0) (h : ℕ) where
+  same-checks : asked b h ≡ advanceChecks (roomOf b) (b .memory) h (stateOf b)
+  same-checks =
+      sym (ap (advanceChecks (roomOf b) (b .memory) h) (raw-state (b .memory) (b .bodies) (b .table) yes)
+      ∙ checks-raw (b .memory) (b .bodies) (b .table) h (raw-rule (b .memory) (b .bodies) (b .table) yes))
 
-  same-cells : 1 ≤ live t → count (cellsOf (length memory)) (advances (slotsOf (length t)) t) ≡ writableCells (cellsOf (length memory)) (stateOf (buffers memory bodies t))
+  same-cells : 1 ≤ live (b .table) → count (cellsOf (length (b .memory))) (advances b) ≡ changedCells (cellsOf (length (b .memory))) (b .memory) (stateOf b)
   same-cells low =
-      sym (ap (writableCells (cellsOf (length memory))) (raw-state memory bodies t yes) ∙ cells-same (slotsOf (length t)) t bodies low (cellsOf (length memory)))
+      sym (ap (changedCells (cellsOf (length (b .memory))) (b .memory)) (raw-state (b .memory) (b .bodies) (b .table) yes)
+      ∙ cells-same (slotsOf (length (b .table))) (b .table) (b .memory) (b .bodies) low (cellsOf (length (b .memory))))
 
 -- ---- the call made with any choice of bodies
 
 module _ (h : ℕ) (b : Buffers) (body : ℕ → ℕ) (may : MayTake h b body) where
   abbrev plan-with : Call
-  plan-with =
-      perform (changePlan (pairsAt (slotsOf (length (b .table)))) (bytesWith (cellsOf (length (b .memory))) (b .memory) (b .table) body) (wordsWith (b .table) body)) 0
+  plan-with = perform (changePlan (pairsAt (slotsOf (length (b .table)))) (bytesWith b body) (wordsWith b body)) 0
+
+  abbrev cells : ℕ
+  cells = changedCells (cellsOf (length (b .memory))) (b .memory) (stateOf b)
 
   abbrev goal : (words-say state-says k : ℕ) → Type 0
   goal q r k =
       visibleOf (outcome (unless q plan-with) k b)
-      ≡ viewed (orRefuse r (change (64 * writableCells (cellsOf (length (b .memory))) (stateOf b)) (2 * writableCells (cellsOf (length (b .memory))) (stateOf b)) 0 (advance (b .memory) (stateOf b)))) k (stateOf b) (b .memory)
+      ≡ viewed (orRefuse r (change (64 * cells) (2 * cells) 0 (advance (b .memory) (stateOf b)))) k (stateOf b) (b .memory)
 
   -- what is seen of it, at every budget, is what advance means
   pub advance-with-means : (k : ℕ) → visibleOf (outcome (advanceWith body h b) k b) ≡ advanceMeans h k b
   unfolding advanceWith callMeans advanceCheck outcome
   advance-with-means k =
-      by-check (λ q. visibleOf (outcome (unless (orElse q (asked (length (b .memory)) (length (b .bodies)) (b .table) h)) plan-with) k b)
+      by-check (λ q. visibleOf (outcome (unless (orElse q (asked b h)) plan-with) k b)
       ≡ orRefused q b (viewed (advanceEffect (roomOf b) (b .memory) h (stateOf b)) k (stateOf b) (b .memory)))
       (storeCheck (lentOf b))
       (λ n e. refl)
       (λ yes.
       let stands = store-standing (b .memory) (b .bodies) (b .table) yes in
-      subst (λ (r : ℕ). goal (asked (length (b .memory)) (length (b .bodies)) (b .table) h) r k) (same-checks (b .memory) (b .bodies) (b .table) yes h)
-      (by-check (λ q. goal q q k) (asked (length (b .memory)) (length (b .bodies)) (b .table) h)
+      subst (λ (r : ℕ). goal (asked b h) r k) (same-checks b yes h)
+      (by-check (λ q. goal q q k) (asked b h)
       (λ n e. ap (λ (s : Option State). view (refused (suc n)) s (b .memory)) stands)
       (λ e.
-      let pass : advanceCheck (lentOf b) h ≡ 0 = rw yes e in
-      let low = advance-low (length (b .memory)) (length (b .bodies)) (b .table) h pass in
+      let pass : advanceCheck b h ≡ 0 = rw yes e in
+      let low = advance-low b h pass in
       with-seen (b .memory) (b .bodies) (b .table) yes low body (may pass) k
-      ∙ ap (λ (x : ℕ). viewed (change (64 * x) (2 * x) 0 (advance (b .memory) (stateOf b))) k (stateOf b) (b .memory))
-      (same-cells (b .memory) (b .bodies) (b .table) yes h low))))
+      ∙ ap (λ (x : ℕ). viewed (change (64 * x) (2 * x) 0 (advance (b .memory) (stateOf b))) k (stateOf b) (b .memory)) (same-cells b yes h low))))
 
   module _ (good : storeCheck (lentOf b) ≡ 0) where
     -- the pairs that it leaves pending
@@ -286,28 +328,27 @@ module _ (h : ℕ) (b : Buffers) (body : ℕ → ℕ) (may : MayTake h b body) w
     unfolding advanceWith
     advance-with-pending k =
         call-pending k b good _ _ _ _
-        (check-is (length (b .memory)) (length (b .bodies)) (b .table) h ∙ orElse-go _ _ good ∙ same-checks (b .memory) (b .bodies) (b .table) good h)
+        (check-is b h ∙ orElse-go _ _ good ∙ same-checks b good h)
         (λ q.
-        let low = advance-low (length (b .memory)) (length (b .bodies)) (b .table) h q in
-        with-pending (b .memory) (b .bodies) (b .table) good low body (may q) k
-        ∙ ap (λ (x : ℕ). pendingAfter (64 * x) (2 * x) k) (same-cells (b .memory) (b .bodies) (b .table) good h low))
+        let low = advance-low b h q in
+        with-pending (b .memory) (b .bodies) (b .table) good low body (may q) k ∙ ap (λ (x : ℕ). pendingAfter (64 * x) (2 * x) k) (same-cells b good h low))
 
     -- and what opening finds after every cut of it
     pub advance-with-reopens : Reopens (advanceWith body h b) b
     unfolding advanceWith
     advance-with-reopens =
-        unless-reopens b good (advanceCheck (lentOf b) h) plan-with
-        (λ q. with-reopens (b .memory) (b .bodies) (b .table) good (advance-low (length (b .memory)) (length (b .bodies)) (b .table) h q) body (may q))
+        unless-reopens b good (advanceCheck b h) plan-with
+        (λ q. with-reopens (b .memory) (b .bodies) (b .table) good (advance-low b h q) body (may q))
 
 -- ---- the contract's call, which takes the lowest free bodies
 
-pub advance-is : (h : ℕ) (b : Buffers) → advanceCall h b ≡ advanceWith (bodyFor (slotsOf (length (b .table))) (bodiesOf (length (b .bodies))) (b .table)) h b
+pub advance-is : (h : ℕ) (b : Buffers) → advanceCall h b ≡ advanceWith (bodyFor b) h b
 unfolding advanceCall advanceWith advanceBytes advanceWords
 advance-is h b = refl
 
 -- they were free before the call, and differ
-pub advance-takes : (h : ℕ) (b : Buffers) → MayTake h b (bodyFor (slotsOf (length (b .table))) (bodiesOf (length (b .bodies))) (b .table))
-advance-takes h b pass = lowest (b .memory) (b .bodies) (b .table) h pass
+pub advance-takes : (h : ℕ) (b : Buffers) → MayTake h b (bodyFor b)
+advance-takes h b pass = lowest b h pass
 
 pub advance-means : (h k : ℕ) (b : Buffers) → visibleOf (outcome (advanceCall h b) k b) ≡ advanceMeans h k b
 advance-means h k b = ap (λ (c : Call). visibleOf (outcome c k b)) (advance-is h b) ∙ advance-with-means h b _ (advance-takes h b) k
@@ -319,25 +360,25 @@ advance-pending h k b good = ap (λ (c : Call). leftPending (outcome c k b)) (ad
 -- ---- what the code cites
 
 module _ (m b t : List ℕ) (h k : ℕ) where
-  pub advance-refused : (q : ℕ) → q ≡ advanceCheck (lent (length m) (length b) t) h → (q ≡ 0 → ⊥) → leaves (refused q) (buffers m b t) ≡ outcome (advanceCall h (buffers m b t)) k (buffers m b t)
+  pub advance-refused : (q : ℕ) → q ≡ advanceCheck (buffers m b t) h → (q ≡ 0 → ⊥) → leaves (refused q) (buffers m b t) ≡ outcome (advanceCall h (buffers m b t)) k (buffers m b t)
   unfolding advanceCall
-  advance-refused q e stops = refuses q (advanceCheck (lent (length m) (length b) t) h) _ k (buffers m b t) e stops
+  advance-refused q e stops = refuses q (advanceCheck (buffers m b t) h) _ k (buffers m b t) e stops
 
   -- where no question refuses it, the call is carried out
-  pub advance-goes : advanceCheck (lent (length m) (length b) t) h ≡ 0 → outcome (performed (buffers m b t)) k (buffers m b t) ≡ outcome (advanceCall h (buffers m b t)) k (buffers m b t)
+  pub advance-goes : advanceCheck (buffers m b t) h ≡ 0 → outcome (performed (buffers m b t)) k (buffers m b t) ≡ outcome (advanceCall h (buffers m b t)) k (buffers m b t)
   unfolding advanceCall
   advance-goes pass = rw pass
 
 module _ (m b t : List ℕ) (k : ℕ) where
   abbrev bytes-all : List Store
-  bytes-all = advanceBytes (cellsOf (length m)) (bodiesOf (length b)) m t
+  bytes-all = advanceBytes (buffers m b t)
 
   abbrev words-all : List Store
-  words-all = advanceWords (bodiesOf (length b)) t
+  words-all = advanceWords (buffers m b t)
 
   pub advance-performed : (bytes steps : ℕ) (b′ t′ : List ℕ) (r : Report)
-      → bytes ≡ length (advanceBytes (cellsOf (length m)) (bodiesOf (length b)) m t) → b′ ≡ stores (take k (advanceBytes (cellsOf (length m)) (bodiesOf (length b)) m t)) b
-      → steps ≡ length (journal (pairsAt (slotsOf (length t))) (advanceWords (bodiesOf (length b)) t)) → t′ ≡ stores (take (k - bytes) (journal (pairsAt (slotsOf (length t))) (advanceWords (bodiesOf (length b)) t))) t
+      → bytes ≡ length (advanceBytes (buffers m b t)) → b′ ≡ stores (take k (advanceBytes (buffers m b t))) b
+      → steps ≡ length (journal (pairsAt (slotsOf (length t))) (advanceWords (buffers m b t))) → t′ ≡ stores (take (k - bytes) (journal (pairsAt (slotsOf (length t))) (advanceWords (buffers m b t)))) t
       → r ≡ ended (bytes + steps) 0 k
       → leaves r (buffers m b′ t′) ≡ outcome (performed (buffers m b t)) k (buffers m b t)
   advance-performed bytes steps b′ t′ r x p y q e =

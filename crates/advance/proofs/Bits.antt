@@ -21,7 +21,6 @@ use Rattle.table.specs.Marks.{Blank}
 use Rattle.table.proofs.Marks.{split}
 use Rattle.changes.specs.Staged.{bitAt, isSet, Inside}
 use Rattle.changes.proofs.Bits.{bit-none, bit-kept, set-at, more-here, more-other}
-use Rattle.advance.specs.Advance.{turns}
 use Rattle.advance.specs.Notes.{NoBits, markTurning, TurnedBits, Ends}
 
 -- ---- the bits of one number, counted
@@ -122,13 +121,13 @@ module _ (groups : List ℕ) where
 
 -- ---- the pass over the entries
 
-module _ (n w : ℕ) (groups : List ℕ) (fits : groupOf (cellOf w) < length groups) where
+module _ (goes : Bool) (w : ℕ) (groups : List ℕ) (fits : groupOf (cellOf w) < length groups) where
   abbrev own : ℕ
   own = getD groups (groupOf (cellOf w)) 0
 
-  marks-after : (c : ℕ) → isSet (markTurning n w (groupOf (cellOf w)) groups) c ≡ (isSet groups c || (turns n w && eqb c (cellOf w)))
+  marks-after : (c : ℕ) → isSet (markTurning goes w (groupOf (cellOf w)) groups) c ≡ (isSet groups c || (goes && eqb c (cellOf w)))
   marks-after c =
-      by-bool (turns n w)
+      by-bool goes
       (λ y. rw y
       (by-bool (eqb c (cellOf w))
       (λ z. rw (z, eqb-true c (cellOf w) z, more-here groups (groupOf (cellOf w)) own (cellOf w) fits refl) (or-true (isSet groups (cellOf w))))
@@ -151,24 +150,24 @@ or-fails : (x y : Bool) → (x || y) ≡ false → (x ≡ false) × (y ≡ false
 or-fails true y h = absurd (true≢ refl h)
 or-fails false y h = (refl, h)
 
-module _ (e : ℕ) (t : List ℕ) (n : ℕ) where
-  pub turned-none : (groups : List ℕ) → Blank groups → TurnedBits e t n 0 groups
+module _ (e : ℕ) (t : List ℕ) (goes : ℕ → Bool) where
+  pub turned-none : (groups : List ℕ) → Blank groups → TurnedBits e t goes 0 groups
   turned-none groups blank =
       record {
         clear = λ c h j l. absurd (not-suc-le-zero l);
         found = λ c h. absurd (group-some groups c h (blank (groupOf c)));
       }
 
-  pub turned-more : (k : ℕ) (groups : List ℕ) → groupOf (cellOf (word1 e t k)) < length groups → TurnedBits e t n k groups → TurnedBits e t n (k + 1) (markTurning n (word1 e t k) (groupOf (cellOf (word1 e t k))) groups)
+  pub turned-more : (k : ℕ) (groups : List ℕ) → groupOf (cellOf (word1 e t k)) < length groups → TurnedBits e t goes k groups → TurnedBits e t goes (k + 1) (markTurning (goes k) (word1 e t k) (groupOf (cellOf (word1 e t k))) groups)
   turned-more k groups fits m =
       record {
         clear = λ c h j l u q.
-            let f = or-fails _ _ (sym (marks-after n (word1 e t k) groups fits c) ∙ h) in
+            let f = or-fails _ _ (sym (marks-after (goes k) (word1 e t k) groups fits c) ∙ h) in
             split k j l
-            (λ p. true≢ (and-join _ _ (subst (λ (x : ℕ). turns n (word1 e t x) ≡ true) p u) (eq-eqb _ _ (sym q ∙ ap (λ (x : ℕ). cellOf (word1 e t x)) p))) (f .1))
+            (λ p. true≢ (and-join _ _ (subst (λ (x : ℕ). goes x ≡ true) p u) (eq-eqb _ _ (sym q ∙ ap (λ (x : ℕ). cellOf (word1 e t x)) p))) (f .1))
             (λ p. m .clear c (f .0) j p u q);
         found = λ c h.
-            or-cases (isSet groups c) (turns n (word1 e t k) && eqb c (cellOf (word1 e t k))) (sym (marks-after n (word1 e t k) groups fits c) ∙ h)
+            or-cases (isSet groups c) (goes k && eqb c (cellOf (word1 e t k))) (sym (marks-after (goes k) (word1 e t k) groups fits c) ∙ h)
             (λ p. let f = m .found c p in (f .0, omega (arith, f .1), f .2, f .3))
-            (λ p. let s = and-split (turns n (word1 e t k)) (eqb c (cellOf (word1 e t k))) p in (k, omega arith, s .0, sym (eqb-true _ _ (s .1))));
+            (λ p. let s = and-split (goes k) (eqb c (cellOf (word1 e t k))) p in (k, omega arith, s .0, sym (eqb-true _ _ (s .1))));
       }

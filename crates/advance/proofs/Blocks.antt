@@ -1,7 +1,7 @@
 -- Numbers that stand at the blocks of the marks, seen in the order of the groups of cells: what a store at the block of one group does to those
 -- of all. By the directory's rule no block belongs to two groups. Assumes nothing.
 use Prim.Native.Nat.{ℕ, _+_, _/_, _%_, _^_, _≤_, _<_}
-use mathlib.Core.Bool.{true}
+use mathlib.Core.Bool.{Bool, true}
 use mathlib.Core.List.{List}
 use mathlib.Core.Path.{_≡_, refl, sym, ap, _∙_}
 use native.Mathlib.Omega.{arith}
@@ -12,9 +12,9 @@ use lib.ListN.{length, getD, set, length-set, List·getD-eq-default}
 use lib.Seq.{getD-set-same, getD-set-other, set-getD, ext-getD}
 use Rattle.words.specs.Layout.{maxCells, groupAt, groupOf, inGroup}
 use Rattle.words.specs.Scan.{count}
-use Rattle.words.proofs.Scan.{by-bool, by-le, and-split, is-true, true≢}
+use Rattle.words.proofs.Scan.{by-bool, by-le, is-true, true≢}
 use Rattle.words.proofs.Plans.{length-tab, getD-tab}
-use Rattle.table.specs.Entry.{word1, depthOf, writableOf, cellOf}
+use Rattle.table.specs.Entry.{word1, depthOf, cellOf}
 use Rattle.marks.specs.Blocks.{blockOf, blockAt, maxGroups, markOf, Kept}
 use Rattle.table.specs.Marks.{Blank, Marked, cellIn, has}
 use Rattle.marks.proofs.Blocks.{marked-own}
@@ -22,7 +22,6 @@ use Rattle.marks.proofs.Digits.{has-none}
 use Rattle.table.proofs.Marks.{split}
 use Rattle.changes.specs.Staged.{withBit, isSet}
 use Rattle.changes.proofs.Bits.{bit-kept}
-use Rattle.advance.specs.Advance.{turns}
 use Rattle.advance.specs.Notes.{NoBits, byGroup, BlockBits, markTurning, Ends}
 use Rattle.advance.proofs.Bits.{count-next, group-some, group-known, ends-rank}
 
@@ -78,31 +77,30 @@ module _ (seen : List ℕ) (kept : Kept seen) where
 
   -- ---- the pass over the entries
 
-  module _ (n w : ℕ) (bits : List ℕ) (own : turns n w ≡ true → 1 ≤ blockOf seen (groupOf (cellOf w))) where
+  module _ (goes : Bool) (w : ℕ) (bits : List ℕ) (own : goes ≡ true → 1 ≤ blockOf seen (groupOf (cellOf w))) where
     abbrev at : ℕ
     at = blockOf seen (groupOf (cellOf w))
 
     pub by-turning : blockOf seen (groupOf (cellOf w)) < length bits
-        → byGroup seen (markTurning n w (blockOf seen (groupOf (cellOf w))) bits) ≡ markTurning n w (groupOf (cellOf w)) (byGroup seen bits)
+        → byGroup seen (markTurning goes w (blockOf seen (groupOf (cellOf w))) bits) ≡ markTurning goes w (groupOf (cellOf w)) (byGroup seen bits)
     by-turning fits =
-        by-bool (turns n w)
+        by-bool goes
         (λ y.
-        by-set bits (groupOf (cellOf w)) (withBit (turns n w) (inGroup (cellOf w)) (getD bits at 0)) (omega arith) fits (own y)
-        ∙ ap (λ (x : ℕ). set (byGroup seen bits) (groupOf (cellOf w)) (withBit (turns n w) (inGroup (cellOf w)) x)) (sym (by-at seen bits (groupOf (cellOf w)) (omega arith))))
+        by-set bits (groupOf (cellOf w)) (withBit goes (inGroup (cellOf w)) (getD bits at 0)) (omega arith) fits (own y)
+        ∙ ap (λ (x : ℕ). set (byGroup seen bits) (groupOf (cellOf w)) (withBit goes (inGroup (cellOf w)) x)) (sym (by-at seen bits (groupOf (cellOf w)) (omega arith))))
         (λ y.
         rw (y, bit-kept (getD bits at 0) (inGroup (cellOf w)), set-getD bits at 0, bit-kept (getD (byGroup seen bits) (groupOf (cellOf w)) 0) (inGroup (cellOf w)), set-getD (byGroup seen bits) (groupOf (cellOf w)) 0))
 
     -- block 0 gets no bit
-    pub front-turning : getD bits 0 0 ≡ 0 → getD (markTurning n w (blockOf seen (groupOf (cellOf w))) bits) 0 0 ≡ 0
+    pub front-turning : getD bits 0 0 ≡ 0 → getD (markTurning goes w (blockOf seen (groupOf (cellOf w))) bits) 0 0 ≡ 0
     front-turning none =
-        by-bool (turns n w)
-        (λ y. getD-set-other bits at 0 (withBit (turns n w) (inGroup (cellOf w)) (getD bits at 0)) 0 (λ q. let low = own y in omega arith) ∙ none)
+        by-bool goes
+        (λ y. getD-set-other bits at 0 (withBit goes (inGroup (cellOf w)) (getD bits at 0)) 0 (λ q. let low = own y in omega arith) ∙ none)
         (λ y. rw (y, bit-kept (getD bits at 0) (inGroup (cellOf w)), set-getD bits at 0) none)
 
-  -- the cell of an entry that advances is marked, so that its group has a block
-  pub turning-own : (e : ℕ) (t : List ℕ) → Marked e t e seen → (n i : ℕ) → 1 ≤ n → i < e → turns n (word1 e t i) ≡ true → 1 ≤ blockOf seen (groupOf (cellIn e t i))
-  turning-own e t marked n i low l goes =
-      let depth : depthOf (word1 e t i) ≡ n = eqb-true _ _ (and-split (eqb (depthOf (word1 e t i)) n) (eqb (writableOf (word1 e t i)) 1) goes .0) in
+  -- the cell of an entry of a live domain is marked, so that its group has a block
+  pub turning-own : (e : ℕ) (t : List ℕ) → Marked e t e seen → (n i : ℕ) → 1 ≤ n → i < e → depthOf (word1 e t i) ≡ n → 1 ≤ blockOf seen (groupOf (cellIn e t i))
+  turning-own e t marked n i low l depth =
       let there = is-true (has n (markOf seen (cellIn e t i))) (λ z. marked .clear n (cellIn e t i) low z i l depth refl) in
       marked-own seen kept (cellIn e t i) (omega arith)
       (by-bool (eqb (markOf seen (cellIn e t i)) 0)

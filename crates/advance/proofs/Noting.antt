@@ -1,188 +1,180 @@
 -- Laws of the questions asked of the entries, and of the list by which the code settles which body each cell gets. Assumes nothing.
 use Prim.Native.Nat.{ℕ, _+_, _≤_, _<_}
-use mathlib.Core.Bool.{Bool, true, false, cond, not, _||_}
+use mathlib.Core.Bool.{Bool, true, false, cond, not, _&&_, _||_}
 use mathlib.Core.List.{List, []}
 use mathlib.Core.Path.{_≡_, refl, sym, ap, subst, _∙_}
 use native.Mathlib.Omega.{arith}
-use borrow.Author.Tests.{eq-eqb, leb-false, lt-ltb}
+use borrow.Author.Tests.{eqb-true, leb-false, lt-ltb}
 use lib.Dec.{leb, ltb, eqb}
 use lib.ListN.{length, getD}
-use Rattle.words.specs.Layout.{maxCells, slotsOf}
+use Rattle.words.specs.Layout.{maxCells, cellsOf, bodiesOf, slotsOf}
 use Rattle.words.specs.Scan.{all, count, nth}
 use Rattle.words.specs.Stores.{gather}
 use Rattle.words.specs.Cells.{cellPlan}
-use Rattle.words.proofs.Scan.{by-bool, by-le, is-false, is-true, true≢, and-split, and-join, all-at, all-make, all-ext, all-stop, count-ext, count-le, count-stop}
+use Rattle.words.proofs.Scan.{by-bool, by-le, is-false, is-true, true≢, and-split, all-at, all-make, all-ext, all-stop, count-ext, count-le, count-stop}
 use Rattle.words.proofs.Gather.{gather-ext}
 use Rattle.words.proofs.Nth.{count-below, nth-holds, nth-rank, nth-ext}
-use Rattle.table.specs.Entry.{live, word1, word2, depthOf, writableOf, cellOf, parent, findIn, holdsIn, ownsBody}
+use Rattle.table.specs.Entry.{live, word1, word2, depthOf, writableOf, cellOf, innermost, parent, findIn, holdsIn, writesIn}
 use Rattle.table.specs.Marks.{Marks, Marked, FreeRun, EndsAt, IsCopy, cellIn, has, markAt}
-use Rattle.table.proofs.Entry.{find-hit, holds-found}
+use Rattle.table.proofs.Entry.{holds-true}
 use Rattle.table.proofs.Rule.{Rule}
-use Rattle.table.proofs.Single.{only-one}
+use Rattle.table.proofs.Single.{find-self}
 use Rattle.table.proofs.Marks.{marked-holds}
-use Rattle.search.specs.Free.{isCopy, bodyFree, copies, lowestFree, unmarked}
-use Rattle.search.proofs.Counts.{count-front, count-entries}
+use Rattle.search.specs.Free.{bodyFree, copies, lowestFree, unmarked}
 use Rattle.search.proofs.Free.{unmarked-free}
+use Rattle.values.specs.Values.{unchanged}
 use Rattle.changes.specs.Staged.{isSet, Inside}
 use Rattle.model.specs.Answer.{ask}
+use Rattle.store.specs.Outcome.{Buffers, buffers}
 use Rattle.advance.specs.Advance.{advances, bodyFor, turns, turnsAt, changeWith, advanceBytes}
-use Rattle.advance.specs.Notes.{entriesCheck, TurnedBits, OwnBits, ListedSlots, rankOf, InOrder, changeTo}
-use Rattle.advance.proofs.Turning.{advances-of, advances-cell}
+use Rattle.advance.specs.Notes.{writes, entryAdvances, entriesCheck, TurnedBits, ListedSlots, rankOf, InOrder, changeTo}
+use Rattle.advance.proofs.Turning.{entry-of, advances-of, advances-cell, turning-count}
 use Rattle.advance.proofs.Choosing.{enough}
 use Rattle.advance.proofs.Listing.{gather-listed}
 
 -- ---- free entries, at which no pass need look
 
 module _ (e : ℕ) (t : List ℕ) (top : ℕ) (within : top ≤ e) (free : FreeRun e t top e) where
-  none-turns : (n : ℕ) → turns n 0 ≡ false
-  none-turns n = is-false (turns n 0) (λ y. true≢ (and-split (eqb (depthOf 0) n) (eqb (writableOf 0) 1) y .1) refl)
+  free-read-only : (n : ℕ) → writes n 0 ≡ false
+  free-read-only n = is-false (writes n 0) (λ y. true≢ (and-split (eqb (depthOf 0) n) (eqb (writableOf 0) 1) y .1) refl)
 
-  free-stays : (n k : ℕ) → top ≤ k → k < e → turns n (word1 e t k) ≡ false
-  free-stays n k l h = ap (turns n) (free k l h .0) ∙ none-turns n
+  free-writes : (n k : ℕ) → top ≤ k → k < e → writes n (word1 e t k) ≡ false
+  free-writes n k l h = ap (writes n) (free k l h .0) ∙ free-read-only n
 
-  -- so an entry that advances is in front of them
-  pub turns-front : (n i : ℕ) → i < e → turns n (word1 e t i) ≡ true → i < top
-  turns-front n i l y = by-le top i (λ far. absurd (true≢ y (free-stays n i far l))) (λ near. near)
+  -- none of them advances
+  module _ (memory bodies : List ℕ) (n : ℕ) where
+    free-stays : (k : ℕ) → top ≤ k → k < e → entryAdvances memory bodies e t n k ≡ false
+    free-stays k l h = rw (free-writes n k l h)
 
-  pub turning-front : (n : ℕ) → count top (λ i. turns n (word1 e t i)) ≡ count e (λ i. turns n (word1 e t i))
-  turning-front n = count-front e t top within free (turns n) (none-turns n)
+    pub advancing-front : count top (entryAdvances memory bodies e t n) ≡ count e (entryAdvances memory bodies e t n)
+    advancing-front = sym (count-stop e top (entryAdvances memory bodies e t n) within free-stays)
 
-  pub copies-front : count top (isCopy e t) ≡ copies e t
-  unfolding copies
-  copies-front = count-front e t top within free ownsBody refl
+    pub turned-front : (groups : List ℕ) → TurnedBits e t (entryAdvances memory bodies e t n) top groups → TurnedBits e t (entryAdvances memory bodies e t n) e groups
+    turned-front groups m =
+        record {
+          clear = λ c h j l u q. m .clear c h j (by-le top j (λ far. absurd (true≢ u (free-stays j far l))) (λ near. near)) u q;
+          found = λ c h. let f = m .found c h in (f .0, omega (arith, f .1), f .2, f .3);
+        }
 
-  pub covered-front : (n : ℕ) (P : ℕ → Bool) → all top (λ i. not (turns n (word1 e t i)) || P (word1 e t i)) ≡ all e (λ i. not (turns n (word1 e t i)) || P (word1 e t i))
+  pub covered-front : (n : ℕ) (P : ℕ → Bool) → all top (λ i. not (writes n (word1 e t i)) || P (word1 e t i)) ≡ all e (λ i. not (writes n (word1 e t i)) || P (word1 e t i))
   covered-front n P =
-      all-stop e top (λ i. not (turns n (word1 e t i)) || P (word1 e t i)) within
-      (λ k l h. ap (λ (b : Bool). not b || P (word1 e t k)) (free-stays n k l h))
+      all-stop e top (λ i. not (writes n (word1 e t i)) || P (word1 e t i)) within
+      (λ k l h. ap (λ (b : Bool). not b || P (word1 e t k)) (free-writes n k l h))
 
-  pub turned-front : (n : ℕ) (groups : List ℕ) → TurnedBits e t n top groups → TurnedBits e t n e groups
-  turned-front n groups m =
-      record {
-        clear = λ c h j l u q. m .clear c h j (turns-front n j l u) u q;
-        found = λ c h. let f = m .found c h in (f .0, omega (arith, f .1), f .2, f .3);
-      }
+  -- an entry that turns is in front of them
+  module _ (n : ℕ) (low : 1 ≤ n) (f : ℕ → Bool) where
+    pub turns-front : (i : ℕ) → i < e → turns n f (word1 e t i) ≡ true → i < top
+    turns-front i l y =
+        by-le top i
+        (λ far.
+        let depth : depthOf (word1 e t i) ≡ n = eqb-true _ _ (and-split (eqb (depthOf (word1 e t i)) n) (f (cellOf (word1 e t i))) y .0) in
+        absurd (omega (arith, depth, free i far l .0, low)))
+        (λ near. near)
 
-  pub listed-front : (n : ℕ) (f : ℕ → Bool) (places : List ℕ) → ListedSlots e t n f top places → ListedSlots e t n f e places
-  listed-front n f places old =
-      record { place = λ i l z. old .place i (turns-front n i l z) z }
+    pub turning-few : count e (λ i. turns n f (word1 e t i)) ≤ top
+    turning-few =
+        omega (
+          arith,
+          count-stop e top (λ i. turns n f (word1 e t i)) within (λ k l h. is-false (turns n f (word1 e t k)) (λ y. let near = turns-front k h y in omega arith)),
+          count-le top (λ i. turns n f (word1 e t i)),
+        )
+
+    pub listed-front : (places : List ℕ) → ListedSlots e t n f top places → ListedSlots e t n f e places
+    listed-front places old = record { place = λ i l z. old .place i (turns-front i l z) z }
 
 -- ---- the questions, asked of the entries
 
--- questions 15 and 17, for m cells, e entry slots and b bodies
-abbrev pub cellsCheck : (m e b : ℕ) → List ℕ → ℕ
-cellsCheck m e b t =
-    ask (leb (live t) 1 || all m (λ c. not (advances e t c) || holdsIn e t (parent (live t)) c)) 15
-    (ask (leb (copies e t + count m (advances e t)) b) 17 0)
+-- questions 15 and 17, of the cells
+abbrev pub cellsCheck : Buffers → ℕ
+cellsCheck b =
+    let t = b .table in
+    let e = slotsOf (length t) in
+    ask (leb (live t) 1 || all (cellsOf (length (b .memory))) (λ c. not (writesIn e t (live t) c) || holdsIn e t (parent (live t)) c)) 15
+    (ask (leb (copies e t + count (cellsOf (length (b .memory))) (advances b)) (bodiesOf (length (b .bodies)))) 17 0)
 
 -- question 15, told by the marks of all entries
 pub covers : (e : ℕ) (t seen : List ℕ) (n : ℕ) → Marked e t e seen
-    → (leb n 1 || all e (λ i. not (turns n (word1 e t i)) || has (parent n) (markAt seen (word1 e t i)))) ≡ (leb n 1 || all e (λ i. not (turns n (word1 e t i)) || holdsIn e t (parent n) (cellOf (word1 e t i))))
+    → (leb n 1 || all e (λ i. not (writes n (word1 e t i)) || has (parent n) (markAt seen (word1 e t i)))) ≡ (leb n 1 || all e (λ i. not (writes n (word1 e t i)) || holdsIn e t (parent n) (cellOf (word1 e t i))))
 covers e t seen n told =
     by-bool (leb n 1)
     (λ y. rw y)
     (λ y.
     let outer = leb-false n 1 y in
     rw y
-    (all-ext e (λ i. not (turns n (word1 e t i)) || has (parent n) (markAt seen (word1 e t i))) (λ i. not (turns n (word1 e t i)) || holdsIn e t (parent n) (cellOf (word1 e t i)))
-    (λ i l. ap (λ (x : Bool). not (turns n (word1 e t i)) || x) (marked-holds e t seen told (parent n) (cellOf (word1 e t i)) (omega arith)))))
+    (all-ext e (λ i. not (writes n (word1 e t i)) || has (parent n) (markAt seen (word1 e t i))) (λ i. not (writes n (word1 e t i)) || holdsIn e t (parent n) (cellOf (word1 e t i)))
+    (λ i l. ap (λ (x : Bool). not (writes n (word1 e t i)) || x) (marked-holds e t seen told (parent n) (cellOf (word1 e t i)) (omega arith)))))
 
-module _ (m e b : ℕ) (t : List ℕ) (ok : Rule m e b t) where
-  -- the entry of a cell that advances
-  entry-of : (c : ℕ) → advances e t c ≡ true → (i : ℕ) × (i < e) × (turnsAt e t i ≡ true) × (cellOf (word1 e t i) ≡ c)
-  entry-of c h =
-      let s = and-split (holdsIn e t (live t) c) (eqb (writableOf (word1 e t (findIn e t (live t) c))) 1) h in
-      let l = holds-found e t (live t) c (s .0) in
-      let q = find-hit e t (live t) c l in
-      (findIn e t (live t) c, l, and-join _ _ (eq-eqb _ _ (q .0)) (s .1), q .1)
+or-right : (x y : Bool) → x ≡ true → (not x || y) ≡ true → y ≡ true
+or-right x y z h = rw z at h
 
+or-make : (x y : Bool) → (x ≡ true → y ≡ true) → (not x || y) ≡ true
+or-make x y h = by-bool x (λ z. rw z (h z)) (λ z. rw z)
+
+module _ (m e b : ℕ) (t : List ℕ) (ok : Rule m e b t) (low : 1 ≤ live t) where
+  -- the entries of which an entry's own words tell that they advance are those of the innermost domain whose cells do: first of the label
+  writes-cell : (i : ℕ) → i < e → writes (live t) (word1 e t i) ≡ turnsAt e t (writesIn e t (live t)) i
+  writes-cell i l =
+      let w = word1 e t i in
+      let c = cellOf w in
+      by-bool (eqb (depthOf w) (live t))
+      (λ y.
+      let depth = eqb-true (depthOf w) (live t) y in
+      let at : findIn e t (live t) c ≡ i = subst (λ (d : ℕ). findIn e t d c ≡ i) depth (find-self m e b t ok i l (λ z. omega (arith, low, z, depth))) in
+      rw (y, holds-true e t (live t) c (rw at l), at))
+      (λ y. rw y)
+
+  -- what holds of the cell of each read-write entry of it holds of each such cell, and the other way round
   module _ (P : ℕ → Bool) where
     abbrev byEntry : ℕ → Bool
-    byEntry i = not (turnsAt e t i) || P (cellOf (word1 e t i))
+    byEntry i = not (writes (live t) (word1 e t i)) || P (cellOf (word1 e t i))
 
     abbrev byCell : ℕ → Bool
-    byCell c = not (advances e t c) || P c
+    byCell c = not (writesIn e t (live t) c) || P c
 
-    or-right : (x y : Bool) → x ≡ true → (not x || y) ≡ true → y ≡ true
-    or-right x y z h = rw z at h
-
-    or-make : (x y : Bool) → (x ≡ true → y ≡ true) → (not x || y) ≡ true
-    or-make x y h = by-bool x (λ z. rw z (h z)) (λ z. rw z)
-
-    -- what holds of the cell of each entry that advances holds of each cell that advances, and the other way round
     covers-cells : all e byEntry ≡ all m byCell
     covers-cells =
         by-bool (all m byCell)
         (λ y.
-        all-make e byEntry (λ i l. or-make (turnsAt e t i) (P (cellOf (word1 e t i))) (λ z.
-        let goes = advances-of m e b t ok i l z in
-        or-right (advances e t (cellOf (word1 e t i))) (P (cellOf (word1 e t i))) goes (all-at m byCell y (cellOf (word1 e t i)) (advances-cell m e b t ok (cellOf (word1 e t i)) goes))))
+        all-make e byEntry (λ i l. or-make (writes (live t) (word1 e t i)) (P (cellOf (word1 e t i))) (λ z.
+        let goes = advances-of m e b t ok (writesIn e t (live t)) (λ c h. h) low i (sym (writes-cell i l) ∙ z) in
+        or-right (writesIn e t (live t) (cellOf (word1 e t i))) (P (cellOf (word1 e t i))) goes
+        (all-at m byCell y (cellOf (word1 e t i)) (advances-cell m e b t ok (writesIn e t (live t)) (λ c h. h) (cellOf (word1 e t i)) goes))))
         ∙ sym y)
         (λ y.
         is-false (all e byEntry) (λ z.
-        true≢ (all-make m byCell (λ c l. or-make (advances e t c) (P c) (λ a.
-        let s = entry-of c a in
-        subst (λ (x : ℕ). P x ≡ true) (s .3) (or-right (turnsAt e t (s .0)) (P (cellOf (word1 e t (s .0)))) (s .2) (all-at e byEntry z (s .0) (s .1)))))) y)
+        true≢ (all-make m byCell (λ c l. or-make (writesIn e t (live t) c) (P c) (λ a.
+        let s = entry-of m e b t ok (writesIn e t (live t)) (λ c h. h) c a in
+        subst (λ (x : ℕ). P x ≡ true) (s .3) (or-right (writes (live t) (word1 e t (s .0))) (P (cellOf (word1 e t (s .0)))) (writes-cell (s .0) (s .1) ∙ s .2) (all-at e byEntry z (s .0) (s .1)))))) y)
         ∙ sym y)
 
-  pub entries-cells : 1 ≤ live t → entriesCheck e b t ≡ cellsCheck m e b t
-  entries-cells low =
-      λ i. ask (leb (live t) 1 || covers-cells (holdsIn e t (parent (live t))) i) 15
-      (ask (leb (copies e t + count-entries m e b t ok (live t) low (λ w. eqb (writableOf w) 1) i) b) 17 0)
+-- ---- the list, for any cells that the innermost domain holds read-write
 
-  -- as many cells advance as entries, and no more than are in front of the free ones at the end
-  pub advances-few : (top : ℕ) → EndsAt e t top → 1 ≤ live t → count m (advances e t) ≤ top
-  advances-few top ends low =
-      omega (arith, count-entries m e b t ok (live t) low (λ w. eqb (writableOf w) 1), turning-front e t top (ends .0) (ends .1) (live t), count-le top (λ i. turns (live t) (word1 e t i)))
-
-  -- the cells whose bits are set are those that advance
-  pub turned-advances : (groups : List ℕ) → TurnedBits e t (live t) e groups → (c : ℕ) → isSet groups c ≡ advances e t c
-  turned-advances groups k c =
-      by-bool (advances e t c)
-      (λ a.
-      let s = entry-of c a in
-      is-true (isSet groups c) (λ z. k .clear c z (s .0) (s .1) (s .2) (s .3)) ∙ sym a)
-      (λ a.
-      is-false (isSet groups c) (λ z.
-      let f = k .found c z in
-      true≢ (subst (λ (x : ℕ). advances e t x ≡ true) (f .3) (advances-of m e b t ok (f .0) (f .1) (f .2))) a)
-      ∙ sym a)
-
-  -- ---- the list
-
-  module _ (groups : List ℕ) (bits : (c : ℕ) → isSet groups c ≡ advances e t c) where
+module _ (m e b : ℕ) (t : List ℕ) (ok : Rule m e b t) (low : 1 ≤ live t) (f : ℕ → Bool) (own : (c : ℕ) → f c ≡ true → writesIn e t (innermost t) c ≡ true) where
+  module _ (groups : List ℕ) (bits : (c : ℕ) → isSet groups c ≡ f c) where
     -- no cell behind memory has a bit, so that there are as many bits as cells that advance
-    pub bits-count : m ≤ maxCells → count maxCells (isSet groups) ≡ count m (advances e t)
+    pub bits-count : m ≤ maxCells → count maxCells (isSet groups) ≡ count m f
     bits-count high =
-        count-ext maxCells (isSet groups) (advances e t) (λ k l. bits k)
-        ∙ count-stop maxCells m (advances e t) high (λ c l h. is-false (advances e t c) (λ a. let inside = advances-cell m e b t ok c a in omega arith))
+        count-ext maxCells (isSet groups) f (λ k l. bits k)
+        ∙ count-stop maxCells m f high (λ c l h. is-false (f c) (λ a. let inside = advances-cell m e b t ok f own c a in omega arith))
 
     pub bits-inside : Inside m groups
-    bits-inside c h = advances-cell m e b t ok c (sym (bits c) ∙ h)
+    bits-inside c h = advances-cell m e b t ok f own c (sym (bits c) ∙ h)
 
-    pub own-bits : 1 ≤ live t → OwnBits e t (live t) groups
-    own-bits low = record {
-      here = λ i l z. bits (cellIn e t i) ∙ advances-of m e b t ok i l z;
-      apart = λ i j li lj zi zj q.
-          only-one m e b t ok i j (live t) (cellIn e t j) low li lj
-          (and-join (eqb (depthOf (word1 e t i)) (live t)) (eqb (cellIn e t i) (cellIn e t j)) (and-split (eqb (depthOf (word1 e t i)) (live t)) (eqb (writableOf (word1 e t i)) 1) zi .0) (eq-eqb (cellIn e t i) (cellIn e t j) q))
-          (and-join (eqb (depthOf (word1 e t j)) (live t)) (eqb (cellIn e t j) (cellIn e t j)) (and-split (eqb (depthOf (word1 e t j)) (live t)) (eqb (writableOf (word1 e t j)) 1) zj .0) (eq-eqb (cellIn e t j) (cellIn e t j) refl));
-    }
-
-    module _ (n : ℕ) (places : List ℕ) (number : n ≡ count m (advances e t)) (list : ListedSlots e t (live t) (isSet groups) e places) where
-      entry-place : (i : ℕ) → i < e → turns (live t) (word1 e t i) ≡ true → getD places (rankOf e t i) 0 ≡ i
+    module _ (n : ℕ) (places : List ℕ) (number : n ≡ count m f) (list : ListedSlots e t (live t) (isSet groups) e places) where
+      entry-place : (i : ℕ) → i < e → turnsAt e t f i ≡ true → getD places (rankOf e t f i) 0 ≡ i
       entry-place i l z =
-          ap (λ (x : ℕ). getD places x 0) (sym (count-ext (cellIn e t i) (isSet groups) (advances e t) (λ c h. bits c))) ∙ list .place i l z
+          ap (λ (x : ℕ). getD places x 0) (sym (count-ext (cellIn e t i) (isSet groups) f (λ c h. bits c)))
+          ∙ list .place i l (ap (λ (x : Bool). eqb (depthOf (word1 e t i)) (live t) && x) (bits (cellIn e t i)) ∙ z)
 
       -- the entry that stands at place r
-      at-place : (r : ℕ) → r < n → (i : ℕ) × (i < e) × (turnsAt e t i ≡ true) × (rankOf e t i ≡ r) × (getD places r 0 ≡ i)
+      at-place : (r : ℕ) → r < n → (i : ℕ) × (i < e) × (turnsAt e t f i ≡ true) × (rankOf e t f i ≡ r) × (getD places r 0 ≡ i)
       at-place r l =
-          let in-all : r < count m (advances e t) = omega arith in
-          let s = entry-of (nth m (advances e t) r) (nth-holds m (advances e t) r in-all) in
-          let rank : rankOf e t (s .0) ≡ r = ap (λ (c : ℕ). count c (advances e t)) (s .3) ∙ nth-rank m (advances e t) r in-all in
+          let in-all : r < count m f = omega arith in
+          let s = entry-of m e b t ok f own (nth m f r) (nth-holds m f r in-all) in
+          let rank : rankOf e t f (s .0) ≡ r = ap (λ (c : ℕ). count c f) (s .3) ∙ nth-rank m f r in-all in
           (s .0, s .1, s .2, rank, ap (λ (x : ℕ). getD places x 0) (sym rank) ∙ entry-place (s .0) (s .1) (s .2))
 
-      pub in-order : InOrder e t n places
+      pub in-order : InOrder e t f n places
       in-order = record {
         slot = λ r l. let s = at-place r l in rw (s .4) (s .1);
         goes = λ r l. let s = at-place r l in rw (s .4) (s .2);
@@ -191,50 +183,106 @@ module _ (m e b : ℕ) (t : List ℕ) (ok : Rule m e b t) where
       }
 
   -- every cell listed is one of memory's
-  pub listed-inside : (n : ℕ) (places : List ℕ) → InOrder e t n places → (r : ℕ) → r < n → cellIn e t (getD places r 0) < m
+  pub listed-inside : (n : ℕ) (places : List ℕ) → InOrder e t f n places → (r : ℕ) → r < n → cellIn e t (getD places r 0) < m
   listed-inside n places list r l =
-      advances-cell m e b t ok (cellIn e t (getD places r 0)) (advances-of m e b t ok (getD places r 0) (list .slot r l) (list .goes r l))
+      advances-cell m e b t ok f own (cellIn e t (getD places r 0)) (advances-of m e b t ok f own low (getD places r 0) (list .goes r l))
 
 -- ---- the bodies: there is one for each cell that advances
-pub room-unmarked : (m e b : ℕ) (t used : List ℕ) → Rule m e b t → copies e t + count m (advances e t) ≤ b → Marks (IsCopy e t) (word2 e t) 1 e used → count m (advances e t) ≤ count b (unmarked used)
-room-unmarked m e b t used ok room marks =
+pub room-unmarked : (m e b : ℕ) (t used : List ℕ) (f : ℕ → Bool) → Rule m e b t → copies e t + count m f ≤ b → Marks (IsCopy e t) (word2 e t) 1 e used → count m f ≤ count b (unmarked used)
+room-unmarked m e b t used f ok room marks =
     let y = count-ext b (unmarked used) (bodyFree e t) (λ k h. unmarked-free e t used marks k) in
-    let z = enough m e b t ok room in
+    let z = enough m e b t ok f room in
     omega arith
 
--- ---- from the list to the plan
+-- ---- the cells that advance
 
-module _ (m b n : ℕ) (t used places : List ℕ) (ok : Rule m (slotsOf (length t)) b t)
-    (marks : Marks (IsCopy (slotsOf (length t)) t) (word2 (slotsOf (length t)) t) 1 (slotsOf (length t)) used)
-    (number : n ≡ count m (advances (slotsOf (length t)) t)) where
+-- the innermost domain holds each of them read-write
+pub advances-own : (b : Buffers) (c : ℕ) → advances b c ≡ true → writesIn (slotsOf (length (b .table))) (b .table) (live (b .table)) c ≡ true
+advances-own b c h = and-split (writesIn (slotsOf (length (b .table))) (b .table) (live (b .table)) c) _ h .0
+
+module _ (memory bodies t : List ℕ) (ok : Rule (cellsOf (length memory)) (slotsOf (length t)) (bodiesOf (length bodies)) t) (low : 1 ≤ live t) where
+  abbrev m : ℕ
+  m = cellsOf (length memory)
+
   abbrev e : ℕ
   e = slotsOf (length t)
 
-  nth-free : (r : ℕ) → nth b (unmarked used) r ≡ nth b (bodyFree e t) r
-  nth-free r = nth-ext b (unmarked used) (bodyFree e t) r (λ k h. unmarked-free e t used marks k)
+  abbrev b : ℕ
+  b = bodiesOf (length bodies)
 
-  pub listed-bytes : (memory : List ℕ) → InOrder (slotsOf (length t)) t n places
-      → gather n (λ r. cellPlan memory (cellIn (slotsOf (length t)) t (getD places r 0)) (nth b (unmarked used) r)) ≡ advanceBytes m b memory t
-  unfolding advanceBytes lowestFree
-  listed-bytes memory list =
-      ap (λ (x : ℕ). gather x (λ r. cellPlan memory (cellIn e t (getD places r 0)) (nth b (unmarked used) r))) number
-      ∙ gather-listed (advances e t) (λ c r. cellPlan memory c (nth b (unmarked used) r)) (λ r. cellIn e t (getD places r 0)) m listed-cell
-      ∙ gather-ext m (λ c. cond (advances e t c) (cellPlan memory c (nth b (unmarked used) (count c (advances e t)))) []) (λ c. cond (advances e t c) (cellPlan memory c (nth b (bodyFree e t) (count c (advances e t)))) [])
-      (λ c l. ap (λ (x : ℕ). cond (advances e t c) (cellPlan memory c x) []) (nth-free (count c (advances e t))))
+  abbrev f : ℕ → Bool
+  f = advances (buffers memory bodies t)
+
+  abbrev goes : ℕ → Bool
+  goes = entryAdvances memory bodies e t (live t)
+
+  -- of an entry its own words tell whether its cell advances
+  goes-cell : (i : ℕ) → i < e → goes i ≡ turnsAt e t f i
+  goes-cell i l =
+      ap (λ (x : Bool). x && not (unchanged memory bodies e t (live t) (cellIn e t i))) (writes-cell m e b t ok low i l)
+      ∙ and-assoc (eqb (depthOf (word1 e t i)) (live t)) (writesIn e t (live t) (cellIn e t i)) _
     where
-      listed-cell : (c : ℕ) → c < m → advances e t c ≡ true → cellIn e t (getD places (count c (advances e t)) 0) ≡ c
-      listed-cell c l h =
-          let s = entry-of m e b t ok c h in
-          let same = ap (λ (x : ℕ). getD places (count x (advances e t)) 0) (sym (s .3)) ∙ list .place (s .0) (s .1) (s .2) in
-          ap (cellIn e t) same ∙ s .3
+      and-assoc : (x y z : Bool) → (x && y && z) ≡ (x && (y && z))
+      and-assoc true y z = refl
+      and-assoc false y z = refl
 
-  -- once all are staged, the changes are the call's
-  pub change-all : (i : ℕ) → i < slotsOf (length t) → changeTo (slotsOf (length t)) b t used n i ≡ changeWith (slotsOf (length t)) t (bodyFor (slotsOf (length t)) b t) i
-  unfolding changeTo lowestFree
-  change-all i l =
-      by-bool (turnsAt e t i)
-      (λ z.
-      let goes = advances-of m e b t ok i l z in
-      let less : rankOf e t i < n = omega (arith, count-below (advances e t) (cellIn e t i) m (advances-cell m e b t ok (cellIn e t i) goes) goes, number) in
-      rw (lt-ltb (rankOf e t i) n less, z, nth-free (rankOf e t i)))
-      (λ z. by-bool (ltb (rankOf e t i) n) (λ y. rw (y, z)) (λ y. rw (y, z)))
+  goes-count : count e goes ≡ count m f
+  goes-count = count-ext e goes (turnsAt e t f) goes-cell ∙ turning-count m e b t ok f (advances-own (buffers memory bodies t)) low
+
+  pub entries-cells : entriesCheck memory bodies (slotsOf (length t)) t ≡ cellsCheck (buffers memory bodies t)
+  entries-cells =
+      λ i. ask (leb (live t) 1 || covers-cells m e b t ok low (holdsIn e t (parent (live t))) i) 15 (ask (leb (copies e t + goes-count i) b) 17 0)
+
+  -- as many cells advance as entries, and no more than are in front of the free ones at the end
+  pub advances-few : (top : ℕ) → EndsAt (slotsOf (length t)) t top → count (cellsOf (length memory)) (advances (buffers memory bodies t)) ≤ top
+  advances-few top ends =
+      omega (arith, turning-count m e b t ok f (advances-own (buffers memory bodies t)) low, turning-few e t top (ends .0) (ends .1) (live t) low f)
+
+  -- the cells whose bits are set are those that advance
+  pub turned-advances : (groups : List ℕ) → TurnedBits (slotsOf (length t)) t (entryAdvances memory bodies (slotsOf (length t)) t (live t)) (slotsOf (length t)) groups
+      → (c : ℕ) → isSet groups c ≡ advances (buffers memory bodies t) c
+  turned-advances groups k c =
+      by-bool (f c)
+      (λ a.
+      let s = entry-of m e b t ok f (advances-own (buffers memory bodies t)) c a in
+      is-true (isSet groups c) (λ z. k .clear c z (s .0) (s .1) (goes-cell (s .0) (s .1) ∙ s .2) (s .3)) ∙ sym a)
+      (λ a.
+      is-false (isSet groups c) (λ z.
+      let s = k .found c z in
+      true≢ (subst (λ (x : ℕ). f x ≡ true) (s .3) (advances-of m e b t ok f (advances-own (buffers memory bodies t)) low (s .0) (sym (goes-cell (s .0) (s .1)) ∙ s .2))) a)
+      ∙ sym a)
+
+  -- ---- from the list to the plan
+
+  module _ (used : List ℕ) (n : ℕ) (places : List ℕ) (marks : Marks (IsCopy (slotsOf (length t)) t) (word2 (slotsOf (length t)) t) 1 (slotsOf (length t)) used)
+      (number : n ≡ count (cellsOf (length memory)) (advances (buffers memory bodies t))) where
+    nth-free : (r : ℕ) → nth b (unmarked used) r ≡ nth b (bodyFree e t) r
+    nth-free r = nth-ext b (unmarked used) (bodyFree e t) r (λ k h. unmarked-free e t used marks k)
+
+    pub listed-bytes : InOrder (slotsOf (length t)) t (advances (buffers memory bodies t)) n places
+        → gather n (λ r. cellPlan memory (cellIn (slotsOf (length t)) t (getD places r 0)) (nth (bodiesOf (length bodies)) (unmarked used) r)) ≡ advanceBytes (buffers memory bodies t)
+    unfolding advanceBytes lowestFree
+    listed-bytes list =
+        ap (λ (x : ℕ). gather x (λ r. cellPlan memory (cellIn e t (getD places r 0)) (nth b (unmarked used) r))) number
+        ∙ gather-listed f (λ c r. cellPlan memory c (nth b (unmarked used) r)) (λ r. cellIn e t (getD places r 0)) m listed-cell
+        ∙ gather-ext m (λ c. cond (f c) (cellPlan memory c (nth b (unmarked used) (count c f))) []) (λ c. cond (f c) (cellPlan memory c (nth b (bodyFree e t) (count c f))) [])
+        (λ c l. ap (λ (x : ℕ). cond (f c) (cellPlan memory c x) []) (nth-free (count c f)))
+      where
+        listed-cell : (c : ℕ) → c < m → f c ≡ true → cellIn e t (getD places (count c f) 0) ≡ c
+        listed-cell c l h =
+            let s = entry-of m e b t ok f (advances-own (buffers memory bodies t)) c h in
+            let same = ap (λ (x : ℕ). getD places (count x f) 0) (sym (s .3)) ∙ list .place (s .0) (s .1) (s .2) in
+            ap (cellIn e t) same ∙ s .3
+
+    -- once all are staged, the changes are the call's
+    pub change-all : (i : ℕ) → i < slotsOf (length t)
+        → changeTo (slotsOf (length t)) (bodiesOf (length bodies)) t used (advances (buffers memory bodies t)) n i
+        ≡ changeWith (slotsOf (length t)) t (advances (buffers memory bodies t)) (bodyFor (buffers memory bodies t)) i
+    unfolding changeTo lowestFree
+    change-all i l =
+        by-bool (turnsAt e t f i)
+        (λ z.
+        let goes = advances-of m e b t ok f (advances-own (buffers memory bodies t)) low i z in
+        let less : rankOf e t f i < n = omega (arith, count-below f (cellIn e t i) m (advances-cell m e b t ok f (advances-own (buffers memory bodies t)) (cellIn e t i) goes) goes, number) in
+        rw (lt-ltb (rankOf e t f i) n less, z, nth-free (rankOf e t f i)))
+        (λ z. by-bool (ltb (rankOf e t f i) n) (λ y. rw (y, z)) (λ y. rw (y, z)))

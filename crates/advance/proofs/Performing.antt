@@ -1,5 +1,6 @@
 -- A call that no question refuses, from what its code does to its outcome: what each part of the code may rely on, and what all of them leave. Assumes nothing.
 use Prim.Native.Nat.{ℕ, _+_, _-_, _*_, _≤_, _<_}
+use mathlib.Core.Bool.{Bool}
 use mathlib.Core.List.{List, [], _++_}
 use mathlib.Core.Path.{_≡_, ap, _∙_}
 use native.Mathlib.Omega.{arith}
@@ -10,8 +11,9 @@ use Rattle.words.specs.Stores.{Store, stores, gather}
 use Rattle.words.specs.Cells.{cellPlan}
 use Rattle.words.specs.Journal.{journal}
 use Rattle.table.specs.Entry.{live}
-use Rattle.table.specs.Marks.{EndsAt, cellIn}
+use Rattle.table.specs.Marks.{CellsOnce, EndsAt, cellIn}
 use Rattle.table.specs.Changes.{entryChanges}
+use Rattle.table.proofs.Parts.{rule-once}
 use Rattle.table.proofs.Rule.{Rule}
 use Rattle.search.specs.Free.{unmarked}
 use Rattle.changes.specs.Staged.{isSet, Inside, staged, Stages}
@@ -21,12 +23,12 @@ use Rattle.store.specs.Outcome.{buffers, outcome, leaves}
 use Rattle.store.proofs.Checks.{store-lengths}
 use Rattle.store.proofs.Raw.{raw-rule}
 use Rattle.advance.specs.Advance.{advances, advanceWords}
-use Rattle.advance.specs.Notes.{CellBits, Ready, performed, OwnBits, ListedSlots, InOrder, changeTo}
+use Rattle.advance.specs.Notes.{CellBits, Ready, performed, ListedSlots, InOrder, changeTo}
 use Rattle.advance.proofs.Listing.{plans-length}
-use Rattle.advance.proofs.Noting.{turns-front, advances-few, bits-count, bits-inside, own-bits, in-order, listed-inside, room-unmarked, listed-bytes, change-all}
+use Rattle.advance.proofs.Noting.{turns-front, advances-own, advances-few, bits-count, bits-inside, in-order, listed-inside, room-unmarked, listed-bytes, change-all}
 use Rattle.advance.proofs.Advanced.{advance-performed}
 
-module _ (memory bodies t used : List ℕ) (ready : Ready (length memory) (length bodies) t used) where
+module _ (memory bodies t used : List ℕ) (ready : Ready (buffers memory bodies t) used) where
   abbrev m : ℕ
   m = cellsOf (length memory)
 
@@ -36,52 +38,57 @@ module _ (memory bodies t used : List ℕ) (ready : Ready (length memory) (lengt
   abbrev e : ℕ
   e = slotsOf (length t)
 
+  abbrev f : ℕ → Bool
+  f = advances (buffers memory bodies t)
+
   ok : Rule (cellsOf (length memory)) (slotsOf (length t)) (bodiesOf (length bodies)) t
   ok = raw-rule memory bodies t (ready .stands)
 
-  -- as many entries advance as cells, all of them in front of the free ones at the end, and there is a free body for each
-  pub ready-front : (top : ℕ) → EndsAt (slotsOf (length t)) t top → count (cellsOf (length memory)) (advances (slotsOf (length t)) t) ≤ top
-  ready-front top ends = advances-few m e b t ok top ends (ready .lives)
+  pub ready-once : CellsOnce (slotsOf (length t)) t (slotsOf (length t))
+  ready-once = rule-once m e b t ok
 
-  pub ready-few : count (cellsOf (length memory)) (advances (slotsOf (length t)) t) ≤ slotsOf (length t)
+  -- as many entries advance as cells, all of them in front of the free ones at the end, and there is a free body for each
+  pub ready-front : (top : ℕ) → EndsAt (slotsOf (length t)) t top → count (cellsOf (length memory)) (advances (buffers memory bodies t)) ≤ top
+  ready-front = advances-few memory bodies t ok (ready .lives)
+
+  pub ready-few : count (cellsOf (length memory)) (advances (buffers memory bodies t)) ≤ slotsOf (length t)
   ready-few = ready-front e (omega arith, λ i low high. absurd (omega arith))
 
-  pub ready-free : count (cellsOf (length memory)) (advances (slotsOf (length t)) t) ≤ count (bodiesOf (length bodies)) (unmarked used)
-  ready-free = room-unmarked m e b t used ok (ready .room) (ready .marks)
+  pub ready-free : count (cellsOf (length memory)) (advances (buffers memory bodies t)) ≤ count (bodiesOf (length bodies)) (unmarked used)
+  ready-free = room-unmarked m e b t used f ok (ready .room) (ready .marks)
 
-  module _ (groups : List ℕ) (bits : CellBits t groups) where
-    pub ready-own : OwnBits (slotsOf (length t)) t (live t) groups
-    ready-own = own-bits m e b t ok groups (bits .each) (ready .lives)
-
-    pub ready-count : count maxCells (isSet groups) ≡ count (cellsOf (length memory)) (advances (slotsOf (length t)) t)
-    ready-count = bits-count m e b t ok groups (bits .each) (store-lengths _ _ t (ready .stands) .cells-high)
+  module _ (groups : List ℕ) (bits : CellBits (advances (buffers memory bodies t)) groups) where
+    pub ready-count : count maxCells (isSet groups) ≡ count (cellsOf (length memory)) (advances (buffers memory bodies t))
+    ready-count = bits-count m e b t ok (ready .lives) f (advances-own (buffers memory bodies t)) groups (bits .each) (store-lengths _ _ t (ready .stands) .cells-high)
 
     -- no group behind memory's has a bit
     pub ready-inside : (g : ℕ) → cellsOf (length memory) ≤ groupAt g → Inside (groupAt g) groups
-    ready-inside g l c h = let inside = bits-inside m e b t ok groups (bits .each) c h in omega arith
+    ready-inside g l c h =
+        let inside = bits-inside m e b t ok (ready .lives) f (advances-own (buffers memory bodies t)) groups (bits .each) c h in
+        omega arith
 
-    pub ready-order : (n : ℕ) (places : List ℕ) → n ≡ count (cellsOf (length memory)) (advances (slotsOf (length t)) t)
-        → ListedSlots (slotsOf (length t)) t (live t) (isSet groups) (slotsOf (length t)) places → InOrder (slotsOf (length t)) t n places
-    ready-order = in-order m e b t ok groups (bits .each)
+    pub ready-order : (n : ℕ) (places : List ℕ) → n ≡ count (cellsOf (length memory)) (advances (buffers memory bodies t))
+        → ListedSlots (slotsOf (length t)) t (live t) (isSet groups) (slotsOf (length t)) places → InOrder (slotsOf (length t)) t (advances (buffers memory bodies t)) n places
+    ready-order = in-order m e b t ok (ready .lives) f (advances-own (buffers memory bodies t)) groups (bits .each)
 
-  module _ (n : ℕ) (places : List ℕ) (list : InOrder (slotsOf (length t)) t n places) where
+  module _ (n : ℕ) (places : List ℕ) (list : InOrder (slotsOf (length t)) t (advances (buffers memory bodies t)) n places) where
     pub ready-cells : (r : ℕ) → r < n → cellAt (cellIn (slotsOf (length t)) t (getD places r 0)) + 64 ≤ length memory
-    ready-cells r l = omega (arith, listed-inside m e b t ok n places list r l)
+    ready-cells r l = omega (arith, listed-inside m e b t ok (ready .lives) f (advances-own (buffers memory bodies t)) n places list r l)
 
     pub ready-low : (top : ℕ) → EndsAt (slotsOf (length t)) t top → (r : ℕ) → r < n → getD places r 0 < top
-    ready-low top ends r l = turns-front e t top (ends .0) (ends .1) (live t) (getD places r 0) (list .slot r l) (list .goes r l)
+    ready-low top ends r l = turns-front e t top (ends .0) (ends .1) (live t) (ready .lives) f (getD places r 0) (list .slot r l) (list .goes r l)
 
-    pub ready-performed : (k steps : ℕ) (b′ words changed t′ : List ℕ) (hs : List Store) (r : Report) → n ≡ count (cellsOf (length memory)) (advances (slotsOf (length t)) t)
+    pub ready-performed : (k steps : ℕ) (b′ words changed t′ : List ℕ) (hs : List Store) (r : Report) → n ≡ count (cellsOf (length memory)) (advances (buffers memory bodies t))
         → b′ ≡ stores (take k (gather n (λ r. cellPlan memory (cellIn (slotsOf (length t)) t (getD places r 0)) (nth (bodiesOf (length bodies)) (unmarked used) r)))) bodies
-        → Stages (slotsOf (length t)) (changeTo (slotsOf (length t)) (bodiesOf (length bodies)) t used n) words changed → hs ≡ []
+        → Stages (slotsOf (length t)) (changeTo (slotsOf (length t)) (bodiesOf (length bodies)) t used (advances (buffers memory bodies t)) n) words changed → hs ≡ []
         → steps ≡ length (journal (pairsAt (slotsOf (length t))) (hs ++ entryChanges (slotsOf (length t)) (staged words changed)))
         → t′ ≡ stores (take (k - 64 * n) (journal (pairsAt (slotsOf (length t))) (hs ++ entryChanges (slotsOf (length t)) (staged words changed)))) t
         → r ≡ ended (64 * n + steps) 0 k
         → leaves r (buffers memory b′ t′) ≡ outcome (performed (buffers memory bodies t)) k (buffers memory bodies t)
     unfolding advanceWords
     ready-performed k steps b′ words changed t′ hs r number copied stages none made written told =
-        let bs = listed-bytes m b n t used places ok (ready .marks) number memory list in
-        let ws = stages-words none (stages-ext stages (change-all m b n t used places ok (ready .marks) number)) in
+        let bs = listed-bytes memory bodies t ok (ready .lives) used n places (ready .marks) number list in
+        let ws = stages-words none (stages-ext stages (change-all memory bodies t ok (ready .lives) used n places (ready .marks) number)) in
         advance-performed memory bodies t k (64 * n) steps b′ t′ r
         (plans-length memory (λ r. cellIn e t (getD places r 0)) (nth b (unmarked used)) n ∙ ap length bs)
         (copied ∙ ap (λ (ps : List Store). stores (take k ps) bodies) bs)

@@ -1,30 +1,52 @@
 -- What the parts of advance's code pass on to each other: which cells advance, as bits; the list of the entries that advance, in the order of
 -- their cells; and what is staged for them.
 use Prim.Native.Nat.{ℕ, _+_, _*_, _≤_, _<_}
-use mathlib.Core.Bool.{Bool, true, false, cond, not, _||_}
+use mathlib.Core.Bool.{Bool, true, false, cond, not, _&&_, _||_}
 use mathlib.Core.Path.{_≡_}
 use mathlib.Core.List.{List}
-use lib.Dec.{leb, ltb}
+use lib.Dec.{leb, ltb, eqb}
 use lib.ListN.{length, getD, set}
-use Rattle.words.specs.Layout.{cellsOf, bodiesOf, slotsOf, pairsAt, groupAt, groupOf, inGroup}
+use Rattle.words.specs.Layout.{cellsOf, bodiesOf, slotsOf, pairsAt, maxSlots, groupAt, groupOf, inGroup}
 use Rattle.words.specs.Scan.{all, count}
 use Rattle.words.specs.Stores.{tab}
-use Rattle.table.specs.Entry.{live, word1, word2, cellOf, innermost, parent, isOutermost, holdsIn}
+use Rattle.table.specs.Entry.{live, word1, word2, depthOf, writableOf, cellOf, innermost, parent, isOutermost, holdsIn}
 use Rattle.marks.specs.Blocks.{blockOf, blockAt, maxGroups, Kept}
-use Rattle.table.specs.Marks.{Marks, IsCopy, EndsAt, cellIn}
+use Rattle.table.specs.Marks.{Marks, Marked, IsCopy, EndsAt, cellIn}
+use Rattle.table.specs.Rule.{ruleOk}
 use Rattle.table.specs.Changes.{Change, keep}
 use Rattle.search.specs.Free.{copies, lowestFree, unmarked}
+use Rattle.values.specs.Values.{unchanged}
 use Rattle.changes.specs.Staged.{withBit, isSet}
 use Rattle.model.specs.Answer.{ask}
 use Rattle.store.specs.Outcome.{Buffers, Call, perform, changePlan}
-use Rattle.store.specs.Checks.{storeCheck, lent}
+use Rattle.store.specs.Checks.{storeCheck, lentOf}
 use Rattle.advance.specs.Advance.{advances, turns, changeWith, advanceBytes, advanceWords}
 
--- questions 15 and 17, asked of e entries, for b bodies
-abbrev pub entriesCheck : (e b : ℕ) → List ℕ → ℕ
-entriesCheck e b t =
-    ask (isOutermost (innermost t) || all e (λ i. not (turns (innermost t) (word1 e t i)) || holdsIn e t (parent (innermost t)) (cellOf (word1 e t i)))) 15
-    (ask (leb (copies e t + count e (λ i. turns (innermost t) (word1 e t i))) b) 17 0)
+-- ---- the questions, asked of the entries
+
+-- an entry with first word w is read-write and of depth d
+abbrev pub writes : (d w : ℕ) → Bool
+writes d w = eqb (depthOf w) d && eqb (writableOf w) 1
+
+-- entry i advances where n domains are live: it is the innermost domain's and read-write, and memory has other bytes than its value
+abbrev pub entryAdvances : (memory bodies : List ℕ) (e : ℕ) (t : List ℕ) (n : ℕ) → ℕ → Bool
+entryAdvances memory bodies e t n i = writes n (word1 e t i) && not (unchanged memory bodies e t n (cellIn e t i))
+
+-- questions 15 and 17, asked of e entries
+abbrev pub entriesCheck : (memory bodies : List ℕ) (e : ℕ) → List ℕ → ℕ
+entriesCheck memory bodies e t =
+    ask (isOutermost (innermost t) || all e (λ i. not (writes (innermost t) (word1 e t i)) || holdsIn e t (parent (innermost t)) (cellOf (word1 e t i)))) 15
+    (ask (leb (copies e t + count e (entryAdvances memory bodies e t (innermost t))) (bodiesOf (length bodies))) 17 0)
+
+-- what comparing them asks, where n domains are live and the marks of all entries are in `seen`
+pub record Comparable (memory bodies : List ℕ) (e : ℕ) (t : List ℕ) (top n : ℕ) (seen : List ℕ) : Type 0 where
+  pub slots : e ≤ maxSlots
+  pub words : pairsAt e ≤ length t
+  pub right : ruleOk (cellsOf (length memory)) e (bodiesOf (length bodies)) t ≡ true
+  pub ends : EndsAt e t top
+  pub low : 1 ≤ n
+  pub marked : Marked e t e seen
+  pub kept : Kept seen
 
 -- ---- which cells advance: a group of cells has a number whose bits are theirs
 
@@ -46,40 +68,42 @@ pub record BlockBits (seen bits : List ℕ) : Type 0 where
   pub room : length seen ≤ blockAt (length bits)
   pub front : getD bits 0 0 ≡ 0
 
--- the numbers after an entry with first word w, whose cell's group has its number at k, where n domains are live: one that advances sets its
--- cell's bit
-abbrev pub markTurning : (n w k : ℕ) → List ℕ → List ℕ
-markTurning n w k bits = set bits k (withBit (turns n w) (inGroup (cellOf w)) (getD bits k 0))
+-- the numbers after an entry with first word w, whose cell's group has its number at k: one that advances sets its cell's bit
+abbrev pub markTurning : (goes : Bool) (w k : ℕ) → List ℕ → List ℕ
+markTurning goes w k bits = set bits k (withBit goes (inGroup (cellOf w)) (getD bits k 0))
 
--- the bits set are those of the first k entries that advance, where n domains are live
-pub record TurnedBits (e : ℕ) (t : List ℕ) (n k : ℕ) (groups : List ℕ) : Type 0 where
-  pub clear : (c : ℕ) → isSet groups c ≡ false → (j : ℕ) → j < k → turns n (word1 e t j) ≡ true → cellIn e t j ≡ c → ⊥
-  pub found : (c : ℕ) → isSet groups c ≡ true → (j : ℕ) × (j < k) × (turns n (word1 e t j) ≡ true) × (cellIn e t j ≡ c)
+-- the bits set are those of the cells of the first k entries that advance, which `goes` tells
+pub record TurnedBits (e : ℕ) (t : List ℕ) (goes : ℕ → Bool) (k : ℕ) (groups : List ℕ) : Type 0 where
+  pub clear : (c : ℕ) → isSet groups c ≡ false → (j : ℕ) → j < k → goes j ≡ true → cellIn e t j ≡ c → ⊥
+  pub found : (c : ℕ) → isSet groups c ≡ true → (j : ℕ) × (j < k) × (goes j ≡ true) × (cellIn e t j ≡ c)
+
+-- of all entries, by the words of each, at the blocks of the groups; block 0 has no bit
+pub record ChangedBits (memory bodies : List ℕ) (e : ℕ) (t : List ℕ) (n : ℕ) (seen bits : List ℕ) : Type 0 where
+  pub turned : TurnedBits e t (entryAdvances memory bodies e t n) e (byGroup seen bits)
+  pub front : getD bits 0 0 ≡ 0
 
 -- the bits set are those of the cells that advance
-pub record CellBits (t groups : List ℕ) : Type 0 where
-  pub each : (c : ℕ) → isSet groups c ≡ advances (slotsOf (length t)) t c
+pub record CellBits (f : ℕ → Bool) (groups : List ℕ) : Type 0 where
+  pub each : (c : ℕ) → isSet groups c ≡ f c
 
 -- ---- a call that no question refuses
 
 -- it can be carried out, and the bodies in use are marked
-pub record Ready (memory bodies : ℕ) (t used : List ℕ) : Type 0 where
-  pub stands : storeCheck (lent memory bodies t) ≡ 0
-  pub lives : 1 ≤ live t
-  pub room : copies (slotsOf (length t)) t + count (cellsOf memory) (advances (slotsOf (length t)) t) ≤ bodiesOf bodies
-  pub marks : Marks (IsCopy (slotsOf (length t)) t) (word2 (slotsOf (length t)) t) 1 (slotsOf (length t)) used
+pub record Ready (b : Buffers) (used : List ℕ) : Type 0 where
+  pub stands : storeCheck (lentOf b) ≡ 0
+  pub lives : 1 ≤ live (b .table)
+  pub room : copies (slotsOf (length (b .table))) (b .table) + count (cellsOf (length (b .memory))) (advances b) ≤ bodiesOf (length (b .bodies))
+  pub marks : Marks (IsCopy (slotsOf (length (b .table))) (b .table)) (word2 (slotsOf (length (b .table))) (b .table)) 1 (slotsOf (length (b .table))) used
 
 -- the cells that advance have their bits, at the blocks of their groups, and no entry from `top` on is in use
-pub record Told (t : List ℕ) (top : ℕ) (seen bits : List ℕ) : Type 0 where
-  pub cells : CellBits t (byGroup seen bits)
+pub record Told (b : Buffers) (top : ℕ) (seen bits : List ℕ) : Type 0 where
+  pub cells : CellBits (advances b) (byGroup seen bits)
   pub blocks : BlockBits seen bits
-  pub ends : EndsAt (slotsOf (length t)) t top
+  pub ends : EndsAt (slotsOf (length (b .table))) (b .table) top
 
 -- it is carried out
 abbrev pub performed : Buffers → Call
-performed b =
-    perform (changePlan (pairsAt (slotsOf (length (b .table))))
-    (advanceBytes (cellsOf (length (b .memory))) (bodiesOf (length (b .bodies))) (b .memory) (b .table)) (advanceWords (bodiesOf (length (b .bodies))) (b .table))) 0
+performed b = perform (changePlan (pairsAt (slotsOf (length (b .table)))) (advanceBytes b) (advanceWords b)) 0
 
 -- ---- the list of the entries that advance, in the order of their cells
 
@@ -87,29 +111,25 @@ performed b =
 pub record Ends (groups : List ℕ) (g : ℕ) (ends : List ℕ) : Type 0 where
   pub noted : (c : ℕ) → groupOf c < g → isSet groups c ≡ true → getD ends (groupOf c) 0 ≡ count (groupAt (groupOf c + 1)) (isSet groups)
 
--- each entry that advances where n domains are live has a bit of its own
-pub record OwnBits (e : ℕ) (t : List ℕ) (n : ℕ) (groups : List ℕ) : Type 0 where
-  pub here : (i : ℕ) → i < e → turns n (word1 e t i) ≡ true → isSet groups (cellIn e t i) ≡ true
-  pub apart : (i j : ℕ) → i < e → j < e → turns n (word1 e t i) ≡ true → turns n (word1 e t j) ≡ true → cellIn e t i ≡ cellIn e t j → i ≡ j
-
--- the list after slot i, whose entry has first word w: one that advances stands at the rank of its cell among those of which f holds
+-- the list after slot i, whose entry has first word w, where n domains are live and the cells that advance are those of which f holds: one that
+-- advances stands at the rank of its cell
 unfoldable pub listSlot : (n : ℕ) (f : ℕ → Bool) (w i : ℕ) → List ℕ → List ℕ
-listSlot n f w i places = cond (turns n w) (set places (count (cellOf w) f) i) places
+listSlot n f w i places = cond (turns n f w) (set places (count (cellOf w) f) i) places
+
+-- how many cells advance before that of entry i
+abbrev pub rankOf : ℕ → List ℕ → (f : ℕ → Bool) → ℕ → ℕ
+rankOf e t f i = count (cellIn e t i) f
 
 -- of the first k entries, those that advance are listed
 pub record ListedSlots (e : ℕ) (t : List ℕ) (n : ℕ) (f : ℕ → Bool) (k : ℕ) (places : List ℕ) : Type 0 where
-  pub place : (i : ℕ) → i < k → turns n (word1 e t i) ≡ true → getD places (count (cellIn e t i) f) 0 ≡ i
-
--- how many cells advance before that of entry i
-abbrev pub rankOf : ℕ → List ℕ → ℕ → ℕ
-rankOf e t i = count (cellIn e t i) (advances e t)
+  pub place : (i : ℕ) → i < k → turns n f (word1 e t i) ≡ true → getD places (rankOf e t f i) 0 ≡ i
 
 -- the list has the n entries that advance, each at the rank of its cell
-pub record InOrder (e : ℕ) (t : List ℕ) (n : ℕ) (places : List ℕ) : Type 0 where
+pub record InOrder (e : ℕ) (t : List ℕ) (f : ℕ → Bool) (n : ℕ) (places : List ℕ) : Type 0 where
   pub slot : (r : ℕ) → r < n → getD places r 0 < e
-  pub goes : (r : ℕ) → r < n → turns (innermost t) (word1 e t (getD places r 0)) ≡ true
-  pub rank : (r : ℕ) → r < n → rankOf e t (getD places r 0) ≡ r
-  pub place : (i : ℕ) → i < e → turns (innermost t) (word1 e t i) ≡ true → getD places (rankOf e t i) 0 ≡ i
+  pub goes : (r : ℕ) → r < n → turns (innermost t) f (word1 e t (getD places r 0)) ≡ true
+  pub rank : (r : ℕ) → r < n → rankOf e t f (getD places r 0) ≡ r
+  pub place : (i : ℕ) → i < e → turns (innermost t) f (word1 e t i) ≡ true → getD places (rankOf e t f i) 0 ≡ i
 
 -- ---- what is staged
 
@@ -118,6 +138,5 @@ abbrev pub RoomForListed : ℕ → (places words bits : List ℕ) → Type 0
 RoomForListed n places words bits = ((r : ℕ) → r < n → getD places r 0 < groupAt (length bits)) × (2 * groupAt (length bits) ≤ length words)
 
 -- the change of entry i once the first r entries of the list are staged: of b bodies, each takes the lowest unmarked one that is left
-unfoldable pub changeTo : (e b : ℕ) → (t used : List ℕ) → (r i : ℕ) → Change
-changeTo e b t used r i =
-    cond (ltb (rankOf e t i) r) (changeWith e t (lowestFree b (unmarked used) (advances e t)) i) keep
+unfoldable pub changeTo : (e b : ℕ) → (t used : List ℕ) → (f : ℕ → Bool) → (r i : ℕ) → Change
+changeTo e b t used f r i = cond (ltb (rankOf e t f i) r) (changeWith e t f (lowestFree b (unmarked used) f) i) keep

@@ -1,8 +1,10 @@
-// Advance: every read-write cell of the innermost domain gets memory's bytes, as a copy in a body that was free.
+// Advance: every read-write cell of the innermost domain whose value memory has no more gets memory's bytes, as a copy in a body that was free. The
+// others have them already, and keep kind and body.
 //
 // A body in use is never written, so that a cut leaves the old copies whole. The questions are asked of the entries and not of the cells: there
-// may be 65,536 cells, but no more than 4,096 entries. The entries that advance set their cells' bits, 64 cells to a number, and there is a number
-// for each block of the marks that question 4 made: so they cost what the table has and not what memory has. A walk over the groups that have a
+// may be 65,536 cells, but no more than 4,096 entries. Each innermost read-write entry is compared with memory once (values): by its own body or
+// rule, or by what its chain ends in, for which notes tell where to begin the search. The entries that advance set their cells' bits, 64 cells to a
+// number, and there is a number for each block of the marks that question 4 made: so they cost what the table has and not what memory has. A walk over the groups that have a
 // block notes how many bits there are up to the end of each. That tells the rank of each cell, and a pass over the entries lists the slots of
 // those that advance in the order of their cells. Along the list each cell is copied into the lowest body that is free, and its entry is staged
 // with that body. Then the staged words are written by the journal.
@@ -25,7 +27,12 @@ use marks::many_marks;
 use marks::mark_of;
 use marks::past_blank;
 use marks::some_marks;
+use search::count_used;
 use search::next_free_body;
+use search::notes::few_notes;
+use search::notes::many_notes;
+use search::notes::no_notes;
+use search::notes::note_entries;
 use store::Answer;
 use store::answer_of;
 use store::innermost_check;
@@ -34,16 +41,18 @@ use table::FEW_SLOTS;
 use table::domains::parent_of;
 use table::fields::cell_of;
 use table::fields::depth_of;
+use table::fields::is_via;
 use table::fields::is_writable;
-use table::fields::owns_body;
 use table::fields::to_copy;
 use table::first_word;
 use table::no_bodies;
 use table::reach_of;
+use values::is_unchanged;
 use words::copy_cell;
 use words::layout::CELL_SIZE;
 use words::layout::GROUP_SIZE;
 use words::layout::LIVE_AT;
+use words::layout::bodies_of;
 use words::layout::cells_of;
 use words::layout::slots_of;
 use words::remaining;
@@ -52,109 +61,272 @@ ghost use mathlib.Core.Path.{_≡_};
 ghost use mathlib.Core.Bool.{true, not, _||_};
 ghost use Prim.Native.Nat.{ℕ, _+_, _*_, _≤_, _<_, min};
 ghost use lib.ListN.{length, take, getD};
-ghost use Rattle.store.specs.Checks.{lent};
 ghost use Rattle.words.specs.Layout.{cellAt, cellsOf, bodiesOf, slotsOf, pairsAt, maxSlots, maxCells, maxBodies, maxLive, cellSize, groupAt, groupOf};
 ghost use Rattle.words.specs.Scan.{all, count, nth};
 ghost use Rattle.words.specs.Stores.{stores, gather};
 ghost use Rattle.words.specs.Cells.{cellPlan};
 ghost use Rattle.table.specs.Entry.{live, word1, parent, cellOf, asCopy};
 ghost use Rattle.marks.specs.Blocks.{blockOf, blockAt, maxGroups, directoryEnd, Kept, Enough};
-ghost use Rattle.table.specs.Marks.{Blank, Marked, EndsAt, Reached, RoomForMarks, cellIn, has, markAt, zeros};
+ghost use Rattle.table.specs.Marks.{Blank, CellsOnce, EndsAt, Reached, RoomForMarks, cellIn, has, markAt, zeros};
+ghost use Rattle.table.specs.Rule.{ruleOk};
 ghost use Rattle.table.specs.Changes.{keep, put};
-ghost use Rattle.search.specs.Free.{copies, unmarked};
+ghost use Rattle.search.specs.Free.{unmarked};
 ghost use Rattle.changes.specs.Staged.{RoomFor, Inside, Restaged, Stages};
 ghost use Rattle.store.specs.Outcome.{buffers, report, Makes};
 ghost use Rattle.store.specs.Means.{Shows};
-ghost use Rattle.advance.specs.Advance.{advances, advanceCheck, advanceCall, advanceMeans, turns};
-ghost use Rattle.advance.specs.Notes.{entriesCheck, byGroup, hasBit, BlockBits, markTurning, TurnedBits, Ready, Told, performed, Ends, OwnBits, listSlot, ListedSlots, InOrder, RoomForListed, changeTo};
+ghost use Rattle.advance.specs.Advance.{advances, advanceCheck, advanceCall, advanceMeans};
+ghost use Rattle.advance.specs.Notes.{writes, entryAdvances, entriesCheck, Comparable, byGroup, hasBit, BlockBits, markTurning, ChangedBits, Ready, Told, performed, Ends, listSlot, ListedSlots, InOrder, RoomForListed, changeTo};
 
 // ---- the questions: 0, or the number of the first no
 
-// Does an entry with this first word advance: is it innermost and read-write?
-fn turns_word(word: u32, live: u32) -> bool
-    ensures { λ r. ⌜ r ≡ turns live word ⌝ }
+// Is an entry with this first word innermost and read-write?
+fn writes_word(word: u32, live: u32) -> bool
+    ensures { λ r. ⌜ r ≡ writes live word ⌝ }
 {
     (depth_of(word) == live) & is_writable(word)
 }
 
-// How many bodies there must be: one for each copy, and one more for each entry that advances. It takes no branch on what an entry holds and
-// counts in numbers as wide as a word, so that the compiler can count several entries at once. No entry from `top` on is in use.
-fn bodies_wanted(table: &[u32], slots: usize, top: usize, live: u32) -> usize
-    requires { ⌜ (slots ≤ maxSlots) × (pairsAt slots ≤ length (now table)) × EndsAt slots (now table) top ⌝ }
-    ensures { λ r. ⌜ r ≡ copies slots (now (table .entry)) + count slots (λ i. turns live (word1 slots (now (table .entry)) i)) ⌝ }
-{
-    let mut copies: u32 = 0;
-    let mut turning: u32 = 0;
-    let mut i: usize = 0;
-    while i < top {
-        let word = first_word(table, slots, i);
-        copies += owns_body(word) as u32;
-        turning += turns_word(word, live) as u32;
-        i += 1;
-    }
-    wide(copies + turning)
-}
-
-// Sets the bit of an entry's cell where the entry advances, in the number of its group's block. Any other entry sets no bit: also a free one, whose
-// word names cell 0.
-fn mark_turning(bits: &mut [u64], seen: &[u8], word: u32, live: u32)
-    requires { ⌜ (directoryEnd ≤ length (now seen)) × (blockOf (now seen) (groupOf (cellOf word)) < length (now bits)) ⌝ }
-    ensures { λ _. ⌜ now (bits .exit) ≡ markTurning live word (blockOf (now (seen .entry)) (groupOf (cellOf word))) (now (bits .entry)) ⌝ }
-{
-    let cell = cell_of(word);
-    let b = block_of(seen, group_of(cell));
-    bits[b] = with_bit(bits[b], cell % GROUP_SIZE, turns_word(word, live));
-}
-
-// Sets the bits of the cells of all entries that advance. Returns whether the parent holds all these cells, as the marks of the entries'
-// cells tell: what question 15 asks of a domain with one around it. It takes no branch on what an entry holds.
-fn mark_groups(
-    table: &[u32],
-    slots: usize,
-    top: usize,
-    live: u32,
-    seen: &[u8],
-    bits: &mut [u64],
-) -> bool
-    requires { ⌜ (slots ≤ maxSlots) × (pairsAt slots ≤ length (now table)) × (1 ≤ live) × (live ≤ maxLive) × EndsAt slots (now table) top ⌝ }
-    requires { ⌜ Marked slots (now table) slots (now seen) × Kept (now seen) × (length (now seen) ≤ blockAt (length (now bits))) × Blank (now bits) ⌝ }
-    ensures covered { λ r. ⌜ r
-        ≡ all slots (λ i. not (turns live (word1 slots (now (table .entry)) i)) || has (parent live) (markAt (now (seen .entry)) (word1 slots (now (table .entry)) i))) ⌝ }
-    ensures bits { λ _. ⌜ TurnedBits slots (now (table .entry)) live slots (byGroup (now (seen .entry)) (now (bits .exit))) × (getD (now (bits .exit)) 0 0 ≡ 0) ⌝ }
+// What question 15 asks of a domain with one around it: does the parent hold the cell of every innermost read-write entry, as the marks of these
+// cells tell? It takes no branch on what an entry holds. No entry from `top` on is in use.
+fn parent_covers(table: &[u32], slots: usize, top: usize, live: u32, seen: &[u8]) -> bool
+    requires { ⌜ (slots ≤ maxSlots) × (pairsAt slots ≤ length (now table)) × (1 ≤ live) × (live ≤ maxLive) × EndsAt slots (now table) top × Kept (now seen) ⌝ }
+    ensures { λ r. ⌜ r
+        ≡ all slots (λ i. not (writes live (word1 slots (now (table .entry)) i)) || has (parent live) (markAt (now (seen .entry)) (word1 slots (now (table .entry)) i))) ⌝ }
 {
     let mut good = true;
     let mut i: usize = 0;
     while i < top {
         let word = first_word(table, slots, i);
         let held = has_depth(mark_of(seen, cell_of(word)), parent_of(live));
-        good = good & (!turns_word(word, live) | held);
-        mark_turning(bits, seen, word, live);
+        good = good & (!writes_word(word, live) | held);
         i += 1;
     }
     good
 }
 
-// Questions 15 and 17, asked of the entries: a right table has as many innermost read-write entries as such cells. The bits of the cells of
-// these entries are set on the way.
-fn entries_check(
+// Does entry i advance: is it innermost and read-write, and has memory other bytes than its value? `last` and `before` are notes of places to begin
+// the search for that value at.
+fn entry_advances(
+    memory: &[u8],
+    bodies: &[u8],
     table: &[u32],
     slots: usize,
     top: usize,
-    bodies: usize,
+    live: u32,
+    i: usize,
+    last: &[u16],
+    before: &[u16],
+) -> bool
+    requires { ⌜ (i < slots) × (slots ≤ maxSlots) × (pairsAt slots ≤ length (now table)) × EndsAt slots (now table) top × (1 ≤ live) ⌝ }
+    requires { ⌜ ruleOk (cellsOf (length (now memory))) slots (bodiesOf (length (now bodies))) (now table) ≡ true ⌝ }
+    ensures { λ r. ⌜ r ≡ entryAdvances (now (memory .entry)) (now (bodies .entry)) slots (now (table .entry)) live i ⌝ }
+{
+    if !writes_word(first_word(table, slots, i), live) {
+        return false;
+    }
+    !is_unchanged(memory, bodies, table, slots, top, i, last, before)
+}
+
+// Sets the bit of an entry's cell where the entry advances, in the number of its group's block. Any other entry sets no bit: also a free one, whose
+// word names cell 0.
+fn mark_turning(bits: &mut [u64], seen: &[u8], word: u32, goes: bool)
+    requires { ⌜ (directoryEnd ≤ length (now seen)) × (blockOf (now seen) (groupOf (cellOf word)) < length (now bits)) ⌝ }
+    ensures { λ _. ⌜ now (bits .exit) ≡ markTurning goes word (blockOf (now (seen .entry)) (groupOf (cellOf word))) (now (bits .entry)) ⌝ }
+{
+    let cell = cell_of(word);
+    let b = block_of(seen, group_of(cell));
+    bits[b] = with_bit(bits[b], cell % GROUP_SIZE, goes);
+}
+
+// Sets the bits of the cells of all entries that advance, one comparison for each innermost read-write entry, and gives how many these are.
+fn mark_changed(
+    memory: &[u8],
+    bodies: &[u8],
+    table: &[u32],
+    slots: usize,
+    top: usize,
+    live: u32,
+    seen: &[u8],
+    last: &[u16],
+    before: &[u16],
+    bits: &mut [u64],
+) -> usize
+    requires { ⌜ Comparable (now memory) (now bodies) slots (now table) top live (now seen) ⌝ }
+    requires { ⌜ (length (now seen) ≤ blockAt (length (now bits))) × Blank (now bits) ⌝ }
+    ensures counted { λ r. ⌜ r ≡ count slots (entryAdvances (now (memory .entry)) (now (bodies .entry)) slots (now (table .entry)) live) ⌝ }
+    ensures bits { λ _. ⌜ ChangedBits (now (memory .entry)) (now (bodies .entry)) slots (now (table .entry)) live (now (seen .entry)) (now (bits .exit)) ⌝ }
+{
+    let mut n: usize = 0;
+    let mut i: usize = 0;
+    while i < top {
+        let goes = entry_advances(memory, bodies, table, slots, top, live, i, last, before);
+        n += goes as usize;
+        mark_turning(bits, seen, first_word(table, slots, i), goes);
+        i += 1;
+    }
+    n
+}
+
+// The same with no notes, where no search is made.
+fn changed_plain(
+    memory: &[u8],
+    bodies: &[u8],
+    table: &[u32],
+    slots: usize,
+    top: usize,
+    live: u32,
+    seen: &[u8],
+    bits: &mut [u64],
+) -> usize
+    requires { ⌜ Comparable (now memory) (now bodies) slots (now table) top live (now seen) ⌝ }
+    requires { ⌜ (length (now seen) ≤ blockAt (length (now bits))) × Blank (now bits) ⌝ }
+    ensures counted { λ r. ⌜ r ≡ count slots (entryAdvances (now (memory .entry)) (now (bodies .entry)) slots (now (table .entry)) live) ⌝ }
+    ensures bits { λ _. ⌜ ChangedBits (now (memory .entry)) (now (bodies .entry)) slots (now (table .entry)) live (now (seen .entry)) (now (bits .exit)) ⌝ }
+{
+    let notes = no_notes();
+    mark_changed(
+        memory,
+        bodies,
+        table,
+        slots,
+        top,
+        live,
+        seen,
+        &notes,
+        &notes,
+        bits,
+    )
+}
+
+// With notes of few entries.
+fn changed_few(
+    memory: &[u8],
+    bodies: &[u8],
+    table: &[u32],
+    slots: usize,
+    top: usize,
+    live: u32,
+    seen: &[u8],
+    bits: &mut [u64],
+) -> usize
+    requires { ⌜ Comparable (now memory) (now bodies) slots (now table) top live (now seen) ⌝ }
+    requires { ⌜ (length (now seen) ≤ blockAt (length (now bits))) × Blank (now bits) ⌝ }
+    ensures counted { λ r. ⌜ r ≡ count slots (entryAdvances (now (memory .entry)) (now (bodies .entry)) slots (now (table .entry)) live) ⌝ }
+    ensures bits { λ _. ⌜ ChangedBits (now (memory .entry)) (now (bodies .entry)) slots (now (table .entry)) live (now (seen .entry)) (now (bits .exit)) ⌝ }
+{
+    let mut last = few_notes();
+    let mut before = few_notes();
+    note_entries(table, slots, top, &mut last, &mut before);
+    mark_changed(
+        memory,
+        bodies,
+        table,
+        slots,
+        top,
+        live,
+        seen,
+        &last,
+        &before,
+        bits,
+    )
+}
+
+// With notes of as many as there can be.
+fn changed_many(
+    memory: &[u8],
+    bodies: &[u8],
+    table: &[u32],
+    slots: usize,
+    top: usize,
+    live: u32,
+    seen: &[u8],
+    bits: &mut [u64],
+) -> usize
+    requires { ⌜ Comparable (now memory) (now bodies) slots (now table) top live (now seen) ⌝ }
+    requires { ⌜ (length (now seen) ≤ blockAt (length (now bits))) × Blank (now bits) ⌝ }
+    ensures counted { λ r. ⌜ r ≡ count slots (entryAdvances (now (memory .entry)) (now (bodies .entry)) slots (now (table .entry)) live) ⌝ }
+    ensures bits { λ _. ⌜ ChangedBits (now (memory .entry)) (now (bodies .entry)) slots (now (table .entry)) live (now (seen .entry)) (now (bits .exit)) ⌝ }
+{
+    let mut last = many_notes();
+    let mut before = many_notes();
+    note_entries(table, slots, top, &mut last, &mut before);
+    mark_changed(
+        memory,
+        bodies,
+        table,
+        slots,
+        top,
+        live,
+        seen,
+        &last,
+        &before,
+        bits,
+    )
+}
+
+// Is one of the entries via parent? Of the others each has its value itself, so that nothing is searched for. It takes no branch on what an entry
+// holds, and is asked for the time's sake alone.
+fn any_via(table: &[u32], slots: usize, top: usize) -> bool
+    requires { ⌜ (slots ≤ maxSlots) × (pairsAt slots ≤ length (now table)) × (top ≤ slots) ⌝ }
+{
+    let mut any = false;
+    let mut i: usize = 0;
+    while i < top {
+        any = any | is_via(first_word(table, slots, i));
+        i += 1;
+    }
+    any
+}
+
+// With notes where there is something to search for, as many as the entries below `top` need.
+fn changed_cells(
+    memory: &[u8],
+    bodies: &[u8],
+    table: &[u32],
+    slots: usize,
+    top: usize,
+    live: u32,
+    seen: &[u8],
+    bits: &mut [u64],
+) -> usize
+    requires { ⌜ Comparable (now memory) (now bodies) slots (now table) top live (now seen) ⌝ }
+    requires { ⌜ (length (now seen) ≤ blockAt (length (now bits))) × Blank (now bits) ⌝ }
+    ensures counted { λ r. ⌜ r ≡ count slots (entryAdvances (now (memory .entry)) (now (bodies .entry)) slots (now (table .entry)) live) ⌝ }
+    ensures bits { λ _. ⌜ ChangedBits (now (memory .entry)) (now (bodies .entry)) slots (now (table .entry)) live (now (seen .entry)) (now (bits .exit)) ⌝ }
+{
+    if !any_via(table, slots, top) {
+        return changed_plain(memory, bodies, table, slots, top, live, seen, bits);
+    }
+    if top <= FEW_SLOTS {
+        return changed_few(memory, bodies, table, slots, top, live, seen, bits);
+    }
+    changed_many(memory, bodies, table, slots, top, live, seen, bits)
+}
+
+// Questions 15 and 17, asked of the entries: a right table has as many entries that advance as such cells. The bits of the cells of these entries
+// are set on the way.
+fn entries_check(
+    memory: &[u8],
+    bodies: &[u8],
+    table: &[u32],
+    slots: usize,
+    top: usize,
     seen: &[u8],
     bits: &mut [u64],
 ) -> u32
-    requires { ⌜ (slots ≤ maxSlots) × (pairsAt slots ≤ length (now table)) × (1 ≤ live (now table)) × (live (now table) ≤ maxLive) × EndsAt slots (now table) top ⌝ }
-    requires { ⌜ Marked slots (now table) slots (now seen) × Kept (now seen) × (length (now seen) ≤ blockAt (length (now bits))) × Blank (now bits) ⌝ }
-    ensures no { λ r. ⌜ r ≡ entriesCheck slots bodies (now (table .entry)) ⌝ }
-    ensures bits { λ _. ⌜ TurnedBits slots (now (table .entry)) (live (now (table .entry))) slots (byGroup (now (seen .entry)) (now (bits .exit))) × (getD (now (bits .exit)) 0 0 ≡ 0) ⌝ }
+    requires { ⌜ Comparable (now memory) (now bodies) slots (now table) top (live (now table)) (now seen) ⌝ }
+    requires { ⌜ (length (now seen) ≤ blockAt (length (now bits))) × Blank (now bits) ⌝ }
+    ensures no { λ r. ⌜ r ≡ entriesCheck (now (memory .entry)) (now (bodies .entry)) slots (now (table .entry)) ⌝ }
+    ensures bits { λ r. ⌜ (r ≡ 0 → ChangedBits (now (memory .entry)) (now (bodies .entry)) slots (now (table .entry)) (live (now (table .entry))) (now (seen .entry)) (now (bits .exit))) ⌝ }
 {
     let live = table[LIVE_AT];
-    let covered = mark_groups(table, slots, top, live, seen, bits);
+    let covered = parent_covers(table, slots, top, live, seen);
     if !((live <= 1) | covered) {
         return 15;
     }
-    if bodies < bodies_wanted(table, slots, top, live) {
+    let k = changed_cells(memory, bodies, table, slots, top, live, seen, bits);
+    let used = count_used(table, slots, top);
+    if bodies_of(bodies.len()) < used.copies + k {
         return 17;
     }
     0
@@ -162,8 +334,8 @@ fn entries_check(
 
 // The questions put to advance. Once no question refuses the call, the bodies in use are marked, and the cells that advance have their bits.
 fn advance_check(
-    memory: usize,
-    bodies: usize,
+    memory: &[u8],
+    bodies: &[u8],
     table: &[u32],
     top: usize,
     handle: u32,
@@ -171,12 +343,13 @@ fn advance_check(
     used: &mut [u8],
     bits: &mut [u64],
 ) -> u32
-    requires room { ⌜ RoomForMarks (now table) (cellsOf memory) top (now seen) (now used) ⌝ }
+    requires room { ⌜ RoomForMarks (now table) (cellsOf (length (now memory))) top (now seen) (now used) ⌝ }
     requires blank { ⌜ (length (now seen) ≤ blockAt (length (now bits))) × Blank (now bits) ⌝ }
-    ensures no { λ r. ⌜ r ≡ advanceCheck (lent memory bodies (now (table .entry))) handle ⌝ }
-    ensures ready { λ r. ⌜ (r ≡ 0 → Ready memory bodies (now (table .entry)) (now (used .exit)) × Told (now (table .entry)) top (now (seen .exit)) (now (bits .exit))) ⌝ }
+    ensures no { λ r. ⌜ r ≡ advanceCheck (buffers (now (memory .entry)) (now (bodies .entry)) (now (table .entry))) handle ⌝ }
+    ensures ready { λ r. ⌜ (r ≡ 0 → Ready (buffers (now (memory .entry)) (now (bodies .entry)) (now (table .entry))) (now (used .exit))
+        × Told (buffers (now (memory .entry)) (now (bodies .entry)) (now (table .entry))) top (now (seen .exit)) (now (bits .exit))) ⌝ }
 {
-    let no = store_check(memory, bodies, table, top, seen, used);
+    let no = store_check(memory.len(), bodies.len(), table, top, seen, used);
     if no != 0 {
         return no;
     }
@@ -185,10 +358,11 @@ fn advance_check(
         return outer;
     }
     entries_check(
+        memory,
+        bodies,
         table,
         slots_of(table.len()),
         top,
-        cells_of(bodies),
         seen,
         bits,
     )
@@ -227,7 +401,16 @@ fn rank_of(seen: &[u8], bits: &[u64], ends: &[u16], cell: usize) -> usize
     ends[b] as usize - wide(u64::count_ones(bits[b] >> (cell % GROUP_SIZE)))
 }
 
-// Puts slot i into the list if its entry advances, at the rank of its cell.
+// Has a cell its bit?
+fn has_bit(seen: &[u8], bits: &[u64], cell: usize) -> bool
+    requires { ⌜ BlockBits (now seen) (now bits) × (cell < maxCells) ⌝ }
+    ensures { λ r. ⌜ r ≡ hasBit (now (seen .entry)) (now (bits .entry)) cell ⌝ }
+{
+    let b = block_of(seen, group_of(cell));
+    (bits[b] >> (cell % GROUP_SIZE)) % 2 == 1
+}
+
+// Puts slot i into the list if its entry advances, at the rank of its cell: if it is innermost, and its cell has its bit.
 fn list_slot(
     table: &[u32],
     slots: usize,
@@ -242,14 +425,14 @@ fn list_slot(
     requires sized { ⌜ BlockBits (now seen) (now bits) × (length (now ends) ≡ length (now bits)) ⌝ }
     requires noted { ⌜ Ends (byGroup (now seen) (now bits)) maxGroups (byGroup (now seen) (now ends)) ⌝ }
     requires room { ⌜ count maxCells (hasBit (now seen) (now bits)) ≤ length (now places) ⌝ }
-    requires own { ⌜ OwnBits slots (now table) live (byGroup (now seen) (now bits)) ⌝ }
     ensures { λ _. ⌜ now (places .exit) ≡ listSlot live (hasBit (now (seen .entry)) (now (bits .entry))) (word1 slots (now (table .entry)) i) i (now (places .entry)) ⌝ }
 {
     let word = first_word(table, slots, i);
-    if !turns_word(word, live) {
+    let cell = cell_of(word);
+    if !((depth_of(word) == live) & has_bit(seen, bits, cell)) {
         return;
     }
-    places[rank_of(seen, bits, ends, cell_of(word))] = i as u16;
+    places[rank_of(seen, bits, ends, cell)] = i as u16;
 }
 
 // Lists the slots of all entries that advance, in the order of their cells. Returns how many there are.
@@ -267,7 +450,7 @@ fn list_slots(
     requires sized { ⌜ BlockBits (now seen) (now bits) × (length (now ends) ≡ length (now bits)) ⌝ }
     requires inside { ⌜ (groups ≤ maxGroups) × Inside (groupAt groups) (byGroup (now seen) (now bits)) ⌝ }
     requires room { ⌜ count maxCells (hasBit (now seen) (now bits)) ≤ min maxSlots (length (now places)) ⌝ }
-    requires own { ⌜ OwnBits slots (now table) (live (now table)) (byGroup (now seen) (now bits)) ⌝ }
+    requires once { ⌜ CellsOnce slots (now table) slots × (1 ≤ live (now table)) ⌝ }
     ensures counted { λ r. ⌜ r ≡ count maxCells (hasBit (now (seen .entry)) (now (bits .entry))) ⌝ }
     ensures listed { λ _. ⌜ ListedSlots slots (now (table .entry)) (live (now (table .entry))) (hasBit (now (seen .entry)) (now (bits .entry))) slots (now (places .exit)) ⌝ }
 {
@@ -324,13 +507,14 @@ fn copy_listed(
 )
     requires small { ⌜ (slots ≤ maxSlots) × (pairsAt slots ≤ length (now table)) × (n ≤ slots) × (n ≤ length (now places)) ⌝ }
     requires free { ⌜ (bodiesOf (length (now bodies)) ≤ maxBodies) × (length (now used) ≡ maxBodies) × (n ≤ count (bodiesOf (length (now bodies))) (unmarked (now used))) ⌝ }
-    requires listed { ⌜ InOrder slots (now table) n (now places) × ((r : ℕ) → r < n → cellAt (cellIn slots (now table) (getD (now places) r 0)) + cellSize ≤ length (now memory)) ⌝ }
+    requires listed { ⌜ InOrder slots (now table) (advances (buffers (now memory) (now bodies) (now table))) n (now places) × ((r : ℕ) → r < n → cellAt (cellIn slots (now table) (getD (now places) r 0)) + cellSize ≤ length (now memory)) ⌝ }
     requires room { ⌜ RoomForListed n (now places) (now words) (now changed) ⌝ }
     requires blank { ⌜ Stages 0 (λ _. keep) (now words) (now changed) ⌝ }
     ensures bytes { λ _. ⌜ now (bodies .exit)
         ≡ stores (take budget (gather n (λ r. cellPlan (now (memory .entry)) (cellIn slots (now (table .entry)) (getD (now (places .entry)) r 0))
         (nth (bodiesOf (length (now (bodies .entry)))) (unmarked (now (used .entry))) r)))) (now (bodies .entry)) ⌝ }
-    ensures staged { λ _. ⌜ Stages slots (changeTo slots (bodiesOf (length (now (bodies .entry)))) (now (table .entry)) (now (used .entry)) n)
+    ensures staged { λ _. ⌜ Stages slots (changeTo slots (bodiesOf (length (now (bodies .entry)))) (now (table .entry)) (now (used .entry))
+        (advances (buffers (now (memory .entry)) (now (bodies .entry)) (now (table .entry)))) n)
         (now (words .exit)) (now (changed .exit)) ⌝ }
 {
     let total = cells_of(bodies.len());
@@ -358,9 +542,9 @@ fn store_listed(
     changed: &mut [u64],
     budget: usize,
 ) -> Answer
-    requires ready { ⌜ Ready (length (now memory)) (length (now bodies)) (now table) (now used) × (length (now used) ≡ maxBodies) ⌝ }
-    requires listed { ⌜ InOrder (slotsOf (length (now table))) (now table) n (now places) × (n ≤ length (now places)) ⌝ }
-    requires counted { ⌜ n ≡ count (cellsOf (length (now memory))) (advances (slotsOf (length (now table))) (now table)) ⌝ }
+    requires ready { ⌜ Ready (buffers (now memory) (now bodies) (now table)) (now used) × (length (now used) ≡ maxBodies) ⌝ }
+    requires listed { ⌜ InOrder (slotsOf (length (now table))) (now table) (advances (buffers (now memory) (now bodies) (now table))) n (now places) × (n ≤ length (now places)) ⌝ }
+    requires counted { ⌜ n ≡ count (cellsOf (length (now memory))) (advances (buffers (now memory) (now bodies) (now table))) ⌝ }
     requires room { ⌜ RoomForListed n (now places) (now words) (now changed) ⌝ }
     requires blank { ⌜ Stages 0 (λ _. keep) (now words) (now changed) ⌝ }
     ensures { λ r. ⌜ Makes performed budget (buffers (now (memory .entry)) (now (bodies .entry)) (now (table .entry)))
@@ -402,8 +586,8 @@ fn advance_marked(
     changed: &mut [u64],
     budget: usize,
 ) -> Answer
-    requires ready { ⌜ Ready (length (now memory)) (length (now bodies)) (now table) (now used) × (length (now used) ≡ maxBodies) ⌝ }
-    requires told { ⌜ Told (now table) top (now seen) (now bits) ⌝ }
+    requires ready { ⌜ Ready (buffers (now memory) (now bodies) (now table)) (now used) × (length (now used) ≡ maxBodies) ⌝ }
+    requires told { ⌜ Told (buffers (now memory) (now bodies) (now table)) top (now seen) (now bits) ⌝ }
     requires list { ⌜ (length (now ends) ≡ length (now bits)) × (top ≤ length (now places)) ⌝ }
     requires room { ⌜ RoomFor top (now words) (now changed) ⌝ }
     requires blank { ⌜ Stages 0 (λ _. keep) (now words) (now changed) ⌝ }
@@ -479,8 +663,8 @@ fn store_few(
     ends: &mut [u16],
     budget: usize,
 ) -> Answer
-    requires ready { ⌜ Ready (length (now memory)) (length (now bodies)) (now table) (now used) × (length (now used) ≡ maxBodies) ⌝ }
-    requires told { ⌜ Told (now table) top (now seen) (now bits) ⌝ }
+    requires ready { ⌜ Ready (buffers (now memory) (now bodies) (now table)) (now used) × (length (now used) ≡ maxBodies) ⌝ }
+    requires told { ⌜ Told (buffers (now memory) (now bodies) (now table)) top (now seen) (now bits) ⌝ }
     requires sized { ⌜ (length (now ends) ≡ length (now bits)) × (top ≤ 256) ⌝ }
     ensures { λ r. ⌜ Makes performed budget (buffers (now (memory .entry)) (now (bodies .entry)) (now (table .entry)))
         (report r) (buffers (now (memory .entry)) (now (bodies .exit)) (now (table .exit))) ⌝ }
@@ -516,8 +700,8 @@ fn store_many(
     ends: &mut [u16],
     budget: usize,
 ) -> Answer
-    requires ready { ⌜ Ready (length (now memory)) (length (now bodies)) (now table) (now used) × (length (now used) ≡ maxBodies) ⌝ }
-    requires told { ⌜ Told (now table) top (now seen) (now bits) ⌝ }
+    requires ready { ⌜ Ready (buffers (now memory) (now bodies) (now table)) (now used) × (length (now used) ≡ maxBodies) ⌝ }
+    requires told { ⌜ Told (buffers (now memory) (now bodies) (now table)) top (now seen) (now bits) ⌝ }
     requires sized { ⌜ length (now ends) ≡ length (now bits) ⌝ }
     ensures { λ r. ⌜ Makes performed budget (buffers (now (memory .entry)) (now (bodies .entry)) (now (table .entry)))
         (report r) (buffers (now (memory .entry)) (now (bodies .exit)) (now (table .exit))) ⌝ }
@@ -553,8 +737,8 @@ fn advance_stored(
     ends: &mut [u16],
     budget: usize,
 ) -> Answer
-    requires ready { ⌜ Ready (length (now memory)) (length (now bodies)) (now table) (now used) × (length (now used) ≡ maxBodies) ⌝ }
-    requires told { ⌜ Told (now table) top (now seen) (now bits) ⌝ }
+    requires ready { ⌜ Ready (buffers (now memory) (now bodies) (now table)) (now used) × (length (now used) ≡ maxBodies) ⌝ }
+    requires told { ⌜ Told (buffers (now memory) (now bodies) (now table)) top (now seen) (now bits) ⌝ }
     requires sized { ⌜ length (now ends) ≡ length (now bits) ⌝ }
     ensures { λ r. ⌜ Makes performed budget (buffers (now (memory .entry)) (now (bodies .entry)) (now (table .entry)))
         (report r) (buffers (now (memory .entry)) (now (bodies .exit)) (now (table .exit))) ⌝ }
@@ -584,16 +768,7 @@ fn advance_asked(
     ensures { λ r. ⌜ Makes (advanceCall handle) budget (buffers (now (memory .entry)) (now (bodies .entry)) (now (table .entry)))
         (report r) (buffers (now (memory .entry)) (now (bodies .exit)) (now (table .exit))) ⌝ }
 {
-    let no = advance_check(
-        memory.len(),
-        bodies.len(),
-        table,
-        top,
-        handle,
-        seen,
-        used,
-        bits,
-    );
+    let no = advance_check(memory, bodies, table, top, handle, seen, used, bits);
     if no != 0 {
         return Answer::Refused(no);
     }
@@ -693,7 +868,7 @@ fn advance_many(
     )
 }
 
-// Gives every read-write cell of the innermost domain memory's bytes, as a copy. Read-only cells keep theirs.
+// Gives every read-write cell of the innermost domain memory's bytes: as a copy where they are not its value already. Read-only cells keep theirs.
 pub fn advance(
     memory: &[u8],
     bodies: &mut [u8],

@@ -159,7 +159,7 @@ facts (changes (advance h)) b = record {
   shows = λ k. advance-means h k b ∙ plain _ k b;
   pends = λ k good. advance-pending h k b good;
   planned = advance-planned b h;
-  fine = fine-refuse (advanceChecks (roomOf b) h (stateOf b)) _ _ _ _ (advance-fine (roomOf b) (b .memory) (stateOf b) h);
+  fine = fine-refuse (advanceChecks (roomOf b) (b .memory) h (stateOf b)) _ _ _ _ (advance-fine (roomOf b) (b .memory) (stateOf b) h);
   dead = λ a e d. rw (not-live h a (stateOf b) e d);
 }
 facts (changes (commit h)) b = record {

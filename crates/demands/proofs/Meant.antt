@@ -31,7 +31,7 @@ use Rattle.store.proofs.Means.{visibleOf, long, make-means, open-means}
 use Rattle.store.proofs.Pending.{afterPending}
 use Rattle.store.proofs.Standing.{stands-for, only-state}
 use Rattle.add.proofs.Added.{add-takes, add-is, add-with-means, add-with-reopens}
-use Rattle.advance.proofs.Advanced.{advance-takes, advance-is, advance-with-means, advance-with-reopens}
+use Rattle.advance.proofs.Advanced.{advance-takes, advance-is, advance-steps, advance-with-means, advance-with-reopens}
 use Rattle.look.proofs.Placing.{look-means, look-within}
 use Rattle.look.proofs.Shown.{look-tells}
 use Rattle.demands.specs.Session.{callOn}
@@ -143,6 +143,7 @@ demand-2 = record {
   advance-takes = advance-takes;
   advance-is = advance-is;
   advance-any = λ h b body may. record { shown = advance-with-means h b body may; reopens = advance-with-reopens h b body may };
+  advance-steps = λ h b pass k. advance-steps b h pass k;
   stands = stands-for;
   one-state = λ b s e. only-state b e s;
   reached = reached;

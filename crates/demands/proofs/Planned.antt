@@ -105,10 +105,8 @@ module _ (b : Buffers) where
   pub advance-planned : (h : ℕ) → Planned (λ k. outcome (advanceCall h b) k b) b
   unfolding advanceCall
   advance-planned h =
-      let bytes = advanceBytes (cellsOf (length (b .memory))) (bodiesOf (length (b .bodies))) (b .memory) (b .table) in
-      let ws = advanceWords (bodiesOf (length (b .bodies))) (b .table) in
-      change-planned _ b (advanceCheck (lentOf b) h) bytes ws 0 (λ k. refl)
-      (λ q. at-most (change-length (pairsAt (slots b)) bytes ws) (advance-bound (b .memory) (b .bodies) (b .table) h q))
+      change-planned _ b (advanceCheck b h) (advanceBytes b) (advanceWords b) 0 (λ k. refl)
+      (λ q. at-most (change-length (pairsAt (slots b)) (advanceBytes b) (advanceWords b)) (advance-bound b h q))
 
   pub commit-planned : (h : ℕ) → Planned (λ k. outcome (commitCall h b) k b) b
   unfolding commitCall

@@ -11,7 +11,7 @@ use Rattle.words.specs.Journal.{pending}
 use Rattle.model.specs.State.{State}
 use Rattle.model.specs.Answer.{ask, orElse}
 use Rattle.model.specs.Calls.{Effect, refuse, change, orRefuse, createChecks}
-use Rattle.model.specs.Holdings.{Room, named, holdingAt, isHeld, heldVia, isVia, isSome, ruleOf, hasBody, liveEntries, copiesInUse, isLive, isInnermost, rangeOk, kindNumbered, newlyHeld, parentHolds, parentSame, ruleFits, parentPlain, writableCells, parentCovers, addChecks, deleteChecks, advanceChecks, commitChecks}
+use Rattle.model.specs.Holdings.{Room, named, holdingAt, isHeld, heldVia, isVia, isSome, ruleOf, hasBody, liveEntries, copiesInUse, isLive, isInnermost, rangeOk, kindNumbered, newlyHeld, parentHolds, parentSame, ruleFits, parentPlain, changedCells, parentCovers, addChecks, deleteChecks, advanceChecks, commitChecks}
 use Rattle.model.specs.Restore.{restoreChecks, lookChecks}
 use Rattle.store.specs.Outcome.{Buffers}
 use Rattle.store.specs.Checks.{shapeCheck, tableCheck, makeCheck, openCheck, storeCheck, lentOf}
@@ -102,12 +102,12 @@ module _ (room : Room) (memory : List ℕ) (s : State) where
       (fine-ask (all n (λ j. isHeld (holdingAt (s .domains) (named h s) (first + j)))) 13 _ refl
       (fine-ask (all n (λ j. not (heldVia (holdingAt (s .domains) (suc (named h s)) (first + j))))) 14 0 refl fine-none)))
 
-  pub advance-fine : (h : ℕ) → Fine (advanceChecks room h s)
+  pub advance-fine : (h : ℕ) → Fine (advanceChecks room memory h s)
   advance-fine h =
       fine-ask (isLive h s) 5 _ refl
       (fine-ask (isInnermost h s) 6 _ refl
       (fine-ask (parentCovers (room .cells) s) 15 _ refl
-      (fine-ask (leb (copiesInUse (room .cells) s + writableCells (room .cells) s) (room .bodies)) 17 0 refl fine-none)))
+      (fine-ask (leb (copiesInUse (room .cells) s + changedCells (room .cells) memory s) (room .bodies)) 17 0 refl fine-none)))
 
   pub commit-fine : (h : ℕ) → Fine (commitChecks h s)
   commit-fine h = fine-ask (isLive h s) 5 _ refl (fine-ask (isInnermost h s) 6 0 refl fine-none)

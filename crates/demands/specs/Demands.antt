@@ -11,11 +11,12 @@ use mathlib.Core.Path.{_≡_}
 use lib.Dec.{leb, eqb}
 use lib.ListN.{length, take}
 use Rattle.words.specs.Layout.{cellsOf, bodiesOf}
+use Rattle.words.specs.Scan.{count}
 use Rattle.words.specs.Journal.{pending}
 use Rattle.table.specs.Checks.{lengthsOk, headerOk}
 use Rattle.table.specs.Rule.{tableOk}
 use Rattle.model.specs.State.{State}
-use Rattle.model.specs.Answer.{Status, isDone, isStopped, isRefused, done, refused, View}
+use Rattle.model.specs.Answer.{Status, isDone, isStopped, isRefused, done, refused, ended, View}
 use Rattle.model.specs.Calls.{change, makeSteps, listed}
 use Rattle.model.specs.Holdings.{named, isLive, isInnermost, rangeOk}
 use Rattle.model.specs.History.{create, add, delete, advance, commit, list, look, Request, changes, restore, reads, History, Tracked, begun, finished, trackedAt, mismatches, counts, historyAfter}
@@ -28,7 +29,7 @@ use Rattle.store.specs.Means.{visibleOf, orRefused, Reopens, makeMeans, openMea
 use Rattle.add.specs.Add as add-calls
 use Rattle.add.specs.Add.{addCall, addMeans}
 use Rattle.add.specs.Choice as adding
-use Rattle.advance.specs.Advance.{advanceCall, bodyFor, advanceMeans}
+use Rattle.advance.specs.Advance.{advances, advanceCheck, advanceCall, bodyFor, advanceMeans}
 use Rattle.advance.specs.Choice as advancing
 use Rattle.look.specs.Look.{lookPlace, placeByState, placeWithin, shownAt, lookMeans}
 use Rattle.begin.proofs.make.Statement as make-contract
@@ -198,8 +199,9 @@ lowestSlot first b = add-calls.slotFor (slots b) (b .table) first
 abbrev pub lowestBody : (first : ℕ) → Buffers → (j : ℕ) → ℕ
 lowestBody first b = add-calls.bodyFor (slots b) (bodiesOf (length (b .bodies))) (b .table) first
 
-abbrev pub advanceBody : Buffers → (c : ℕ) → ℕ
-advanceBody b = bodyFor (slots b) (bodiesOf (length (b .bodies))) (b .table)
+-- "With k such cells an advance takes at most 70k + 2 steps, and none when k is 0": of n cells that advance, exactly so many
+abbrev pub advanceSteps : (n : ℕ) → ℕ
+advanceSteps n = cond (eqb n 0) 0 (70 * n + 2)
 
 pub record Means (call : Call) (means : (k : ℕ) → View) (b : Buffers) : Type 0 where
   pub shown : (k : ℕ) → visibleOf (outcome call k b) ≡ means k
@@ -264,9 +266,12 @@ pub record Demand2 : Type 0 where
   pub add-is : (h first n kind rule label : ℕ) (b : Buffers) → addCall h first n kind rule label b ≡ adding.addWith (lowestSlot first b) (lowestBody first b) h first n kind rule label b
   pub add-any : (h first n kind rule label : ℕ) (b : Buffers) (slot body : ℕ → ℕ) → adding.MayTake h first n kind rule label b slot body
       → Means (adding.addWith slot body h first n kind rule label b) (λ k. addMeans h first n kind rule label k b) b
-  pub advance-takes : (h : ℕ) (b : Buffers) → advancing.MayTake h b (advanceBody b)
-  pub advance-is : (h : ℕ) (b : Buffers) → advanceCall h b ≡ advancing.advanceWith (advanceBody b) h b
+  pub advance-takes : (h : ℕ) (b : Buffers) → advancing.MayTake h b (bodyFor b)
+  pub advance-is : (h : ℕ) (b : Buffers) → advanceCall h b ≡ advancing.advanceWith (bodyFor b) h b
   pub advance-any : (h : ℕ) (b : Buffers) (body : ℕ → ℕ) → advancing.MayTake h b body → Means (advancing.advanceWith body h b) (λ k. advanceMeans h k b) b
+  -- an advance that no question refuses is done in so many steps, or stopped; where no cell advances it is done at every budget
+  pub advance-steps : (h : ℕ) (b : Buffers) → advanceCheck b h ≡ 0 → (k : ℕ)
+      → (outcome (advanceCall h b) k b) .report ≡ ended (advanceSteps (count (cellsOf (length (b .memory))) (advances b))) 0 k
   -- "A table that opening accepts stands for one state of domains and holdings"
   pub stands : (b : Buffers) → opens b ≡ 0 → StandsFor (slots b) (effectiveTable b) (b .bodies) (stateOf b)
   pub one-state : (b : Buffers) (s : State) → opens b ≡ 0 → StandsFor (slots b) (effectiveTable b) (b .bodies) s → s ≡ stateOf b

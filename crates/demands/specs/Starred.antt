@@ -16,10 +16,11 @@ use Rattle.demands.specs.Session.{inputOn}
 
 -- ---- edges as data
 
--- A call, and the number that it must answer, 0 for done; a program write that fills a cell with one byte ("cells are filled with one byte");
+-- A call, and the number that it must answer, 0 for done; one that must be done in so many steps; a program write that fills a cell with one byte ("cells are filled with one byte");
 -- and what must be seen: the byte that fills each cell of memory, and the number of live domains that list gives.
 pub data Act : Type 0 where
   calls : Request → (number : ℕ) → Act
+  takes : Changing → (steps : ℕ) → Act
   fill : (cell byte : ℕ) → Act
   shows : (memory : List ℕ) → Act
   lists : (domains : ℕ) → Act
@@ -92,9 +93,11 @@ starred =
     -- "Delete cell 0 from 1 while 2 holds it via parent: 14."
     ∷ usual (does create ∷ does (add 1 0 1 byCopy noRule readWrite) ∷ does create ∷ does (add 2 0 1 viaParent noRule readWrite) ∷ gives (delete 1 0 1) 14
     ∷ [])
-    -- "B = 1, one read-write copy, advance: 17. B = 2: done."
-    ∷ (scenario 4 8 1 (does create ∷ does (add 1 0 1 byCopy noRule readWrite) ∷ gives (advance 1) 17 ∷ [])
-    ∷ scenario 4 8 2 (does create ∷ does (add 1 0 1 byCopy noRule readWrite) ∷ does (advance 1) ∷ []) ∷ [])
+    -- "B = 1, one read-write copy, advance: 17. B = 2: done." By document 02 "The earlier case with B = 1 is refused only after a write that changes it"
+    ∷ (scenario 4 8 1 (does create ∷ does (add 1 0 1 byCopy noRule readWrite) ∷ fill 0 9 ∷ gives (advance 1) 17 ∷ [])
+    ∷ scenario 4 8 1 (does create ∷ does (add 1 0 1 byCopy noRule readWrite) ∷ takes (advance 1) 0 ∷ [])
+    ∷ scenario 4 8 2 (does create ∷ does (add 1 0 1 byCopy noRule readWrite) ∷ fill 0 9 ∷ takes (advance 1) 72 ∷ fill 0 11 ∷ restores 1
+    ∷ shows (9 ∷ 1 ∷ 1 ∷ 1 ∷ []) ∷ []) ∷ [])
     -- "E = 1, cell 0 held: add cells 0 and 1 gives 16; add cell 0 is done."
     ∷ (scenario 4 1 8 (does create ∷ does (add 1 0 1 byCopy noRule readWrite) ∷ gives (add 1 0 2 byCopy noRule readWrite) 16
     ∷ does (add 1 0 1 byCopy noRule readWrite) ∷ []) ∷ [])
@@ -116,6 +119,7 @@ enough = 1_000
 -- what an act leaves, by the step of a session; to see changes nothing
 abbrev pub actOutcome : Act → Buffers → Outcome
 actOutcome (calls c n) b = inputOn (call c enough) b
+actOutcome (takes c n) b = inputOn (call (changes c) enough) b
 actOutcome (fill c v) b = inputOn (write (tab 64 (λ j. cellAt c + j ≔ v))) b
 actOutcome (shows bytes) b = leaves (done 0 0) b
 actOutcome (lists n) b = leaves (done 0 0) b
@@ -144,6 +148,7 @@ filled (v ∷ vs) = replicate 64 v ++ filled vs
 -- is that what the act must show? All of memory is compared
 abbrev pub asExpected : Act → Outcome → Bool
 asExpected (calls c n) o = answers n (o .report)
+asExpected (takes c n) o = answers 0 (o .report) && eqb (o .report .steps) n
 asExpected (fill c v) o = true
 asExpected (shows bytes) o = sameBytes (o .buffers .memory) (filled bytes)
 asExpected (lists n) o = eqb (listMeans (o .buffers) .count) n

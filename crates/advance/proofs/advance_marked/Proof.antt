@@ -7,7 +7,7 @@ use lib.ListN.{length}
 use Rattle.words.specs.Layout.{cellsOf, groupAt}
 use Rattle.store.proofs.Checks.{store-lengths}
 use Rattle.advance.specs.Notes.{byGroup}
-use Rattle.advance.proofs.Performing.{ready-front, ready-own, ready-count, ready-inside, ready-order, ready-low}
+use Rattle.advance.proofs.Performing.{ready-front, ready-once, ready-count, ready-inside, ready-order, ready-low}
 use Rattle.advance.proofs.advance_marked.Statement.{statement}
 use Rattle.advance.proofs.advance_marked.Tie as tie
 
@@ -42,7 +42,7 @@ list-slots-requires c κs = let a = c .before .before .before .before .before .b
         (told .blocks, list .0),
         (
           (omega (arith, c .before .before .before .before .group-of .ensures, c .before .before .before .before .before .cells-of .ensures, f .cells-high), ready-inside (a .memory .now) (a .bodies .now) (a .table .now) (a .used .now) ready x (told .cells) (c .before .before .before .before .group-of .result) reach),
-          (omega (arith, number, few, f .slots-high, told .ends .0, list .1), ready-own (a .memory .now) (a .bodies .now) (a .table .now) (a .used .now) ready x (told .cells)),
+          (omega (arith, number, few, f .slots-high, told .ends .0, list .1), (ready-once (a .memory .now) (a .bodies .now) (a .table .now) (a .used .now) ready, ready .lives)),
         ),
       ),
     )

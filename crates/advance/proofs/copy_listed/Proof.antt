@@ -16,6 +16,8 @@ use Rattle.search.specs.Free.{unmarked, unmarkedFrom}
 use Rattle.search.proofs.Free.{unmarked-nth, unmarked-below, unmarked-passed}
 use Rattle.changes.specs.Staged.{Stages}
 use Rattle.changes.proofs.Staging.{stages-skip, stages-ext, stages-but}
+use Rattle.store.specs.Outcome.{buffers}
+use Rattle.advance.specs.Advance.{advances}
 use Rattle.advance.specs.Notes.{changeTo}
 use Rattle.advance.proofs.Listing.{plans-length, change-none, change-more}
 use Rattle.advance.proofs.copy_listed.Statement.{statement}
@@ -26,7 +28,7 @@ Inv-loop memory bodies₀ table slots places n used words₀ changed₀ budget t
     (r ≤ n) × (at ≤ bodiesOf (length bodies₀)) × (count at (unmarked used) ≡ r)
     × (length bodies ≡ length bodies₀) × (length words ≡ length words₀) × (length changed ≡ length changed₀)
     × (bodies ≡ stores (take budget (gather r (λ k. cellPlan memory (cellIn slots table (getD places k 0)) (nth (bodiesOf (length bodies₀)) (unmarked used) k)))) bodies₀)
-    × Stages slots (changeTo slots (bodiesOf (length bodies₀)) table used r) words changed
+    × Stages slots (changeTo slots (bodiesOf (length bodies₀)) table used (advances (buffers memory bodies₀ table)) r) words changed
 
 abbrev μ-loop : tie.MeasureT-loop
 μ-loop memory bodies₀ table slots places n used words₀ changed₀ budget total at₀ r₀ bodies words changed at r = n - r
@@ -45,7 +47,7 @@ loop-holds c =
       refl,
       refl,
       stores-none (a .budget) (a .bodies .now),
-      stages-ext (stages-skip (a .slots) (c .before .before .before .before .before .before .before .before .pre .1 .1 .1 .1) (omega arith) (λ i l h. refl)) (λ i l. sym (change-none (a .slots) (bodiesOf (length (a .bodies .now))) (a .table .now) (a .used .now) i)),
+      stages-ext (stages-skip (a .slots) (c .before .before .before .before .before .before .before .before .pre .1 .1 .1 .1) (omega arith) (λ i l h. refl)) (λ i l. sym (change-none (a .slots) (bodiesOf (length (a .bodies .now))) (a .table .now) (a .used .now) (advances (buffers (a .memory .now) (a .bodies .now) (a .table .now))) i)),
     )
 
 mul-i : tie.Need-mul-i Inv-loop μ-loop
@@ -115,7 +117,7 @@ loop-again c =
       c .before .before .before .before .before .before .copy-entry .kept .1 .1 .1 .1 .1 .1 .0 ∙ s .inv .4,
       c .before .before .before .before .before .before .copy-entry .kept .1 .1 .1 .1 .1 .1 .1 .0 ∙ s .inv .5,
       gather-turn plan store (a .budget) (s .r) (64 * s .r) (a .bodies .now) (s .bodies) _ (plans-length (a .memory .now) from (nth b (unmarked u)) (s .r)) (s .inv .6) copied,
-      stages-ext (stages-but (s .inv .7) (list .slot (s .r) here) staged) (change-more (a .slots) b (a .table .now) u (a .n) (s .r) (a .places .now) list here),
+      stages-ext (stages-but (s .inv .7) (list .slot (s .r) here) staged) (change-more (a .slots) b (a .table .now) u (advances (buffers (a .memory .now) (a .bodies .now) (a .table .now))) (a .n) (s .r) (a .places .now) list here),
     )
 
 same-length : tie.Need-same-length Inv-loop μ-loop

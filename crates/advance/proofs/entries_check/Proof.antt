@@ -1,62 +1,95 @@
 -- `advance::entries_check` meets its contract. Assumes nothing.
-use Prim.Native.Nat.{ℕ}
-use mathlib.Core.Path.{sym, ap, _∙_}
+use Prim.Native.Nat.{_+_}
+use mathlib.Core.Path.{_≡_, sym, ap, _∙_}
 use mathlib.Core.Bool.{Bool, _||_}
+use native.Mathlib.Omega.{arith}
 use borrow.Author.Tests.{not-true, not-false, le-leb, lt-leb}
 use borrow.Author.Needs.{needs}
 use lib.Dec.{leb}
+use lib.ListN.{length}
+use Rattle.words.specs.Layout.{cellsOf, bodiesOf}
+use Rattle.words.specs.Scan.{count}
+use Rattle.words.proofs.Scan.{count-le}
 use Rattle.table.specs.Entry.{live}
+use Rattle.table.proofs.Rule.{ok-facts}
+use Rattle.search.specs.Free.{isCopy, copies}
 use Rattle.store.proofs.Checks.{ask-go, ask-stop}
+use Rattle.advance.specs.Notes.{entryAdvances}
 use Rattle.advance.proofs.Noting.{covers}
 use Rattle.advance.proofs.entries_check.Statement.{statement}
 use Rattle.advance.proofs.entries_check.Tie as tie
 
 shared-slice-read-live : tie.Need-shared-slice-read-live
-shared-slice-read-live c = search needs
+shared-slice-read-live c = omega (arith, c .before .before .before .before .before .before .pre .0 .words)
 
-mark-groups-requires : tie.Need-mark-groups-requires
-mark-groups-requires c κs = ((c .before .before .before .before .before .pre .0 .0, c .before .before .before .before .before .pre .0 .1, c .before .before .before .before .before .pre .0 .2, c .before .before .before .before .before .pre .0 .3, c .before .before .before .before .before .pre .0 .4), c .before .before .before .before .before .pre .1)
+parent-covers-requires : tie.Need-parent-covers-requires
+parent-covers-requires c κs =
+    let a = c .before .before .before .before .before .before .args in
+    let p = c .before .before .before .before .before .before .pre .0 in
+    (p .slots, p .words, p .low, ok-facts (cellsOf (length (a .memory .now))) (a .slots) (bodiesOf (length (a .bodies .now))) (a .table .now) (p .right) .live, p .ends, p .kept)
+
+returns : tie.Need-returns
+returns c =
+    let a = c .before .before .before .before .before .before .before .before .args in
+    let n = live (a .table .now) in
+    let told = ap (λ (x : Bool). leb n 1 || x) (c .before .parent-covers .ensures) ∙ covers (a .slots) (a .table .now) (a .seen .now) n (c .before .before .before .before .before .before .before .before .pre .0 .marked) in
+    (sym (ask-stop _ 15 _ (sym told ∙ not-true _ (c .if1 .taken))), λ z. absurd (omega (arith, z)))
+
+changed-cells-requires : tie.Need-changed-cells-requires
+changed-cells-requires c κs = (c .before .before .before .before .before .before .before .before .before .pre .0, c .before .before .before .before .before .before .before .before .before .pre .1)
+
+count-used-requires : tie.Need-count-used-requires
+count-used-requires c κs =
+    let p = c .before .before .before .before .before .before .before .before .before .before .before .before .pre .0 in
+    ((p .slots, p .words, p .ends .0), p .ends .1)
+
+bodies-of-requires : tie.Need-bodies-of-requires
+bodies-of-requires c κs = search needs
+
+add-if2 : tie.Need-add-if2
+unfolding copies
+add-if2 c =
+    let a = c .before .before .before .before .before .before .before .before .before .before .before .before .before .before .before .args in
+    omega (arith, c .before .before .count-used .ensures .1, c .before .before .before .before .before .changed-cells .ensures .0, count-le (a .slots) (isCopy (a .slots) (a .table .now)), count-le (a .slots) (entryAdvances (a .memory .now) (a .bodies .now) (a .slots) (a .table .now) (live (a .table .now))), c .before .before .before .before .before .before .before .before .before .before .before .before .before .before .before .pre .0 .slots)
 
 same-length : tie.Need-same-length
 same-length c = search needs
 
-returns : tie.Need-returns
-returns c = let a = c .before .before .before .before .before .before .before .before .before .args in
+returns-2 : tie.Need-returns-2
+returns-2 c =
+    let a = c .before .before .before .before .before .before .before .before .before .before .before .before .before .before .before .before .args in
     let n = live (a .table .now) in
-    let told = ap (λ (x : Bool). leb n 1 || x) (c .before .before .before .mark-groups .ensures .0) ∙ covers (a .slots) (a .table .now) (a .seen .now) n (c .before .before .before .before .before .before .before .before .before .pre .1 .0) in
-    (sym (ask-stop _ 15 _ (sym told ∙ not-true _ (c .if1 .taken))), c .before .before .before .mark-groups .ensures .1)
-
-bodies-wanted-requires : tie.Need-bodies-wanted-requires
-bodies-wanted-requires c κs = (c .before .before .before .before .before .before .before .before .before .pre .0 .0, c .before .before .before .before .before .before .before .before .before .pre .0 .1, c .before .before .before .before .before .before .before .before .before .pre .0 .4)
+    let told = ap (λ (x : Bool). leb n 1 || x) (c .before .before .before .before .before .before .before .before .before .parent-covers .ensures) ∙ covers (a .slots) (a .table .now) (a .seen .now) n (c .before .before .before .before .before .before .before .before .before .before .before .before .before .before .before .before .pre .0 .marked) in
+    let wanted : leb (c .before .before .before .count-used .result .copies + c .before .before .before .before .before .before .changed-cells .result) (c .before .before .bodies-of .result)
+    ≡ leb (copies (a .slots) (a .table .now) + count (a .slots) (entryAdvances (a .memory .now) (a .bodies .now) (a .slots) (a .table .now) n)) (bodiesOf (length (a .bodies .now))) =
+    λ j. leb (c .before .before .before .count-used .ensures .1 j + c .before .before .before .before .before .before .changed-cells .ensures .0 j) (c .before .before .bodies-of .ensures j) in
+    (sym (ask-go _ 15 _ (sym told ∙ not-false _ (c .before .before .before .before .before .before .before .before .if1 .left)) ∙ ask-stop _ 17 0 (sym wanted ∙ lt-leb _ _ (c .if2 .taken))), λ z. absurd (omega (arith, z)))
 
 same-length-2 : tie.Need-same-length-2
 same-length-2 c = search needs
 
-returns-2 : tie.Need-returns-2
-returns-2 c = let a = c .before .before .before .before .before .before .before .before .before .before .before .args in
-    let n = live (a .table .now) in
-    let told = ap (λ (x : Bool). leb n 1 || x) (c .before .before .before .before .before .mark-groups .ensures .0) ∙ covers (a .slots) (a .table .now) (a .seen .now) n (c .before .before .before .before .before .before .before .before .before .before .before .pre .1 .0) in
-    (sym (ask-go _ 15 _ (sym told ∙ not-false _ (c .before .before .if1 .left)) ∙ ask-stop _ 17 0 (ap (λ (x : ℕ). leb x (a .bodies)) (sym (c .before .bodies-wanted .ensures)) ∙ lt-leb _ _ (c .if2 .taken))), c .before .before .before .before .before .mark-groups .ensures .1)
-
-same-length-3 : tie.Need-same-length-3
-same-length-3 c = search needs
-
 returns-3 : tie.Need-returns-3
-returns-3 c = let a = c .before .before .before .before .before .before .before .before .before .before .before .args in
+returns-3 c =
+    let a = c .before .before .before .before .before .before .before .before .before .before .before .before .before .before .before .before .args in
     let n = live (a .table .now) in
-    let told = ap (λ (x : Bool). leb n 1 || x) (c .before .before .before .before .before .mark-groups .ensures .0) ∙ covers (a .slots) (a .table .now) (a .seen .now) n (c .before .before .before .before .before .before .before .before .before .before .before .pre .1 .0) in
-    (sym (ask-go _ 15 _ (sym told ∙ not-false _ (c .before .before .if1 .left)) ∙ ask-go _ 17 0 (ap (λ (x : ℕ). leb x (a .bodies)) (sym (c .before .bodies-wanted .ensures)) ∙ le-leb _ _ (c .if2 .left))), c .before .before .before .before .before .mark-groups .ensures .1)
+    let told = ap (λ (x : Bool). leb n 1 || x) (c .before .before .before .before .before .before .before .before .before .parent-covers .ensures) ∙ covers (a .slots) (a .table .now) (a .seen .now) n (c .before .before .before .before .before .before .before .before .before .before .before .before .before .before .before .before .pre .0 .marked) in
+    let wanted : leb (c .before .before .before .count-used .result .copies + c .before .before .before .before .before .before .changed-cells .result) (c .before .before .bodies-of .result)
+    ≡ leb (copies (a .slots) (a .table .now) + count (a .slots) (entryAdvances (a .memory .now) (a .bodies .now) (a .slots) (a .table .now) n)) (bodiesOf (length (a .bodies .now))) =
+    λ j. leb (c .before .before .before .count-used .ensures .1 j + c .before .before .before .before .before .before .changed-cells .ensures .0 j) (c .before .before .bodies-of .ensures j) in
+    (sym (ask-go _ 15 _ (sym told ∙ not-false _ (c .before .before .before .before .before .before .before .before .if1 .left)) ∙ ask-go _ 17 0 (sym wanted ∙ le-leb _ _ (c .if2 .left))), λ z. c .before .before .before .before .before .before .changed-cells .ensures .1)
 
 pub entries-check-spec : {M : Type 1} → statement M
 entries-check-spec =
     tie.close
     (tie.spec
     shared-slice-read-live
-    mark-groups-requires
-    same-length
+    parent-covers-requires
     returns
-    bodies-wanted-requires
-    same-length-2
+    changed-cells-requires
+    count-used-requires
+    bodies-of-requires
+    add-if2
+    same-length
     returns-2
-    same-length-3
+    same-length-2
     returns-3)

@@ -23,9 +23,6 @@ mul-with-bit c = search needs
 slice-read-with-bit : tie.Need-slice-read-with-bit
 slice-read-with-bit c = omega (arith, c .before .before .before .before .before .before .pre .1, c .before .block-of .ensures .0, ap (λ (x : ℕ). blockOf (c .before .before .before .before .before .before .args .seen .now) (groupOf x)) (c .before .before .before .cell-of .ensures), ap (blockOf (c .before .before .before .before .before .before .args .seen .now)) (c .before .before .group-of .ensures))
 
-turns-word-requires : tie.Need-turns-word-requires
-turns-word-requires c κs = search needs
-
 with-bit-requires : tie.Need-with-bit-requires
 with-bit-requires c κs = search needs
 
@@ -33,13 +30,13 @@ mul-bits : tie.Need-mul-bits
 mul-bits c = search needs
 
 slice-write-bits : tie.Need-slice-write-bits
-slice-write-bits c = omega (arith, c .before .before .before .before .before .before .before .before .pre .1, c .before .before .before .block-of .ensures .0, ap (λ (x : ℕ). blockOf (c .before .before .before .before .before .before .before .before .args .seen .now) (groupOf x)) (c .before .before .before .before .before .cell-of .ensures), ap (blockOf (c .before .before .before .before .before .before .before .before .args .seen .now)) (c .before .before .before .before .group-of .ensures))
+slice-write-bits c = omega (arith, c .before .before .before .before .before .before .before .pre .1, c .before .before .block-of .ensures .0, ap (λ (x : ℕ). blockOf (c .before .before .before .before .before .before .before .args .seen .now) (groupOf x)) (c .before .before .before .before .cell-of .ensures), ap (blockOf (c .before .before .before .before .before .before .before .args .seen .now)) (c .before .before .before .group-of .ensures))
 
 same-length : tie.Need-same-length
 same-length c = search needs
 
 returns : tie.Need-returns
-returns c = rw (c .with-bit .ensures, c .before .turns-word .ensures, c .before .before .before .block-of .ensures .0, c .before .before .before .before .group-of .ensures, c .before .before .before .before .before .cell-of .ensures)
+returns c = rw (c .with-bit .ensures, c .before .before .block-of .ensures .0, c .before .before .before .group-of .ensures, c .before .before .before .before .cell-of .ensures)
 
 pub mark-turning-spec : {M : Type 1} → statement M
 mark-turning-spec =
@@ -50,7 +47,6 @@ mark-turning-spec =
     block-of-requires
     mul-with-bit
     slice-read-with-bit
-    turns-word-requires
     with-bit-requires
     mul-bits
     slice-write-bits
