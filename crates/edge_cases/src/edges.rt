@@ -66,7 +66,7 @@ pub fn show(m: &mut [u8], b: &mut [u8], t: &mut [u32]) {
 105 * 1 holds 7 read-write, 2 holds it via parent read-write, write 9, add by copy to 2, restore 2: 7.
 106 * 1 holds 7, 2 holds 9, restore 1: 7, one domain live.
 107 * Delete cell 0 from 1 while 2 holds it via parent: 14.
-108 * B = 1, one read-write copy, advance: 17, after a write and without one. Then a cell more, and via parent, which needs no body.
+108 * B = 1, one read-write copy, advance: 17 after a write that changes it, and done once that is written back. Then a cell more, and via parent, which needs no body.
 109 * B = 2: done; and again, with the body that the first one freed.
 110 * E = 1, cell 0 held: add cells 0 and 1 gives 16; add cell 0 is done. Then its label rises, it is deleted, and cell 1 takes the freed entry.
 111 * Eighth create done, ninth 9.

@@ -15,7 +15,7 @@ fn say_next(p: Play, bytes: &[u8], n: usize) -> Play {
 fn say_memory(p: Play, memory: &[u8]) -> Play {
     let mut said = p;
     let mut cell: usize = 0;
-    while cell < 4 {
+    while cell < 8 {
         said = say_next(said, memory, cell);
         cell += 1;
     }
@@ -63,11 +63,11 @@ fn say_held(p: Play, bodies: &[u8], table: &[u32], i: usize) -> Play {
     say_entry(p, bodies, table[i], table[i + 1])
 }
 
-// The entries, from word 16 on, two words each; no store here has more than eight.
+// The entries, from word 16 on, two words each; no store here has more than sixteen.
 fn say_entries(p: Play, bodies: &[u8], table: &[u32]) -> Play {
     let mut said = p;
     let mut i: usize = 16;
-    while i < 32 {
+    while i < 48 {
         said = say_held(said, bodies, table, i);
         i += 2;
     }

@@ -1,8 +1,9 @@
 // Plays document 01's edges, the use cases of the containment domain API of 2012, the sequencer's accident, refusals, calls stopped at every
-// budget, and cells that follow a pattern, and prints what they give. A section has a table of acts and their text; `ops` says what an act is, and
-// `play` performs it.
+// budget, cells that follow a pattern, and advances that copy only what changed, and prints what they give. A section has a table of acts and their
+// text; `ops` says what an act is, and `play` performs it.
 //
 // Each number of steps and each refusal is a call's answer. Memory is read byte by byte; what a domain holds is read from the table and the bodies.
+mod advances;
 mod api;
 mod calls;
 mod cuts;
@@ -41,4 +42,5 @@ fn main() {
     calls::show(&mut m, &mut b, &mut t);
     refusals::show(&mut m, &mut b, &mut t);
     rules::show(&mut m, &mut b, &mut t);
+    advances::show(&mut m, &mut b, &mut t);
 }

@@ -47,8 +47,8 @@ pub const SAME: u64 = 15;
 
 pub const PREFIX: u64 = 16;
 
-// ---- stores: a fresh one with m = 4, E entries and B bodies, in which cell 0 has V's lowest byte and cell 3 its highest; a copy of a set of buffers,
-// by which the store is kept, or kept as what the whole call leaves, or the one that was kept comes back
+// ---- stores: a fresh one with m = 4, or 8 where E is above 8, E entries and B bodies, in which cell 0 has V's lowest byte and cell 3 its highest; a
+// copy of a set of buffers, by which the store is kept, or kept as what the whole call leaves, or the one that was kept comes back
 
 pub const FRESH: u64 = 17;
 
@@ -133,3 +133,9 @@ pub const STORE: u64 = FRESH + 8 * E + 8 * B;
 pub const EDGE: u64 = STORE + 0x0302_0107 * V;
 
 pub const SEVENS: u64 = STORE + 7 * Y;
+
+// Cells 0 and 1 are as by rules 0 and 1; 2 and 3 are to become as by rules 2 and 3.
+pub const FOUR: u64 = STORE + 0x0505_ff00 * V;
+
+// 16 scales of 1: what rule 3 repeats.
+pub const SCALES: u64 = WRITE + 0x3f80_0000 * V;

@@ -433,11 +433,12 @@ fn with_budget(mut p: Play, steps: u32) -> Play {
 
 // ---- stores
 
-// The store's lengths are lent.
+// The store's lengths are lent: four cells, and eight with more than eight entries.
 fn lent_whole(mut p: Play, fresh: u64) -> Play {
+    let cells = 4 + field(fresh, E) as u64 / 9 % 2 * 4;
     let bodies = 64 * field(fresh, B) as u64 % 0x1_0000;
     let words = words_of(fresh) as u64 % 0x1_0000;
-    p.lent = 256 * MB + bodies * BB + words * TW;
+    p.lent = 64 * cells * MB + bodies * BB + words * TW;
     p.fresh = fresh;
     p
 }

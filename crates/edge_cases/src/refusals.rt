@@ -99,7 +99,7 @@ const QUESTIONS: [[u64; 5]; 40] = [
     [FRESH + 8 * E + B + 7 * Y + 24 * T, CREATE, ADD + N, 0, 0],
     [ADVANCE, 0, 0, 0, 0],
     [FRESH + 8 * E + B + 7 * Y + 25 * T, CREATE, CREATE, 0, 0],
-    [ADD + N + RW, ADVANCE, 0, 0, 0],
+    [ADD + N + RW, WRITE + 9 * Y, ADVANCE, 0, 0],
     [FRESH + E + 8 * B + 7 * Y + 26 * T, CREATE, ADD + N, 0, 0],
     [CREATE, ADD + N + VIA, WRITE + 9 * Y, ADD + N + VIA, 0],
     [FRESH + 2 * E + B + 7 * Y + 27 * T, CREATE, 0, 0, 0],
@@ -167,7 +167,7 @@ pub fn show(m: &mut [u8], b: &mut [u8], t: &mut [u32]) {
 622 Question 11 with no parent, for a new cell and for a held one:
 623 Questions 11 and 15 where only the domain two further out holds the cell:
 624 B = 1, one read-only copy, advance:
-625 B = 1, cell 0 held read-write by 2 only, advance; 15 comes before 17:
+625 B = 1, cell 0 held read-write by 2 only, and changed, advance; 15 comes before 17:
 626 E = 1, add via parent, before and after a write; 12 comes before 16:
 627 E = 2 and B = 1, add two cells:
 628 E = B = 1, add two cells; 16 comes before 17:

@@ -3,14 +3,8 @@
 use crate::ops::*;
 use crate::play::play;
 
-// 16 scales of 1: what rule 3 repeats.
-const SCALES: u64 = WRITE + 0x3f80_0000 * V;
-
 // Memory of 0.
 const ZEROS: u64 = STORE;
-
-// Cells 0 and 1 are as by rules 0 and 1; 2 and 3 are to become as by rules 2 and 3.
-const FOUR: u64 = STORE + 0x0505_ff00 * V;
 
 // Byte 63 of cell 1, and the cell added by rule 2.
 const LAST: u64 = BYTE + C + 63 * N;
@@ -78,8 +72,8 @@ const RULES: [[u64; 5]; 69] = [
     [SCALES + C, SCALES + 2 * C, SCALES + 3 * C, 0, 0],
     [SCALES + 4 * C, SCALES + 5 * C, SCALES + 6 * C, 0, 0],
     [SCALES + 7 * C, CREATE, ADD + 8 * N + BY + 3 * P, 0, 0],
-    [OPEN, STATE, ADD + 2 * N + RW, 0, 0],
-    [ADVANCE, DELETE + C + N, ADVANCE, STATE, 0],
+    [OPEN, STATE, ADD + 2 * N + RW, ADVANCE, WRITE + 9 * Y],
+    [WRITE + C + 9 * Y, ADVANCE, DELETE + C + N, ADVANCE, STATE],
     // damaged tables
     [SEVENS + 20 * T, SCALES + C, CREATE, ADD + N + RW, 0],
     [ADD + C + N + BY + 3 * P, CREATE, ADD + N + VIA, KEEP, STATE],
@@ -116,7 +110,7 @@ pub fn show(m: &mut [u8], b: &mut [u8], t: &mut [u32]) {
 708 1 holds cell 0 by rule 0, 2 copies it as 9: look, and restore 1:
 709 Commit 2 instead, advance 1; then a cell is added by rule and deleted:
 710 A copy in body 2 beside two cells by rule 2; the next copy takes body 0:
-711 m = E = 8 and B = 1, with eight cells by rule 3. A new one needs no body; in an advance each that is read-write does
+711 m = E = 8 and B = 1, with eight cells by rule 3. A new one needs no body; in an advance each that is read-write and changed does
 720 A sound store with two domains and a cell by rule 3, and then one thing wrong in it at a time
 721 As it was
 722 Bit 24 set

@@ -11,12 +11,12 @@ pub const LEFT: usize = 2;
 
 pub const BEFORE: usize = 3;
 
-// The bytes of a set's memory and bodies, and the words of its table: m = 4 and E = B = 8.
-pub const SET_MEMORY: usize = 256;
+// The bytes of a set's memory and bodies, and the words of its table: m = 8 and E = B = 16, which the largest store needs.
+pub const SET_MEMORY: usize = 512;
 
-pub const SET_BODIES: usize = 512;
+pub const SET_BODIES: usize = 1024;
 
-pub const SET_TABLE: usize = 84;
+pub const SET_TABLE: usize = 132;
 
 pub fn copy_bytes(bytes: &mut [u8], from: usize, to: usize, n: usize) {
     if bytes.len() < n {

@@ -1,4 +1,4 @@
--- `edge_cases::holdings::say_entries` meets its contract: the loop counts to 32.
+-- `edge_cases::holdings::say_entries` meets its contract: the loop counts to 48.
 use borrow.Author.Needs.{needs}
 use Prim.Native.Nat.{_-_}
 use Rattle.edge_cases.proofs.holdings.say_entries.Statement.{statement}
@@ -8,7 +8,7 @@ abbrev Inv-loop : tie.InvT-loop
 Inv-loop bodies table said₀ i₀ said i = Unit {0}
 
 abbrev μ-loop : tie.MeasureT-loop
-μ-loop bodies table said₀ i₀ said i = 32 - i
+μ-loop bodies table said₀ i₀ said i = 48 - i
 
 loop-holds : tie.Need-loop-holds Inv-loop μ-loop
 loop-holds c = search needs
