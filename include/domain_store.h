@@ -83,7 +83,7 @@ extern "C" {
 #define DS_REFUSED_PARENT_LACKS_READ_WRITE 15u
 /* Too few free entries for the new cells. */
 #define DS_REFUSED_NO_FREE_ENTRY 16u
-/* Too few free bodies for the new copies. */
+/* Too few free bodies for the new copies: in an advance one for each read-write cell that changed. */
 #define DS_REFUSED_NO_FREE_BODY 17u
 
 /* Kinds and labels of ds_add. */
@@ -137,7 +137,9 @@ uint32_t ds_delete(const uint8_t *memory, size_t memory_len, const uint8_t *bodi
 uint32_t ds_commit(const uint8_t *memory, size_t memory_len, const uint8_t *bodies, size_t bodies_len, uint32_t *table, size_t table_len,
                    uint32_t handle, uint64_t budget, uint64_t *steps);
 
-/* Moves the innermost domain's point to now: every read-write cell takes memory's bytes, as a copy in a body that was free. */
+/* Moves the innermost domain's point to now: every read-write cell takes memory's bytes. One whose value memory has no more takes them as a copy, in a
+ * body that was free, which costs 70 steps, and 2 for the call. One that did not change keeps how it is held: it costs a comparison of 64 bytes, and no
+ * body and no step. Where none changed, the call is done with 0 steps at every budget. */
 uint32_t ds_advance(const uint8_t *memory, size_t memory_len, uint8_t *bodies, size_t bodies_len, uint32_t *table, size_t table_len,
                     uint32_t handle, uint64_t budget, uint64_t *steps);
 
