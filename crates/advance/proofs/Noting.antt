@@ -22,12 +22,12 @@ use Rattle.table.proofs.Single.{find-self}
 use Rattle.table.proofs.Marks.{marked-holds}
 use Rattle.search.specs.Free.{bodyFree, copies, lowestFree, unmarked}
 use Rattle.search.proofs.Free.{unmarked-free}
-use Rattle.values.specs.Values.{unchanged}
+use Rattle.values.specs.Values.{unchanged, writes, entryChanged}
 use Rattle.changes.specs.Staged.{isSet, Inside}
 use Rattle.model.specs.Answer.{ask}
 use Rattle.store.specs.Outcome.{Buffers, buffers}
 use Rattle.advance.specs.Advance.{advances, bodyFor, turns, turnsAt, changeWith, advanceBytes}
-use Rattle.advance.specs.Notes.{writes, entryAdvances, entriesCheck, TurnedBits, ListedSlots, rankOf, InOrder, changeTo}
+use Rattle.advance.specs.Notes.{entriesCheck, TurnedBits, ListedSlots, rankOf, InOrder, changeTo}
 use Rattle.advance.proofs.Turning.{entry-of, advances-of, advances-cell, turning-count}
 use Rattle.advance.proofs.Choosing.{enough}
 use Rattle.advance.proofs.Listing.{gather-listed}
@@ -43,13 +43,13 @@ module _ (e : ℕ) (t : List ℕ) (top : ℕ) (within : top ≤ e) (free : FreeR
 
   -- none of them advances
   module _ (memory bodies : List ℕ) (n : ℕ) where
-    free-stays : (k : ℕ) → top ≤ k → k < e → entryAdvances memory bodies e t n k ≡ false
+    free-stays : (k : ℕ) → top ≤ k → k < e → entryChanged memory bodies e t n k ≡ false
     free-stays k l h = rw (free-writes n k l h)
 
-    pub advancing-front : count top (entryAdvances memory bodies e t n) ≡ count e (entryAdvances memory bodies e t n)
-    advancing-front = sym (count-stop e top (entryAdvances memory bodies e t n) within free-stays)
+    pub advancing-front : count top (entryChanged memory bodies e t n) ≡ count e (entryChanged memory bodies e t n)
+    advancing-front = sym (count-stop e top (entryChanged memory bodies e t n) within free-stays)
 
-    pub turned-front : (groups : List ℕ) → TurnedBits e t (entryAdvances memory bodies e t n) top groups → TurnedBits e t (entryAdvances memory bodies e t n) e groups
+    pub turned-front : (groups : List ℕ) → TurnedBits e t (entryChanged memory bodies e t n) top groups → TurnedBits e t (entryChanged memory bodies e t n) e groups
     turned-front groups m =
         record {
           clear = λ c h j l u q. m .clear c h j (by-le top j (λ far. absurd (true≢ u (free-stays j far l))) (λ near. near)) u q;
@@ -214,7 +214,7 @@ module _ (memory bodies t : List ℕ) (ok : Rule (cellsOf (length memory)) (slot
   f = advances (buffers memory bodies t)
 
   abbrev goes : ℕ → Bool
-  goes = entryAdvances memory bodies e t (live t)
+  goes = entryChanged memory bodies e t (live t)
 
   -- of an entry its own words tell whether its cell advances
   goes-cell : (i : ℕ) → i < e → goes i ≡ turnsAt e t f i
@@ -239,7 +239,7 @@ module _ (memory bodies t : List ℕ) (ok : Rule (cellsOf (length memory)) (slot
       omega (arith, turning-count m e b t ok f (advances-own (buffers memory bodies t)) low, turning-few e t top (ends .0) (ends .1) (live t) low f)
 
   -- the cells whose bits are set are those that advance
-  pub turned-advances : (groups : List ℕ) → TurnedBits (slotsOf (length t)) t (entryAdvances memory bodies (slotsOf (length t)) t (live t)) (slotsOf (length t)) groups
+  pub turned-advances : (groups : List ℕ) → TurnedBits (slotsOf (length t)) t (entryChanged memory bodies (slotsOf (length t)) t (live t)) (slotsOf (length t)) groups
       → (c : ℕ) → isSet groups c ≡ advances (buffers memory bodies t) c
   turned-advances groups k c =
       by-bool (f c)

@@ -15,7 +15,7 @@ use Rattle.table.specs.Marks.{Marks, Marked, IsCopy, EndsAt, cellIn}
 use Rattle.table.specs.Rule.{ruleOk}
 use Rattle.table.specs.Changes.{Change, keep}
 use Rattle.search.specs.Free.{copies, lowestFree, unmarked}
-use Rattle.values.specs.Values.{unchanged}
+use Rattle.values.specs.Values.{writes, entryChanged}
 use Rattle.changes.specs.Staged.{withBit, isSet}
 use Rattle.model.specs.Answer.{ask}
 use Rattle.store.specs.Outcome.{Buffers, Call, perform, changePlan}
@@ -24,19 +24,11 @@ use Rattle.advance.specs.Advance.{advances, turns, changeWith, advanceBy
 
 -- ---- the questions, asked of the entries
 
--- an entry with first word w is read-write and of depth d
-abbrev pub writes : (d w : ℕ) → Bool
-writes d w = eqb (depthOf w) d && eqb (writableOf w) 1
-
--- entry i advances where n domains are live: it is the innermost domain's and read-write, and memory has other bytes than its value
-abbrev pub entryAdvances : (memory bodies : List ℕ) (e : ℕ) (t : List ℕ) (n : ℕ) → ℕ → Bool
-entryAdvances memory bodies e t n i = writes n (word1 e t i) && not (unchanged memory bodies e t n (cellIn e t i))
-
 -- questions 15 and 17, asked of e entries
 abbrev pub entriesCheck : (memory bodies : List ℕ) (e : ℕ) → List ℕ → ℕ
 entriesCheck memory bodies e t =
     ask (isOutermost (innermost t) || all e (λ i. not (writes (innermost t) (word1 e t i)) || holdsIn e t (parent (innermost t)) (cellOf (word1 e t i)))) 15
-    (ask (leb (copies e t + count e (entryAdvances memory bodies e t (innermost t))) (bodiesOf (length bodies))) 17 0)
+    (ask (leb (copies e t + count e (entryChanged memory bodies e t (innermost t))) (bodiesOf (length bodies))) 17 0)
 
 -- what comparing them asks, where n domains are live and the marks of all entries are in `seen`
 pub record Comparable (memory bodies : List ℕ) (e : ℕ) (t : List ℕ) (top n : ℕ) (seen : List ℕ) : Type 0 where
@@ -79,7 +71,7 @@ pub record TurnedBits (e : ℕ) (t : List ℕ) (goes : ℕ → Bool) (k : ℕ) (
 
 -- of all entries, by the words of each, at the blocks of the groups; block 0 has no bit
 pub record ChangedBits (memory bodies : List ℕ) (e : ℕ) (t : List ℕ) (n : ℕ) (seen bits : List ℕ) : Type 0 where
-  pub turned : TurnedBits e t (entryAdvances memory bodies e t n) e (byGroup seen bits)
+  pub turned : TurnedBits e t (entryChanged memory bodies e t n) e (byGroup seen bits)
   pub front : getD bits 0 0 ≡ 0
 
 -- the bits set are those of the cells that advance

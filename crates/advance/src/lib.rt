@@ -42,12 +42,12 @@ use table::domains::parent_of;
 use table::fields::cell_of;
 use table::fields::depth_of;
 use table::fields::is_via;
-use table::fields::is_writable;
 use table::fields::to_copy;
 use table::first_word;
 use table::no_bodies;
 use table::reach_of;
-use values::is_unchanged;
+use values::entry_changed;
+use values::writes_word;
 use words::copy_cell;
 use words::layout::CELL_SIZE;
 use words::layout::GROUP_SIZE;
@@ -71,20 +71,14 @@ ghost use Rattle.table.specs.Marks.{Blank, CellsOnce, EndsAt, Reached, RoomForM
 ghost use Rattle.table.specs.Rule.{ruleOk};
 ghost use Rattle.table.specs.Changes.{keep, put};
 ghost use Rattle.search.specs.Free.{unmarked};
+ghost use Rattle.values.specs.Values.{writes, entryChanged};
 ghost use Rattle.changes.specs.Staged.{RoomFor, Inside, Restaged, Stages};
 ghost use Rattle.store.specs.Outcome.{buffers, report, Makes};
 ghost use Rattle.store.specs.Means.{Shows};
 ghost use Rattle.advance.specs.Advance.{advances, advanceCheck, advanceCall, advanceMeans};
-ghost use Rattle.advance.specs.Notes.{writes, entryAdvances, entriesCheck, Comparable, byGroup, hasBit, BlockBits, markTurning, ChangedBits, Ready, Told, performed, Ends, listSlot, ListedSlots, InOrder, RoomForListed, changeTo};
+ghost use Rattle.advance.specs.Notes.{entriesCheck, Comparable, byGroup, hasBit, BlockBits, markTurning, ChangedBits, Ready, Told, performed, Ends, listSlot, ListedSlots, InOrder, RoomForListed, changeTo};
 
 // ---- the questions: 0, or the number of the first no
-
-// Is an entry with this first word innermost and read-write?
-fn writes_word(word: u32, live: u32) -> bool
-    ensures { λ r. ⌜ r ≡ writes live word ⌝ }
-{
-    (depth_of(word) == live) & is_writable(word)
-}
 
 // What question 15 asks of a domain with one around it: does the parent hold the cell of every innermost read-write entry, as the marks of these
 // cells tell? It takes no branch on what an entry holds. No entry from `top` on is in use.
@@ -102,29 +96,6 @@ fn parent_covers(table: &[u32], slots: usize, top: usize, live: u32, seen: &[u8]
         i += 1;
     }
     good
-}
-
-// Does entry i advance: is it innermost and read-write, and has memory other bytes than its value? `last` and `before` are notes of places to begin
-// the search for that value at.
-fn entry_advances(
-    memory: &[u8],
-    bodies: &[u8],
-    table: &[u32],
-    slots: usize,
-    top: usize,
-    live: u32,
-    i: usize,
-    last: &[u16],
-    before: &[u16],
-) -> bool
-    requires { ⌜ (i < slots) × (slots ≤ maxSlots) × (pairsAt slots ≤ length (now table)) × EndsAt slots (now table) top × (1 ≤ live) ⌝ }
-    requires { ⌜ ruleOk (cellsOf (length (now memory))) slots (bodiesOf (length (now bodies))) (now table) ≡ true ⌝ }
-    ensures { λ r. ⌜ r ≡ entryAdvances (now (memory .entry)) (now (bodies .entry)) slots (now (table .entry)) live i ⌝ }
-{
-    if !writes_word(first_word(table, slots, i), live) {
-        return false;
-    }
-    !is_unchanged(memory, bodies, table, slots, top, i, last, before)
 }
 
 // Sets the bit of an entry's cell where the entry advances, in the number of its group's block. Any other entry sets no bit: also a free one, whose
@@ -153,13 +124,13 @@ fn mark_changed(
 ) -> usize
     requires { ⌜ Comparable (now memory) (now bodies) slots (now table) top live (now seen) ⌝ }
     requires { ⌜ (length (now seen) ≤ blockAt (length (now bits))) × Blank (now bits) ⌝ }
-    ensures counted { λ r. ⌜ r ≡ count slots (entryAdvances (now (memory .entry)) (now (bodies .entry)) slots (now (table .entry)) live) ⌝ }
+    ensures counted { λ r. ⌜ r ≡ count slots (entryChanged (now (memory .entry)) (now (bodies .entry)) slots (now (table .entry)) live) ⌝ }
     ensures bits { λ _. ⌜ ChangedBits (now (memory .entry)) (now (bodies .entry)) slots (now (table .entry)) live (now (seen .entry)) (now (bits .exit)) ⌝ }
 {
     let mut n: usize = 0;
     let mut i: usize = 0;
     while i < top {
-        let goes = entry_advances(memory, bodies, table, slots, top, live, i, last, before);
+        let goes = entry_changed(memory, bodies, table, slots, top, live, i, last, before);
         n += goes as usize;
         mark_turning(bits, seen, first_word(table, slots, i), goes);
         i += 1;
@@ -180,7 +151,7 @@ fn changed_plain(
 ) -> usize
     requires { ⌜ Comparable (now memory) (now bodies) slots (now table) top live (now seen) ⌝ }
     requires { ⌜ (length (now seen) ≤ blockAt (length (now bits))) × Blank (now bits) ⌝ }
-    ensures counted { λ r. ⌜ r ≡ count slots (entryAdvances (now (memory .entry)) (now (bodies .entry)) slots (now (table .entry)) live) ⌝ }
+    ensures counted { λ r. ⌜ r ≡ count slots (entryChanged (now (memory .entry)) (now (bodies .entry)) slots (now (table .entry)) live) ⌝ }
     ensures bits { λ _. ⌜ ChangedBits (now (memory .entry)) (now (bodies .entry)) slots (now (table .entry)) live (now (seen .entry)) (now (bits .exit)) ⌝ }
 {
     let notes = no_notes();
@@ -211,7 +182,7 @@ fn changed_few(
 ) -> usize
     requires { ⌜ Comparable (now memory) (now bodies) slots (now table) top live (now seen) ⌝ }
     requires { ⌜ (length (now seen) ≤ blockAt (length (now bits))) × Blank (now bits) ⌝ }
-    ensures counted { λ r. ⌜ r ≡ count slots (entryAdvances (now (memory .entry)) (now (bodies .entry)) slots (now (table .entry)) live) ⌝ }
+    ensures counted { λ r. ⌜ r ≡ count slots (entryChanged (now (memory .entry)) (now (bodies .entry)) slots (now (table .entry)) live) ⌝ }
     ensures bits { λ _. ⌜ ChangedBits (now (memory .entry)) (now (bodies .entry)) slots (now (table .entry)) live (now (seen .entry)) (now (bits .exit)) ⌝ }
 {
     let mut last = few_notes();
@@ -244,7 +215,7 @@ fn changed_many(
 ) -> usize
     requires { ⌜ Comparable (now memory) (now bodies) slots (now table) top live (now seen) ⌝ }
     requires { ⌜ (length (now seen) ≤ blockAt (length (now bits))) × Blank (now bits) ⌝ }
-    ensures counted { λ r. ⌜ r ≡ count slots (entryAdvances (now (memory .entry)) (now (bodies .entry)) slots (now (table .entry)) live) ⌝ }
+    ensures counted { λ r. ⌜ r ≡ count slots (entryChanged (now (memory .entry)) (now (bodies .entry)) slots (now (table .entry)) live) ⌝ }
     ensures bits { λ _. ⌜ ChangedBits (now (memory .entry)) (now (bodies .entry)) slots (now (table .entry)) live (now (seen .entry)) (now (bits .exit)) ⌝ }
 {
     let mut last = many_notes();
@@ -291,7 +262,7 @@ fn changed_cells(
 ) -> usize
     requires { ⌜ Comparable (now memory) (now bodies) slots (now table) top live (now seen) ⌝ }
     requires { ⌜ (length (now seen) ≤ blockAt (length (now bits))) × Blank (now bits) ⌝ }
-    ensures counted { λ r. ⌜ r ≡ count slots (entryAdvances (now (memory .entry)) (now (bodies .entry)) slots (now (table .entry)) live) ⌝ }
+    ensures counted { λ r. ⌜ r ≡ count slots (entryChanged (now (memory .entry)) (now (bodies .entry)) slots (now (table .entry)) live) ⌝ }
     ensures bits { λ _. ⌜ ChangedBits (now (memory .entry)) (now (bodies .entry)) slots (now (table .entry)) live (now (seen .entry)) (now (bits .exit)) ⌝ }
 {
     if !any_via(table, slots, top) {

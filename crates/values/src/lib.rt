@@ -1,4 +1,5 @@
-// Values compared with memory: has memory in a cell the bytes that a domain holds of it? Advance asks it of each of its read-write cells.
+// Values compared with memory: has memory in a cell other bytes than a domain holds of it? Advance asks it of every read-write entry of the innermost
+// domain.
 use patterns::pattern_bytes;
 use search::find_source;
 use table::domains::parent_of;
@@ -6,6 +7,7 @@ use table::fields::cell_of;
 use table::fields::depth_of;
 use table::fields::is_pattern;
 use table::fields::is_via;
+use table::fields::is_writable;
 use table::first_word;
 use table::second_word;
 use words::same_cell;
@@ -20,7 +22,7 @@ ghost use Rattle.table.specs.Entry.{word1, depthOf, cellOf, isPattern, findIn};
 ghost use Rattle.table.specs.Marks.{EndsAt, CellsOnce};
 ghost use Rattle.table.specs.Rule.{ruleOk};
 ghost use Rattle.search.specs.Search.{sourceIn, ownValue};
-ghost use Rattle.values.specs.Values.{unchanged};
+ghost use Rattle.values.specs.Values.{unchanged, writes, entryChanged};
 
 // Has memory in this cell what an entry with these words has of its own: the bytes of its rule, or its body? Either way it is one comparison of
 // 64 bytes.
@@ -67,7 +69,7 @@ fn source_of(
 }
 
 // Has memory the value of the cell of entry i, which is in use?
-pub fn is_unchanged(
+fn is_unchanged(
     memory: &[u8],
     bodies: &[u8],
     table: &[u32],
@@ -91,4 +93,33 @@ pub fn is_unchanged(
         first_word(table, slots, source),
         second_word(table, slots, source),
     )
+}
+
+// Is an entry with this first word a read-write one of this depth?
+pub fn writes_word(word: u32, depth: u32) -> bool
+    ensures { λ r. ⌜ r ≡ writes depth word ⌝ }
+{
+    (depth_of(word) == depth) & is_writable(word)
+}
+
+// Is entry i a read-write one of this depth, and has memory other bytes than its value?
+pub fn entry_changed(
+    memory: &[u8],
+    bodies: &[u8],
+    table: &[u32],
+    slots: usize,
+    top: usize,
+    depth: u32,
+    i: usize,
+    last: &[u16],
+    before: &[u16],
+) -> bool
+    requires { ⌜ (i < slots) × (slots ≤ maxSlots) × (pairsAt slots ≤ length (now table)) × EndsAt slots (now table) top × (1 ≤ depth) ⌝ }
+    requires { ⌜ ruleOk (cellsOf (length (now memory))) slots (bodiesOf (length (now bodies))) (now table) ≡ true ⌝ }
+    ensures { λ r. ⌜ r ≡ entryChanged (now (memory .entry)) (now (bodies .entry)) slots (now (table .entry)) depth i ⌝ }
+{
+    if !writes_word(first_word(table, slots, i), depth) {
+        return false;
+    }
+    !is_unchanged(memory, bodies, table, slots, top, i, last, before)
 }

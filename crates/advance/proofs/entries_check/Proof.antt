@@ -14,7 +14,7 @@ use Rattle.table.specs.Entry.{live}
 use Rattle.table.proofs.Rule.{ok-facts}
 use Rattle.search.specs.Free.{isCopy, copies}
 use Rattle.store.proofs.Checks.{ask-go, ask-stop}
-use Rattle.advance.specs.Notes.{entryAdvances}
+use Rattle.values.specs.Values.{entryChanged}
 use Rattle.advance.proofs.Noting.{covers}
 use Rattle.advance.proofs.entries_check.Statement.{statement}
 use Rattle.advance.proofs.entries_check.Tie as tie
@@ -50,7 +50,7 @@ add-if2 : tie.Need-add-if2
 unfolding copies
 add-if2 c =
     let a = c .before .before .before .before .before .before .before .before .before .before .before .before .before .before .before .args in
-    omega (arith, c .before .before .count-used .ensures .1, c .before .before .before .before .before .changed-cells .ensures .0, count-le (a .slots) (isCopy (a .slots) (a .table .now)), count-le (a .slots) (entryAdvances (a .memory .now) (a .bodies .now) (a .slots) (a .table .now) (live (a .table .now))), c .before .before .before .before .before .before .before .before .before .before .before .before .before .before .before .pre .0 .slots)
+    omega (arith, c .before .before .count-used .ensures .1, c .before .before .before .before .before .changed-cells .ensures .0, count-le (a .slots) (isCopy (a .slots) (a .table .now)), count-le (a .slots) (entryChanged (a .memory .now) (a .bodies .now) (a .slots) (a .table .now) (live (a .table .now))), c .before .before .before .before .before .before .before .before .before .before .before .before .before .before .before .pre .0 .slots)
 
 same-length : tie.Need-same-length
 same-length c = search needs
@@ -61,7 +61,7 @@ returns-2 c =
     let n = live (a .table .now) in
     let told = ap (λ (x : Bool). leb n 1 || x) (c .before .before .before .before .before .before .before .before .before .parent-covers .ensures) ∙ covers (a .slots) (a .table .now) (a .seen .now) n (c .before .before .before .before .before .before .before .before .before .before .before .before .before .before .before .before .pre .0 .marked) in
     let wanted : leb (c .before .before .before .count-used .result .copies + c .before .before .before .before .before .before .changed-cells .result) (c .before .before .bodies-of .result)
-    ≡ leb (copies (a .slots) (a .table .now) + count (a .slots) (entryAdvances (a .memory .now) (a .bodies .now) (a .slots) (a .table .now) n)) (bodiesOf (length (a .bodies .now))) =
+    ≡ leb (copies (a .slots) (a .table .now) + count (a .slots) (entryChanged (a .memory .now) (a .bodies .now) (a .slots) (a .table .now) n)) (bodiesOf (length (a .bodies .now))) =
     λ j. leb (c .before .before .before .count-used .ensures .1 j + c .before .before .before .before .before .before .changed-cells .ensures .0 j) (c .before .before .bodies-of .ensures j) in
     (sym (ask-go _ 15 _ (sym told ∙ not-false _ (c .before .before .before .before .before .before .before .before .if1 .left)) ∙ ask-stop _ 17 0 (sym wanted ∙ lt-leb _ _ (c .if2 .taken))), λ z. absurd (omega (arith, z)))
 
@@ -74,7 +74,7 @@ returns-3 c =
     let n = live (a .table .now) in
     let told = ap (λ (x : Bool). leb n 1 || x) (c .before .before .before .before .before .before .before .before .before .parent-covers .ensures) ∙ covers (a .slots) (a .table .now) (a .seen .now) n (c .before .before .before .before .before .before .before .before .before .before .before .before .before .before .before .before .pre .0 .marked) in
     let wanted : leb (c .before .before .before .count-used .result .copies + c .before .before .before .before .before .before .changed-cells .result) (c .before .before .bodies-of .result)
-    ≡ leb (copies (a .slots) (a .table .now) + count (a .slots) (entryAdvances (a .memory .now) (a .bodies .now) (a .slots) (a .table .now) n)) (bodiesOf (length (a .bodies .now))) =
+    ≡ leb (copies (a .slots) (a .table .now) + count (a .slots) (entryChanged (a .memory .now) (a .bodies .now) (a .slots) (a .table .now) n)) (bodiesOf (length (a .bodies .now))) =
     λ j. leb (c .before .before .before .count-used .ensures .1 j + c .before .before .before .before .before .before .changed-cells .ensures .0 j) (c .before .before .bodies-of .ensures j) in
     (sym (ask-go _ 15 _ (sym told ∙ not-false _ (c .before .before .before .before .before .before .before .before .if1 .left)) ∙ ask-go _ 17 0 (sym wanted ∙ le-leb _ _ (c .if2 .left))), λ z. c .before .before .before .before .before .before .changed-cells .ensures .1)
 

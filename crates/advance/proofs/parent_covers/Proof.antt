@@ -9,7 +9,7 @@ use Rattle.words.proofs.Scan.{all-next}
 use Rattle.table.specs.Entry.{word1, parent}
 use Rattle.table.specs.Marks.{has, markAt}
 use Rattle.marks.proofs.Blocks.{cells-all}
-use Rattle.advance.specs.Notes.{writes}
+use Rattle.values.specs.Values.{writes}
 use Rattle.advance.proofs.Noting.{covered-front}
 use Rattle.advance.proofs.parent_covers.Statement.{statement}
 use Rattle.advance.proofs.parent_covers.Tie as tie

@@ -1,7 +1,7 @@
--- `advance::writes_word` meets its contract. Assumes nothing.
+-- `values::writes_word` meets its contract. Assumes nothing.
 use borrow.Author.Needs.{needs}
-use Rattle.advance.proofs.writes_word.Statement.{statement}
-use Rattle.advance.proofs.writes_word.Tie as tie
+use Rattle.values.proofs.writes_word.Statement.{statement}
+use Rattle.values.proofs.writes_word.Tie as tie
 
 depth-of-requires : tie.Need-depth-of-requires
 depth-of-requires c κs = search needs
