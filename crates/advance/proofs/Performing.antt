@@ -1,32 +1,40 @@
 -- A call that no question refuses, from what its code does to its outcome: what each part of the code may rely on, and what all of them leave. Assumes nothing.
-use Prim.Native.Nat.{ℕ, _+_, _-_, _*_, _≤_, _<_}
-use mathlib.Core.Bool.{Bool}
+use Prim.Native.Nat.{ℕ, _+_, _-_, _*_, _%_, _≤_, _<_}
+use mathlib.Core.Bool.{Bool, true, false}
 use mathlib.Core.List.{List, [], _++_}
-use mathlib.Core.Path.{_≡_, ap, _∙_}
+use mathlib.Core.Path.{_≡_, sym, ap, _∙_}
 use native.Mathlib.Omega.{arith}
-use lib.ListN.{length, take, getD}
-use Rattle.words.specs.Layout.{cellAt, cellsOf, bodiesOf, slotsOf, pairsAt, maxCells, groupAt}
-use Rattle.words.specs.Scan.{count, nth}
+use borrow.Author.Tests.{eqb-true}
+use lib.Dec.{eqb}
+use lib.ListN.{length, take, getD, List·getD-eq-default}
+use Rattle.words.specs.Layout.{cellAt, cellsOf, bodiesOf, slotsOf, pairsAt, maxCells, groupAt, groupOf}
+use Rattle.words.specs.Scan.{all, count, nth}
 use Rattle.words.specs.Stores.{Store, stores, gather}
 use Rattle.words.specs.Cells.{cellPlan}
 use Rattle.words.specs.Journal.{journal}
+use Rattle.words.proofs.Scan.{by-le, all-at, count-stop}
+use Rattle.words.proofs.Plans.{nil, stores-none}
+use Rattle.words.proofs.Pairs.{journal-none}
 use Rattle.table.specs.Entry.{live}
-use Rattle.table.specs.Marks.{CellsOnce, EndsAt, cellIn}
+use Rattle.table.specs.Marks.{Blank, CellsOnce, EndsAt, cellIn}
 use Rattle.table.specs.Changes.{entryChanges}
 use Rattle.table.proofs.Parts.{rule-once}
 use Rattle.table.proofs.Rule.{Rule}
-use Rattle.search.specs.Free.{unmarked}
+use Rattle.search.specs.Free.{bodyFree, unmarked, TakesFree}
 use Rattle.changes.specs.Staged.{isSet, Inside, staged, Stages}
+use Rattle.changes.proofs.Bits.{bit-none}
 use Rattle.changes.proofs.Staging.{stages-ext, stages-words}
 use Rattle.model.specs.Answer.{Report, ended}
 use Rattle.store.specs.Outcome.{buffers, outcome, leaves}
 use Rattle.store.proofs.Checks.{store-lengths}
 use Rattle.store.proofs.Raw.{raw-rule}
-use Rattle.advance.specs.Advance.{advances, advanceWords}
-use Rattle.advance.specs.Notes.{CellBits, Ready, performed, ListedSlots, InOrder, changeTo}
+use Rattle.advance.specs.Advance.{advances, bytesWith, wordsWith, bodyFor, advanceBytes, advanceWords}
+use Rattle.advance.specs.Notes.{byGroup, CellBits, Ready, Told, performed, ListedSlots, InOrder, changeTo}
+use Rattle.advance.proofs.Choosing.{chosen}
+use Rattle.advance.proofs.Blocks.{by-blank}
 use Rattle.advance.proofs.Listing.{plans-length}
 use Rattle.advance.proofs.Noting.{turns-front, advances-own, advances-few, bits-count, bits-inside, in-order, listed-inside, room-unmarked, listed-bytes, change-all}
-use Rattle.advance.proofs.Advanced.{advance-performed}
+use Rattle.advance.proofs.Advanced.{with-bytes, with-words, advance-performed}
 
 module _ (memory bodies t used : List ℕ) (ready : Ready (buffers memory bodies t) used) where
   abbrev m : ℕ
@@ -95,3 +103,32 @@ module _ (memory bodies t used : List ℕ) (ready : Ready (buffers memory bodies
         (made ∙ ap (λ (ps : List Store). length (journal (pairsAt e) ps)) ws)
         (written ∙ ap (λ (ps : List Store). stores (take (k - 64 * n) (journal (pairsAt e) ps)) t) ws)
         told
+
+  -- where no cell has a bit there is nothing to store
+  pub ready-none : (top : ℕ) (seen bits : List ℕ) → Told (buffers memory bodies t) top seen bits → all (length bits) (λ k. eqb (getD bits k 0) 0) ≡ true
+      → (k : ℕ) (r : Report) → r ≡ ended 0 0 k → leaves r (buffers memory bodies t) ≡ outcome (performed (buffers memory bodies t)) k (buffers memory bodies t)
+  unfolding count advanceBytes advanceWords
+  ready-none top seen bits told none k r report =
+      advance-performed memory bodies t k 0 0 bodies t r (sym (ap length no-bytes)) (stores-none k bodies ∙ ap (λ (ps : List Store). stores (take k ps) bodies) (sym no-bytes))
+      (sym (ap length no-words)) (stores-none (k - 0) t ∙ ap (λ (ps : List Store). stores (take (k - 0) ps) t) (sym no-words)) report
+    where
+      blank : Blank bits
+      blank g =
+          by-le (length bits) g
+          (λ far. List·getD-eq-default bits 0 far)
+          (λ near. eqb-true (getD bits g 0) 0 (all-at (length bits) (λ k. eqb (getD bits k 0) 0) none g near))
+
+      clear : (c : ℕ) → f c ≡ false
+      clear c = sym (told .cells .each c) ∙ bit-none (getD (byGroup seen bits) (groupOf c) 0) (c % 64) (by-blank seen bits blank (groupOf c))
+
+      zero : count m f ≡ 0
+      zero = count-stop m 0 f (omega arith) (λ c l h. clear c)
+
+      choice : TakesFree m f b (bodyFree e t) (bodyFor (buffers memory bodies t))
+      choice = chosen m e b t ok f (ready .room)
+
+      no-bytes : advanceBytes (buffers memory bodies t) ≡ []
+      no-bytes = nil (bytesWith (buffers memory bodies t) (bodyFor (buffers memory bodies t))) (with-bytes memory bodies t (ready .stands) (ready .lives) (bodyFor (buffers memory bodies t)) choice ∙ ap (λ (n : ℕ). 64 * n) zero)
+
+      no-words : journal (pairsAt e) (advanceWords (buffers memory bodies t)) ≡ []
+      no-words = journal-none (pairsAt e) (wordsWith (buffers memory bodies t) (bodyFor (buffers memory bodies t))) (with-words memory bodies t (ready .stands) (ready .lives) (bodyFor (buffers memory bodies t)) choice ∙ ap (λ (n : ℕ). 2 * n) zero)

@@ -60,6 +60,7 @@ use words::wide;
 ghost use mathlib.Core.Path.{_≡_};
 ghost use mathlib.Core.Bool.{true, not, _||_};
 ghost use Prim.Native.Nat.{ℕ, _+_, _*_, _≤_, _<_, min};
+ghost use lib.Dec.{eqb};
 ghost use lib.ListN.{length, take, getD};
 ghost use Rattle.words.specs.Layout.{cellAt, cellsOf, bodiesOf, slotsOf, pairsAt, maxSlots, maxCells, maxBodies, maxLive, cellSize, groupAt, groupOf};
 ghost use Rattle.words.specs.Scan.{all, count, nth};
@@ -696,7 +697,21 @@ fn store_many(
     )
 }
 
-// Advance once no question refuses it, with room for the numbers of the blocks.
+// Has no cell a bit?
+fn none_set(bits: &[u64]) -> bool
+    ensures { λ r. ⌜ r ≡ all (length (now (bits .entry))) (λ k. eqb (getD (now (bits .entry)) k 0) 0) ⌝ }
+{
+    let mut none = true;
+    let mut b: usize = 0;
+    while b < bits.len() {
+        none = none & (bits[b] == 0);
+        b += 1;
+    }
+    none
+}
+
+// Advance once no question refuses it, with room for the numbers of the blocks. Where no cell advances there is nothing to store, and no room is made
+// for it.
 fn advance_stored(
     memory: &[u8],
     bodies: &mut [u8],
@@ -714,6 +729,9 @@ fn advance_stored(
     ensures { λ r. ⌜ Makes performed budget (buffers (now (memory .entry)) (now (bodies .entry)) (now (table .entry)))
         (report r) (buffers (now (memory .entry)) (now (bodies .exit)) (now (table .exit))) ⌝ }
 {
+    if none_set(bits) {
+        return answer_of(0, 0, budget);
+    }
     if top <= FEW_SLOTS {
         return store_few(memory, bodies, table, top, seen, used, bits, ends, budget);
     }
