@@ -1,5 +1,5 @@
-/* The header as a C or C++ program uses it: every function once, preserve, write, restore, a cut and its opening, cells that follow a rule,
- * refusals, and buffers that are not the store's or not there at all. */
+/* The header as a C or C++ program uses it: every function once, preserve, write, restore, a cut and its opening, an advance of changed and of
+ * unchanged cells, cells that follow a rule, refusals, and buffers that are not the store's or not there at all. */
 
 #include "domain_store.h"
 
@@ -79,6 +79,17 @@ static void expect_rules(void) {
     for (held = DS_RULE_ZEROS; held <= DS_RULE_SCALE; held++)
         for (i = 0; i < 64; i++) expect("a byte by rule", memory[64 * held + i], pattern(held, i));
 
+    /* An advance copies what has changed: nothing, and then one byte of one cell. */
+    expect("advance, by rules", ds_advance(BUFFERS_LENT, handle, 0, &steps), DS_DONE);
+    expect("its steps", steps, 0);
+    memory[64 * DS_RULE_ONES + 63] = 9;
+    expect("advance, one byte", ds_advance(BUFFERS_LENT, handle, 72, &steps), DS_DONE);
+    expect("its steps", steps, 72);
+    for (held = DS_RULE_ZEROS; held <= DS_RULE_SCALE; held++) {
+        expect("look, advanced", ds_look(BUFFERS_LENT, handle, held, &place, &offset, &rule), DS_DONE);
+        expect("its place", place, held == DS_RULE_ONES ? DS_IN_BODIES : DS_BY_RULE);
+    }
+
     expect("delete", ds_delete(BUFFERS_LENT, handle, 0, 1, UINT64_MAX, &steps), DS_DONE);
     expect("add, rule 4", ds_add(BUFFERS_LENT, handle, 0, 1, DS_PATTERN, 4, DS_READ_ONLY, UINT64_MAX, &steps), DS_REFUSED_PATTERN_DIFFERS);
     expect("add, another rule", ds_add(BUFFERS_LENT, handle, 0, 1, DS_PATTERN, DS_RULE_ONES, DS_READ_ONLY, UINT64_MAX, &steps),
@@ -127,6 +138,15 @@ int main(void) {
     expect("list", ds_list(BUFFERS_LENT, handles, &count), DS_DONE);
     expect("its count", count, 1);
     expect("its handle", handles[0], handle);
+
+    /* Nothing has changed since, so that an advance needs no step: it is done with every budget. */
+    expect("advance, unchanged", ds_advance(BUFFERS_LENT, handle, 0, &steps), DS_DONE);
+    expect("its steps", steps, 0);
+    memory[63] = 5;
+    expect("advance, changed", ds_advance(BUFFERS_LENT, handle, 0, &steps), DS_STOPPED);
+    memory[63] = 9;
+    expect("advance, changed back", ds_advance(BUFFERS_LENT, handle, UINT64_MAX, &steps), DS_DONE);
+    expect("its steps", steps, 0);
 
     /* Other lengths, which some store may have: not this one. It is still there for its own. */
     expect("open, half of memory", ds_open(memory, sizeof memory / 2, bodies, sizeof bodies, table, sizeof table / sizeof table[0], UINT64_MAX, &steps),

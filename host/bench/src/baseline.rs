@@ -1,5 +1,5 @@
 //! The same store without proofs, as a plain systems program: the format, the questions and the journal of document 01, with the cells
-//! of request A.1 that follow a pattern.
+//! of request A.1 that follow a pattern and the shorter advances of request A.2.
 //!
 //! It is here to be measured beside the library, so it makes no use of it. What it does:
 //!
@@ -11,8 +11,9 @@
 //!   that nothing is done for cells that no entry names, however large memory is.
 //! - For the calls that look for entries by cell (restore, advance and add via parent), the pass also notes the last entry of each cell,
 //!   and for each entry the one before it with the same cell. So a holder is found at once, wherever it stands.
-//! - Restore and advance take their cells in order by the directory. Look searches depths and entries by nested loops, which is a form
-//!   that the store's specification names.
+//! - Restore and advance take their cells in order by the directory. Advance compares each read-write cell with what is held in one pass
+//!   over the entries, and sets a bit for each that has changed: cells that have not are not met again.
+//! - Look searches depths and entries by nested loops, which is a form that the store's specification names.
 //! - Notes are kept in an area of the thread that all calls use again: it is all zeros at first and never cleared as a whole, nor does
 //!   a call touch more of it than it needs. On the stack, each call would touch every page of a large frame.
 //! - 64 bytes are copied at once where the budget suffices. Table words are stored one after another with volatile stores: their
@@ -220,13 +221,40 @@ impl Notes {
         place
     }
 
+    /// Hands each cell whose bit is set in the word of its block to `visit`, rising.
+    #[inline]
+    fn each_chosen<E>(
+        &self,
+        chosen: &[u64],
+        mut visit: impl FnMut(usize) -> Result<(), E>,
+    ) -> Result<(), E> {
+        for (at, &word) in self.marked.iter().enumerate() {
+            let mut groups = word;
+            while groups != 0 {
+                let group = 64 * at + groups.trailing_zeros() as usize;
+                groups &= groups - 1;
+                let mut cells = chosen[self.directory[group] as usize];
+                while cells != 0 {
+                    visit(GROUP * group + cells.trailing_zeros() as usize)?;
+                    cells &= cells - 1;
+                }
+            }
+        }
+        Ok(())
+    }
+
     /// The 64 bytes behind an entry: those of its rule, of its body, or for via parent of the next copy outwards.
     #[inline]
-    fn bytes_behind<'a>(&self, table: &[u32], bodies: &'a [u8], mut place: usize) -> &'a [u8] {
+    fn bytes_behind<'a>(
+        &self,
+        table: &[u32],
+        bodies: &'a [u8],
+        mut place: usize,
+    ) -> &'a [u8; CELL] {
         loop {
             let (first, second) = entry(table, place);
             if first & (VIA_PARENT | BY_RULE) == 0 {
-                return &bodies[CELL * second as usize..][..CELL];
+                return cell_at(bodies, second as usize);
             }
             if first & BY_RULE != 0 {
                 return &PATTERNS[second as usize];
@@ -260,8 +288,8 @@ impl Notes {
 /// The area that the calls of a thread use again and again, each part as its call says.
 struct Scratch {
     notes: Notes,
-    /// Commit: for each block, the cells that raise a label.
-    raising: [u64; 1 + MAX_GROUPS],
+    /// For each block a bit for some of its cells. Commit: those that raise a label. Advance: those that have changed.
+    chosen: [u64; 1 + MAX_GROUPS],
     /// Advance: the new body of each entry, or `u16::MAX`.
     body_for: [u16; MAX_PLACES],
     /// Open: the words that pending pairs may name.
@@ -272,11 +300,19 @@ thread_local! {
     static SCRATCH: RefCell<Scratch> = const {
         RefCell::new(Scratch {
             notes: Notes::new(),
-            raising: [0; 1 + MAX_GROUPS],
+            chosen: [0; 1 + MAX_GROUPS],
             body_for: [0; MAX_PLACES],
             meant: [0; 16 + 2 * MAX_PLACES],
         })
     };
+}
+
+/// The 64 bytes of a cell or a body. An array, which a compiler compares without a loop or a call.
+#[inline]
+fn cell_at(bytes: &[u8], number: usize) -> &[u8; CELL] {
+    bytes[CELL * number..]
+        .first_chunk()
+        .expect("a checked table names cells and bodies that there are")
 }
 
 #[inline]
@@ -750,7 +786,7 @@ fn add(lent: Slices, add: Add, budget: u64, notes: &mut Notes) -> Result<Answer,
         let mut by_rule = 0;
         for cell in fresh() {
             let place = notes.find(table, depth - 1, cell);
-            if memory[CELL * cell..][..CELL] != *notes.bytes_behind(table, bodies, place) {
+            if cell_at(memory, cell) != notes.bytes_behind(table, bodies, place) {
                 return Err(12);
             }
             by_rule |= entry(table, place).0 & BY_RULE;
@@ -761,7 +797,7 @@ fn add(lent: Slices, add: Add, budget: u64, notes: &mut Notes) -> Result<Answer,
     }
     if kind == PATTERN {
         let pattern = PATTERNS.get(add.rule as usize).ok_or(18u32)?;
-        if fresh().any(|cell| memory[CELL * cell..][..CELL] != *pattern) {
+        if fresh().any(|cell| cell_at(memory, cell) != pattern) {
             return Err(18);
         }
     }
@@ -853,7 +889,11 @@ fn delete(
 
 #[inline(never)]
 fn commit(lent: Slices, handle: u32, budget: u64, scratch: &mut Scratch) -> Result<Answer, u32> {
-    let Scratch { notes, raising, .. } = scratch;
+    let Scratch {
+        notes,
+        chosen: raising,
+        ..
+    } = scratch;
     let shape = check::<false>(&lent, notes)?;
     let table = lent.table;
     let depth = innermost(table, handle)?;
@@ -895,43 +935,61 @@ fn commit(lent: Slices, handle: u32, budget: u64, scratch: &mut Scratch) -> Resu
     Ok(stores.answer(end))
 }
 
-/// Questions 15 and 17: the read-write cells of the innermost domain are counted.
-fn advance_fits(table: &[u32], depth: usize, shape: Shape, notes: &Notes) -> Result<(), u32> {
+/// Question 15 for every read-write cell of the innermost domain, and which of them have changed: a bit for each in the word of its
+/// block. Gives their number.
+fn changed(
+    lent: &Slices,
+    depth: usize,
+    notes: &Notes,
+    chosen: &mut [u64; 1 + MAX_GROUPS],
+) -> Result<usize, u32> {
+    let (memory, bodies, table) = (&*lent.memory, &*lent.bodies, &*lent.table);
+    chosen[..=notes.blocks].fill(0);
     let mut count = 0;
-    for &[word, _] in entries(table, notes.end) {
-        if depth_of(word) == depth && word & READ_WRITE != 0 {
-            if depth > 1 && !notes.holds(depth - 1, cell_of(word)) {
-                return Err(15);
-            }
+    for (place, &[word, _]) in entries(table, notes.end).iter().enumerate() {
+        if depth_of(word) != depth || word & READ_WRITE == 0 {
+            continue;
+        }
+        let cell = cell_of(word);
+        if depth > 1 && !notes.holds(depth - 1, cell) {
+            return Err(15);
+        }
+        if cell_at(memory, cell) != notes.bytes_behind(table, bodies, place) {
+            chosen[notes.directory[cell / GROUP] as usize] |= 1 << (cell % GROUP);
             count += 1;
         }
     }
-    if notes.copies + count > shape.bodies {
-        return Err(17);
-    }
-    Ok(())
+    Ok(count)
 }
 
 #[inline(never)]
 fn advance(lent: Slices, handle: u32, budget: u64, scratch: &mut Scratch) -> Result<Answer, u32> {
-    let shape = check::<true>(&lent, &mut scratch.notes)?;
-    let notes = &scratch.notes;
+    let Scratch {
+        notes,
+        chosen,
+        body_for,
+        ..
+    } = scratch;
+    let shape = check::<true>(&lent, notes)?;
+    let notes = &*notes;
+    let depth = innermost(lent.table, handle)?;
+    let count = changed(&lent, depth, notes, chosen)?;
+    if notes.copies + count > shape.bodies {
+        return Err(17);
+    }
+    if count == 0 {
+        return Ok((0, 0));
+    }
     let (memory, bodies, table) = (lent.memory, lent.bodies, lent.table);
-    let depth = innermost(table, handle)?;
-    advance_fits(table, depth, shape, notes)?;
-    let body_for = &mut scratch.body_for[..notes.end];
+    let body_for = &mut body_for[..notes.end];
     body_for.fill(u16::MAX);
     let mut stores = Stores::new(budget);
     let end = (|| {
         let mut free = FreeBodies::new(&notes.used);
-        notes.each_cell(1 << (depth - 1), |cell, _| {
-            let place = notes.find(table, depth, cell);
-            if entry(table, place).0 & READ_WRITE != 0 {
-                let body = free.take();
-                body_for[place] = body as u16;
-                stores.cell(&mut bodies[CELL * body..], &memory[CELL * cell..])?;
-            }
-            Ok(())
+        notes.each_chosen(&chosen[..], |cell| {
+            let body = free.take();
+            body_for[notes.find(table, depth, cell)] = body as u16;
+            stores.cell(&mut bodies[CELL * body..], cell_at(memory, cell))
         })?;
         let mut journal = Journal::new(shape);
         for (place, &body) in body_for.iter().enumerate() {

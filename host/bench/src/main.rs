@@ -1,6 +1,7 @@
 //! Prints the library's times beside the same store without proofs, beside a plain scan of the table and beside plain copies, with the
-//! goals that they are held to.
+//! goals that they are held to. With the argument `advances` it measures and prints advances of n cells of which k have changed alone.
 
+use domain_bench::advances::{self, Kept};
 use domain_bench::measure::{FIGURES, Figure, Layout, Medians, NEAR, Shape, Times, measure};
 use std::time::Duration;
 
@@ -21,6 +22,8 @@ const GOAL_MEMORY: f64 = 1.3;
 const GOAL_RESTORE: f64 = 6.0;
 /// Restore by a disorderly table beside an orderly one.
 const GOAL_DISORDER: f64 = 2.0;
+/// An advance of which no cell has changed beside the check of its table and a plain compare of its cells.
+const GOAL_UNCHANGED: f64 = 3.0;
 /// Each call from E = 256 to E = 4,096, with n fixed.
 const GOAL_GROWTH: f64 = 20.0;
 /// The check of the table beside a plain scan.
@@ -509,6 +512,65 @@ fn print_by_rule_row(medians: &Medians) {
     );
 }
 
+/// Advances of which some cells have changed: figures beside the baseline, and where none has, beside what they cannot do without, by
+/// how the cells are held.
+struct Advances {
+    beside: Vec<Held>,
+    unchanged: [Vec<Held>; KEPT.len()],
+}
+
+const KEPT: [Kept; 3] = [Kept::Copies, Kept::ViaParent, Kept::ByRule];
+
+fn print_advances(all: &[advances::Medians]) -> Advances {
+    println!(
+        "Advance of n cells of which k have changed, m = 65,536, E = B = {}: library and baseline in µs, and how many times the baseline (goal {GOAL}); a plain compare",
+        number(advances::PLACES)
+    );
+    println!(
+        "of the n cells with what is held, the check of that table (list), and how many times both together the library takes (goal {GOAL_UNCHANGED:.0} where k is 0). A changed cell"
+    );
+    println!(
+        "differs in its last byte. Where k is 0 the call changes nothing, and is made many times for one figure, as compare and list are."
+    );
+    println!();
+    println!(
+        "| Held       | Cells      |     n |     k | library | baseline | times baseline | compare |   list | times compare + list |"
+    );
+    println!(
+        "|------------|------------|------:|------:|--------:|---------:|---------------:|--------:|-------:|---------------------:|"
+    );
+    let (mut beside, mut unchanged) = (Vec::new(), KEPT.map(|_| Vec::new()));
+    for medians in all {
+        let advances::Case {
+            kept,
+            shape,
+            changed,
+        } = medians.case;
+        let held = |ratio, goal| Held::new(Figure::Advance, shape, ratio, goal);
+        let baseline = held(medians.beside_baseline(), GOAL);
+        let needs = (changed == 0).then(|| held(medians.beside_needs(), GOAL_UNCHANGED));
+        let needed = needs
+            .as_ref()
+            .map_or_else(|| format!("{} ", short(medians.beside_needs())), Held::text);
+        println!(
+            "| {:<10} | {:<10} | {:>5} | {:>5} | {:>7} | {:>8} | {:>14} | {:>7} | {:>6} | {needed:>20} |",
+            kept.name(),
+            shape.layout.name(),
+            number(shape.cells),
+            number(changed),
+            short(medians.library),
+            short(medians.baseline),
+            baseline.text(),
+            short(medians.compare),
+            short(medians.list)
+        );
+        beside.push(baseline);
+        unchanged[kept as usize].extend(needs);
+    }
+    println!();
+    Advances { beside, unchanged }
+}
+
 /// How many of these figures meet their goal, and the worst of those that do not.
 fn account<'a>(title: &str, held: impl Iterator<Item = &'a Held>) {
     let held: Vec<&Held> = held.collect();
@@ -571,11 +633,12 @@ fn print_introduction() {
         "parent. Delete: the innermost domain's cells (scattered: one). Cycle: create, add n, write n, advance, write n, restore, commit. Restore: the outermost"
     );
     println!(
-        "domain, which ends those inside. Look: a held cell, and one that nobody holds. Three domains: two hold the same n cells already. A dash: it does not fit"
+        "domain, which ends those inside. Advance: the innermost domain, of which every cell was written, so that each is copied. Look: a held cell, and one that nobody"
     );
     println!(
-        "(an advance takes n bodies before it frees n), or it would be the same as contiguous."
+        "holds. Three domains: two hold the same n cells already. A dash: it does not fit (an advance takes n bodies before it frees n), or it would be the same as"
     );
+    println!("contiguous.");
     println!(
         "Cells: contiguous, entries in order of cell; scattered over memory, in no order; and contiguous cells whose entries were laid down reversed, at random, or"
     );
@@ -587,9 +650,26 @@ fn print_introduction() {
     println!();
 }
 
+/// What the goals say of advances.
+fn account_advances(advances: &Advances) {
+    account(
+        &format!("advance of k cells <= {GOAL}"),
+        advances.beside.iter(),
+    );
+    for (kept, held) in KEPT.iter().zip(&advances.unchanged) {
+        let title = format!("unchanged, {} <= {GOAL_UNCHANGED}", kept.name());
+        account_named(&title, held);
+    }
+}
+
 fn main() {
+    if std::env::args().nth(1).as_deref() == Some("advances") {
+        account_advances(&print_advances(&advances::measure_all(LIMIT)));
+        return;
+    }
     print_introduction();
     let all = measure_all();
+    let advances = advances::measure_all(LIMIT);
     for memory in MEMORIES {
         for places in PLACES {
             print_shapes(&all, memory, places);
@@ -598,6 +678,7 @@ fn main() {
     print_check(&all);
     print_copies(&all);
     print_by_rule(&all);
+    let advances = print_advances(&advances);
     let beside = beside_baseline(&all);
     let scans = beside_scans(&all);
     let memories = print_memory(&all);
@@ -619,6 +700,7 @@ fn main() {
         &restores,
     );
     account_named(&format!("restore, disorderly <= {GOAL_DISORDER}"), &orders);
+    account_advances(&advances);
     account_named(&format!("growth <= {GOAL_GROWTH}"), &growths);
     account(&format!("check <= {GOAL_CHECK} scans"), scans.iter());
 }

@@ -25,7 +25,8 @@ pub enum Figure {
     Create,
     /// Delete of the innermost domain's cells: all of them where they are neighbours, else the one that was added last.
     Delete,
-    /// Advance of the innermost domain.
+    /// Advance of the innermost domain, all of whose cells have changed: each is copied. How long one takes of which fewer have
+    /// changed is measured by itself (see [`crate::advances`]).
     Advance,
     /// Restore of the outermost domain, which ends those inside.
     Restore,
@@ -187,7 +188,7 @@ impl Shape {
     }
 
     /// The program's writes.
-    fn write(&self, memory: &mut [u8], byte: u8) {
+    pub(crate) fn write(&self, memory: &mut [u8], byte: u8) {
         if self.layout.neighbours() {
             memory[64 * self.first()..][..64 * self.cells].fill(byte);
         } else {
@@ -198,7 +199,7 @@ impl Shape {
     }
 
     /// The program writes the bytes of the rule by which cells are held.
-    fn write_pattern(&self, memory: &mut [u8]) {
+    pub(crate) fn write_pattern(&self, memory: &mut [u8]) {
         let bytes = pattern(RULE).expect("a rule");
         for index in 0..self.cells {
             memory[64 * self.cell(index)..][..64].copy_from_slice(&bytes);
@@ -207,17 +208,17 @@ impl Shape {
 }
 
 /// The rule by which cells are held: a scale of one.
-const RULE: u32 = SCALE;
+pub(crate) const RULE: u32 = SCALE;
 
 /// A store with buffers of its own.
-struct Runner<S> {
+pub(crate) struct Runner<S> {
     shape: Shape,
     store: S,
-    buffers: Buffers,
+    pub(crate) buffers: Buffers,
 }
 
 impl<S: Measured> Runner<S> {
-    fn new(shape: Shape, store: S) -> Self {
+    pub(crate) fn new(shape: Shape, store: S) -> Self {
         let places = shape.places as u32;
         let sizes = Sizes {
             m: shape.memory as u32,
@@ -233,7 +234,7 @@ impl<S: Measured> Runner<S> {
         }
     }
 
-    fn call(&mut self, call: Call) -> u32 {
+    pub(crate) fn call(&mut self, call: Call) -> u32 {
         self.store.call(&mut self.buffers, call)
     }
 
@@ -260,7 +261,7 @@ impl<S: Measured> Runner<S> {
     }
 
     /// A new domain that holds all cells, read-write.
-    fn preserve(&mut self, kind: u32) -> u32 {
+    pub(crate) fn preserve(&mut self, kind: u32) -> u32 {
         let shape = self.shape;
         let created = self.call(Call::Create);
         if shape.layout.neighbours() {
@@ -307,7 +308,7 @@ impl<S: Measured> Runner<S> {
         })
     }
 
-    fn advance(&mut self) -> u32 {
+    pub(crate) fn advance(&mut self) -> u32 {
         self.call(Call::Advance { handle: 0 })
     }
 
@@ -410,20 +411,20 @@ impl<S: Measured> Runner<S> {
 }
 
 /// Bodies and table as a call is to meet them.
-struct State {
+pub(crate) struct State {
     bodies: Vec<u8>,
     table: Vec<u32>,
 }
 
 impl State {
-    fn of(buffers: &Buffers) -> Self {
+    pub(crate) fn of(buffers: &Buffers) -> Self {
         State {
             bodies: buffers.bodies.to_vec(),
             table: buffers.table.to_vec(),
         }
     }
 
-    fn put(&self, buffers: &mut Buffers) {
+    pub(crate) fn put(&self, buffers: &mut Buffers) {
         buffers.bodies.copy_from_slice(&self.bodies);
         buffers.table.copy_from_slice(&self.table);
     }
@@ -439,13 +440,13 @@ impl State {
 /// How often a call that changes nothing is made for one figure, since a short one is hardly longer than the clock's own time.
 const REPEATS: u32 = 32;
 
-struct Clock {
+pub(crate) struct Clock {
     /// What a measured nothing takes, in microseconds.
     idle: f64,
 }
 
 impl Clock {
-    fn new() -> Self {
+    pub(crate) fn new() -> Self {
         let mut clock = Clock { idle: 0.0 };
         let idle = (0..1_001).map(|_| clock.time(|| ())).collect();
         clock.idle = median(idle).expect("there are values");
@@ -459,14 +460,14 @@ impl Clock {
     }
 
     /// A call has to be done: a refusal would be quick for the wrong reason.
-    fn done(&self, work: impl FnOnce() -> u32) -> Option<f64> {
+    pub(crate) fn done(&self, work: impl FnOnce() -> u32) -> Option<f64> {
         let mut number = 0;
         let time = self.time(|| number = work());
         assert_eq!(number, 0, "a measured call was refused");
         Some(time)
     }
 
-    fn repeated(&self, mut work: impl FnMut() -> u32) -> Option<f64> {
+    pub(crate) fn repeated(&self, mut work: impl FnMut() -> u32) -> Option<f64> {
         self.done(|| (0..REPEATS).fold(0, |refused, _| refused | work()))
             .map(|time| time / f64::from(REPEATS))
     }
@@ -634,7 +635,7 @@ impl Bench {
     }
 }
 
-fn median(mut values: Vec<f64>) -> Option<f64> {
+pub(crate) fn median(mut values: Vec<f64>) -> Option<f64> {
     if values.is_empty() {
         return None;
     }
@@ -647,9 +648,9 @@ fn medians(runs: &[Times]) -> Times {
 }
 
 /// How long a shape is measured before it is another's turn, unless one round takes longer.
-const TURN: Duration = Duration::from_millis(10);
+pub(crate) const TURN: Duration = Duration::from_millis(10);
 /// How many rounds there are at least and at most.
-const ROUNDS: (usize, usize) = (7, 1_001);
+pub(crate) const ROUNDS: (usize, usize) = (7, 1_001);
 
 /// A shape with what was measured of it so far.
 struct Rounds {

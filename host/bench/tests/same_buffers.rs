@@ -55,12 +55,19 @@ fn choose(random: &mut Rng, buffers: &Buffers, from: u32, cells: u32) -> Call {
     }
 }
 
-/// The program writes some cells from `first` on: one byte over and over, or the bytes of a rule, for which so many neighbours are
-/// written that a pattern of several cells is met too.
+/// The program writes some cells from `first` on: one byte over and over, one byte alone, or the bytes of a rule, for which so many
+/// neighbours are written that a pattern of several cells is met too.
 fn write(random: &mut Rng, memory: &mut [u8], first: usize) {
-    let byte = [random.below(4) as u8; 64];
-    let (bytes, count) = match random.below(2) {
-        0 => (byte, 1),
+    let byte = random.below(4) as u8;
+    let (bytes, count) = match random.below(5) {
+        0 | 1 => ([byte; 64], 1),
+        2 => {
+            let place = *random.pick(&[0, 31, 63]);
+            if let Some(at) = memory.get_mut(64 * first + place) {
+                *at = byte;
+            }
+            return;
+        }
         _ => (
             pattern(random.below(4) as u32).expect("a rule"),
             random.between(1, 3),
@@ -304,12 +311,21 @@ fn same_in_every_layout() {
             *numbers.entry(number).or_insert(0u64) += 1;
             number
         };
-        // Each call by itself on the table as it was laid down, and then a session.
+        // Each call by itself on the table as it was laid down, with one cell written, and advances with nothing changed, with every
+        // third cell changed in one byte and with all of them; then a session.
         for table in [&held, &with_inner(&held, &shape)] {
             for call in calls(&shape) {
                 ours.copy_from(table);
                 ours.memory[64 * shape.cell(0)..][..64].fill(7);
                 check(&mut random, &mut ours, &call);
+            }
+            for apart in [shape.cells + 1, 3, 1] {
+                ours.copy_from(table);
+                for index in (apart - 1..shape.cells).step_by(apart) {
+                    let byte = [0, 63, 31][index % 3];
+                    ours.memory[64 * shape.cell(index) + byte] ^= 1;
+                }
+                check(&mut random, &mut ours, &Call::Advance { handle: 0 });
             }
         }
         ours.copy_from(&held);

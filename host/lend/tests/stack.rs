@@ -157,7 +157,11 @@ fn used_in(m: u32, places: u32) -> BTreeMap<&'static str, usize> {
     probe.done(look(1, 0));
     probe.refused(8, look(1, m));
 
+    // Nothing has changed; then every cell, and the copies take the last quarter of the places.
     probe.done(advance);
+    probe.buffers.memory.fill(8);
+    probe.done(advance);
+    probe.buffers.memory.fill(7);
     probe.stopped(advance, 100);
     probe.done(Call::delete(0, first, 1));
     probe.refused(14, Call::delete(1, first, 1));
@@ -166,8 +170,13 @@ fn used_in(m: u32, places: u32) -> BTreeMap<&'static str, usize> {
     probe.done(restore(0));
     probe.done(commit);
     probe.done(restore(2));
+    // Via parent, unchanged and changed.
+    probe.done(advance);
+    probe.buffers.memory.fill(8);
+    probe.stopped(advance, 100);
     probe.stopped(restore(1), 100);
     probe.done(restore(1));
+    probe.buffers.memory.fill(9);
     probe.done(Call::Advance { handle: 1 });
     probe.done(commit);
     by_rule(&mut probe, m, places);
@@ -198,6 +207,8 @@ fn by_rule(probe: &mut Probe, m: u32, places: u32) {
     probe.done(Call::Commit { handle: 0 });
     probe.stopped(Call::Restore { handle: 0 }, 100);
     probe.done(Call::Restore { handle: 0 });
+    // By rules that memory follows, and then with other bytes in every cell.
+    probe.done(Call::Advance { handle: 0 });
     probe.buffers.memory.fill(9);
     probe.stopped(Call::Advance { handle: 0 }, 100);
     probe.done(Call::Advance { handle: 0 });

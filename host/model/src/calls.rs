@@ -541,6 +541,11 @@ impl Model {
         }
     }
 
+    /// Whether memory differs from the value of a cell held by `domain`.
+    fn differs(&self, state: &State, memory: &[u8], domain: usize, cell: u32) -> bool {
+        self.value(state, domain, cell) != Some(cell_of(memory, cell))
+    }
+
     /// Question 8, without wrapping.
     fn range(&self, sizes: Sizes, first: u32, count: u32) -> Result<Range<u32>, u32> {
         let end = if self.has(Fault::RangeWraps) {
@@ -604,7 +609,7 @@ impl Model {
     ) -> Result<(), u32> {
         let outer = named.checked_sub(1).ok_or(11u32)?;
         let lacks = |c: &u32| !state.domains[outer].holds(*c);
-        let differs = |c: &u32| self.value(state, outer, *c) != Some(cell_of(memory, *c));
+        let differs = |c: &u32| self.differs(state, memory, outer, *c);
         let by_rule = |c: &u32| state.domains[outer].rule(*c).is_some();
         if self.has(Fault::Question12CellByCell) {
             for c in new {
@@ -803,6 +808,8 @@ impl Model {
         self.count(work)
     }
 
+    /// The read-write cells of the innermost domain whose memory differs from the value held get
+    /// memory's bytes, as copies; the others keep kind and body (request A.2).
     fn advance(
         &self,
         sizes: Sizes,
@@ -811,36 +818,25 @@ impl Model {
         handle: u32,
     ) -> Result<Verdict, u32> {
         let named = self.innermost(state, handle)?;
-        let takes = |h: &Holding| {
-            (h.read_write || self.has(Fault::AdvanceTakesReadOnly))
-                && !(self.has(Fault::AdvanceKeepsViaParent) && h.kept == Kept::ViaParent)
-                && !(self.has(Fault::AdvanceKeepsRule) && h.kept.rule().is_some())
-        };
-        let renewed: Vec<u32> = state.domains[named]
-            .cells
-            .iter()
-            .filter(|(_, h)| takes(h))
-            .map(|(c, _)| *c)
-            .collect();
+        let changed = self.changed(state, memory, named);
         if let Some(outer) = named.checked_sub(1)
             && !self.has(Fault::NoQuestion15)
-            && renewed.iter().any(|c| !state.domains[outer].holds(*c))
         {
-            return Err(15);
+            // 15 is put for every read-write cell, changed or not.
+            let asked = match self.has(Fault::Question15OfChangedCells) {
+                true => changed.clone(),
+                false => self.read_write(&state.domains[named]).collect(),
+            };
+            if asked.iter().any(|c| !state.domains[outer].holds(*c)) {
+                return Err(15);
+            }
         }
-        let bodies = if self.has(Fault::AdvanceCountsFewerBodies) {
-            renewed
-                .iter()
-                .filter(|c| !state.domains[named].cells[c].kept.is_copy())
-                .count()
-        } else {
-            renewed.len()
-        };
-        if self.copies(state) + bodies as u64 > u64::from(sizes.b) {
+        let bodies = self.bodies_to_advance(state, memory, named, &changed);
+        if self.copies(state) + bodies > u64::from(sizes.b) {
             return Err(17);
         }
         let mut work = self.work(state.clone());
-        for c in renewed {
+        for c in changed {
             let bytes = cell_of(memory, c);
             let held = work.after.domains[named].cells.get_mut(&c).expect("held");
             held.kept = Kept::Copy(bytes);
@@ -853,7 +849,92 @@ impl Model {
         if self.has(Fault::AdvanceInPlace) {
             work.shape = Shape::OverBodies;
         }
+        if self.has(Fault::AdvanceTakesTwoStepsForNothing) && work.words == 0 {
+            work.need = 2;
+            return Ok(Verdict::Work(work));
+        }
         self.count(work)
+    }
+
+    /// The cells that a domain holds read-write.
+    fn read_write(&self, domain: &Domain) -> impl Iterator<Item = u32> {
+        let all = self.has(Fault::AdvanceTakesReadOnly);
+        let cells = domain.cells.iter();
+        cells
+            .filter(move |(_, held)| held.read_write || all)
+            .map(|(c, _)| *c)
+    }
+
+    /// The read-write cells of a domain that an advance copies: those whose memory differs from the
+    /// value held, which is the body's, that of the next domain out, or the rule's.
+    fn changed(&self, state: &State, memory: &[u8], domain: usize) -> Vec<u32> {
+        let cells = self.read_write(&state.domains[domain]);
+        cells
+            .filter(|c| self.is_copied(state, memory, domain, *c))
+            .collect()
+    }
+
+    /// Whether an advance copies this read-write cell. Without an error it asks nothing else than
+    /// whether all 64 bytes are those held.
+    fn is_copied(&self, state: &State, memory: &[u8], domain: usize, cell: u32) -> bool {
+        let kept = state.domains[domain].cells[&cell].kept;
+        let (keeps, turns) = match kept {
+            Kept::Copy(_) => (None, None),
+            Kept::ViaParent => (
+                Some(Fault::AdvanceKeepsViaParent),
+                Some(Fault::AdvanceTurnsUnchangedViaParent),
+            ),
+            Kept::Rule(_) => (
+                Some(Fault::AdvanceKeepsRule),
+                Some(Fault::AdvanceTurnsUnchangedRule),
+            ),
+        };
+        if self.has(Fault::AdvanceCopiesUnchanged) || turns.is_some_and(|turns| self.has(turns)) {
+            return true;
+        }
+        if keeps.is_some_and(|keeps| self.has(keeps)) {
+            return false;
+        }
+        let outer = domain.checked_sub(1);
+        let outer = outer.filter(|outer| state.domains[*outer].holds(cell));
+        let compared = match outer {
+            Some(outer) if self.has(Fault::AdvanceComparesWithParent) => outer,
+            _ => domain,
+        };
+        let mut looked_at = 0..CELL;
+        if self.has(Fault::AdvanceMissesFirstByte) {
+            looked_at.start += 1;
+        }
+        if self.has(Fault::AdvanceMissesLastByte) {
+            looked_at.end -= 1;
+        }
+        let now = cell_of(memory, cell);
+        // Without a value, which only an error in the table's rules lets by, nothing is equal.
+        let value = self.value(state, compared, cell);
+        value.is_none_or(|value| value[looked_at.clone()] != now[looked_at])
+    }
+
+    /// New bodies of an advance, for question 17: one for each changed read-write cell.
+    fn bodies_to_advance(
+        &self,
+        state: &State,
+        memory: &[u8],
+        named: usize,
+        changed: &[u32],
+    ) -> u64 {
+        let domain = &state.domains[named];
+        let counted = if self.has(Fault::AdvanceCountsFewerBodies) {
+            let no_copy = |c: &&u32| !domain.cells[*c].kept.is_copy();
+            changed.iter().filter(no_copy).count()
+        } else if self.has(Fault::AdvanceCountsUnchanged) {
+            self.read_write(domain).count()
+        } else if self.has(Fault::AdvanceCountsReadOnly) {
+            let changed = |c: &&u32| self.differs(state, memory, named, **c);
+            domain.cells.keys().filter(changed).count()
+        } else {
+            changed.len()
+        };
+        counted as u64
     }
 
     fn restore(&self, state: &State, handle: u32) -> Result<Verdict, u32> {

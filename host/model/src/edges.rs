@@ -1,5 +1,5 @@
-//! Document 01's "edges to run" and those of request A.1, as scripts that any store can be put
-//! through. Cells are filled with one byte, or follow a rule.
+//! Document 01's "edges to run" and those of requests A.1 and A.2, as scripts that any store can be
+//! put through. Cells are filled with one byte, or follow a rule.
 
 use crate::calls::{Call, READ_ONLY as RO, READ_WRITE as RW, Sizes};
 use crate::reply::{BY_RULE, IN_BODIES, IN_MEMORY};
@@ -16,6 +16,8 @@ pub enum Line {
     Byte(usize, u8),
     /// A call, and the number it has to answer.
     Answers(Call, u32),
+    /// A call that has to be done in exactly so many steps.
+    Takes(Call, u64),
     /// A create that has to give this handle.
     CreateGives(u32),
     /// The cell in memory is filled with this byte.
@@ -43,7 +45,7 @@ const USUAL: Sizes = Sizes { m: 4, e: 8, b: 8 };
 
 /// Every edge but table lengths and damaged tables, which need no script.
 pub fn scripts() -> Vec<Script> {
-    [document_01(), patterns()].concat()
+    [document_01(), patterns(), shorter_advances()].concat()
 }
 
 #[rustfmt::skip]
@@ -73,10 +75,11 @@ fn document_01() -> Vec<Script> {
         vec![Fill(0, 7), create(), copy(0, RW), Fill(0, 9), create(), copy(0, RW), Fill(0, 11), restore(1), See(0, 7), Live(1)]);
     edge("delete under a via parent holder", usual,
         vec![create(), copy(0, RO), create(), via(0, RO, 0), Answers(Call::delete(1, 0, 1), 14)]);
+    // Request A.2: refused only after a write that changes the cell.
     edge("advance without a free body", Sizes { b: 1, ..usual },
-        vec![create(), copy(0, RW), advance(17)]);
+        vec![Fill(0, 7), create(), copy(0, RW), Takes(Call::Advance { handle: 0 }, 0), Fill(0, 9), advance(17)]);
     edge("advance with one free body", Sizes { b: 2, ..usual },
-        vec![create(), copy(0, RW), advance(0)]);
+        vec![Fill(0, 7), create(), copy(0, RW), Fill(0, 9), Takes(Call::Advance { handle: 0 }, 72), Fill(0, 11), restore(1), See(0, 9)]);
     edge("entries are counted for new cells only", Sizes { e: 1, ..usual },
         vec![create(), copy(0, RO), Answers(Call::copy(0, 2, RO), 16), copy(0, RO)]);
     edge("eight domains", usual,
@@ -89,7 +92,7 @@ fn document_01() -> Vec<Script> {
         vec![Set(5, 4_294_967_294), CreateGives(4_294_967_294), Answers(Call::Create, 10)]);
     // Not in document 01's list, but told by it: the smallest store.
     edge("the smallest store", Sizes { m: 1, e: 1, b: 1 },
-        vec![Fill(0, 5), create(), copy(0, RW), Fill(0, 6), restore(0), See(0, 5), advance(17), commit(), Live(0)]);
+        vec![Fill(0, 5), create(), copy(0, RW), Fill(0, 6), restore(0), See(0, 5), advance(0), Fill(0, 6), advance(17), commit(), Live(0)]);
     list
 }
 
@@ -116,15 +119,13 @@ fn patterns() -> Vec<Script> {
         edge(name, USUAL, [held(label), each(&|c| is_rule(1, c, c)), each(&|c| Fill(c, 9)),
             vec![restore(1)], each(&|c| SeePattern(c, c)), each(&|c| is_rule(0, c, c))].concat());
     }
-    edge("an advance turns read-write rules into copies", USUAL, [held(RW), each(&|c| Fill(c, 9)), vec![advance(0)],
+    edge("an advance turns changed read-write rules into copies", USUAL, [held(RW), each(&|c| Fill(c, 9)), vec![advance(0)],
         each(&|c| is_copy(1, c)), each(&|c| Fill(c, 11)), vec![restore(1)], each(&|c| See(c, 9))].concat());
     edge("an advance keeps read-only rules", USUAL, [held(RO), each(&|c| Fill(c, 9)), vec![advance(0)],
         each(&|c| is_rule(1, c, c)), each(&|c| Fill(c, 11)), vec![restore(1)], each(&|c| SeePattern(c, c))].concat());
     edge("a scale of one, advanced", USUAL,
         vec![Pattern(0, SCALE), create(), by_rule(0, SCALE, RW, 0), is_rule(1, 0, SCALE), Fill(0, 8), advance(0), is_copy(1, 0),
              Fill(0, 0), restore(1), See(0, 8)]);
-    edge("an advance takes an unchanged read-write rule too", USUAL,
-        vec![Pattern(0, ONES), create(), by_rule(0, ONES, RW, 0), advance(0), is_copy(1, 0), Fill(0, 1), restore(1), SeePattern(0, ONES)]);
 
     edge("a rule above 3, with a new cell and without", USUAL,
         vec![create(), by_rule(0, 4, RO, 18), copy(0, RO), by_rule(0, 4, RO, 18), by_rule(0, 4, RW, 18),
@@ -179,16 +180,99 @@ fn patterns() -> Vec<Script> {
     edge("a rule number above B, eight times", Sizes { m: 8, e: 8, b: 1 },
         [(0..8).map(|c| Pattern(c, SCALE)).collect(), vec![create(), Answers(Call::pattern(0, 8, SCALE, RW), 0), Answers(Call::Open, 0)],
          (0..8).map(|c| Fill(c, 9)).collect(), vec![restore(1)], (0..8).map(|c| SeePattern(c, SCALE)).collect(),
-         (0..8).map(|c| is_rule(1, c, SCALE)).collect(), vec![advance(17)]].concat());
+         (0..8).map(|c| is_rule(1, c, SCALE)).collect(), vec![advance(0), Fill(0, 9), Fill(7, 9), advance(17)]].concat());
     edge("a copy in body 2 beside two cells by rule 2", USUAL,
         vec![Fill(2, 7), create(), Answers(Call::copy(0, 3, RW), 0), Answers(Call::delete(1, 0, 2), 0), Pattern(0, INDEX), Pattern(1, INDEX),
              Answers(Call::pattern(0, 2, INDEX, RW), 0), Answers(Call::Open, 0), Fill(0, 1), Fill(1, 1), Fill(2, 1), restore(1),
-             SeePattern(0, INDEX), SeePattern(1, INDEX), See(2, 7), advance(0)]);
+             SeePattern(0, INDEX), SeePattern(1, INDEX), See(2, 7), Fill(1, 1), Fill(2, 1), advance(0), is_rule(1, 0, INDEX), is_copy(1, 1)]);
     edge("a rule takes no body", Sizes { b: 1, ..USUAL },
-        vec![create(), copy(0, RO), Answers(Call::copy(1, 1, RO), 17), by_rule(1, ZEROS, RO, 0), advance(0), by_rule(1, ZEROS, RW, 0), advance(17)]);
-    edge("an advance counts a read-write rule", Sizes { b: 2, ..USUAL },
-        vec![create(), copy(0, RO), by_rule(1, ZEROS, RW, 0), advance(0), advance(17)]);
+        vec![create(), copy(0, RO), Answers(Call::copy(1, 1, RO), 17), by_rule(1, ZEROS, RO, 0), Fill(1, 5), advance(0), by_rule(1, ZEROS, RW, 0),
+             advance(17)]);
+    edge("an advance counts a changed read-write rule", Sizes { b: 2, ..USUAL },
+        vec![create(), copy(0, RO), by_rule(1, ZEROS, RW, 0), Fill(1, 5), advance(0), is_copy(1, 1), Fill(1, 6), advance(17)]);
     edge("the smallest store, by a rule", Sizes { m: 1, e: 1, b: 1 },
-        vec![Pattern(0, SCALE), create(), by_rule(0, SCALE, RW, 0), Fill(0, 6), restore(0), SeePattern(0, SCALE), advance(0), advance(17), commit(), Live(0)]);
+        vec![Pattern(0, SCALE), create(), by_rule(0, SCALE, RW, 0), Fill(0, 6), restore(0), SeePattern(0, SCALE), advance(0), is_rule(1, 0, SCALE),
+             Fill(0, 6), advance(0), is_copy(1, 0), Fill(0, 7), advance(17), commit(), Live(0)]);
+    list
+}
+
+/// The edges of request A.2: an advance copies the changed cells alone.
+#[rustfmt::skip]
+fn shorter_advances() -> Vec<Script> {
+    use Line::*;
+    let create = || Answers(Call::Create, 0);
+    let add = |call| Answers(call, 0);
+    let restore = |handle| Answers(Call::Restore { handle }, 0);
+    let advance = |answer| Answers(Call::Advance { handle: 0 }, answer);
+    // So many cells are copied.
+    let copies = |k: u64| Takes(Call::Advance { handle: 0 }, if k == 0 { 0 } else { 70 * k + 2 });
+    let is_rule = |handle, cell, rule| Looks(handle, cell, BY_RULE, rule);
+    let is_copy = |handle, cell| Looks(handle, cell, IN_BODIES, 0);
+    // A cell is via parent exactly where it may not be deleted further out.
+    let via = |out, cell| Answers(Call::delete(out, cell, 1), 14);
+    let fill = |byte| (0..4).map(|c| Fill(c, byte)).collect::<Vec<_>>();
+    let see = |byte| (0..4).map(|c| See(c, byte)).collect::<Vec<_>>();
+
+    let mut list = Vec::new();
+    let mut edge = |name, sizes, lines: Vec<Line>| list.push(Script { name, sizes, lines });
+    // Domain 1 holds all four cells as copies of 7, read-write.
+    let held = || [fill(7), vec![create(), add(Call::copy(0, 4, RW))]].concat();
+    edge("nothing has changed", USUAL, [held(), vec![copies(0), copies(0)], fill(9), vec![restore(1)], see(7)].concat());
+    edge("nothing has changed, and no body is free", Sizes { b: 4, ..USUAL },
+        [held(), vec![copies(0), Fill(3, 9), advance(17), Fill(3, 7), copies(0)]].concat());
+    edge("a domain that holds nothing", USUAL, vec![create(), copies(0), create(), copies(0)]);
+    edge("the first byte of a cell", USUAL, [held(), vec![Byte(64, 8), copies(1), Byte(64, 9), restore(1), Byte(64, 7), See(1, 7)]].concat());
+    edge("the last byte of a cell", USUAL, [held(), vec![Byte(127, 8), copies(1), Byte(127, 9), restore(1), Byte(127, 7), See(1, 7)]].concat());
+    edge("changed, and changed back", USUAL,
+        [held(), vec![Fill(2, 9), Fill(2, 7), copies(0), Byte(191, 9), Byte(191, 7), copies(0)]].concat());
+    edge("changed, advanced, and changed back", USUAL,
+        [held(), vec![Fill(2, 9), copies(1), Fill(2, 7), copies(1), Fill(2, 9), restore(1), See(2, 7)]].concat());
+    edge("some have changed", USUAL,
+        [held(), vec![Fill(0, 9), Fill(3, 9), copies(2), copies(0)], fill(11), vec![restore(1), See(0, 9), See(1, 7), See(2, 7), See(3, 9)]].concat());
+    edge("all have changed, and bodies are enough", USUAL,
+        [held(), fill(9), vec![copies(4), copies(0)], fill(11), vec![copies(4), restore(1)], see(11)].concat());
+    edge("all have changed, and a body is missing", Sizes { b: 7, ..USUAL },
+        [held(), fill(9), vec![advance(17), Fill(1, 7), copies(3), Fill(1, 9), copies(1)], fill(11), vec![restore(1)], see(9)].concat());
+    edge("three have changed, and a body is missing", Sizes { b: 6, ..USUAL },
+        [held(), vec![Fill(0, 9), Fill(1, 9), Fill(3, 9), advance(17), Fill(1, 7), copies(2)]].concat());
+
+    edge("a changed read-only cell is neither copied nor counted", Sizes { b: 3, ..USUAL },
+        vec![Fill(0, 7), Fill(1, 7), create(), add(Call::copy(0, 1, RO)), add(Call::copy(1, 1, RW)), Fill(0, 9), copies(0), Fill(1, 9), copies(1),
+             Fill(1, 11), restore(1), See(0, 7), See(1, 9)]);
+    edge("15 is put for unchanged cells", USUAL,
+        vec![create(), create(), add(Call::copy(0, 1, RO)), copies(0), add(Call::copy(0, 1, RW)), advance(15), Fill(0, 9), advance(15)]);
+    edge("15 is put before 17", Sizes { b: 1, ..USUAL }, vec![create(), create(), add(Call::copy(0, 1, RW)), Fill(0, 9), advance(15)]);
+
+    // Domain 1 holds 7 in all cells, domain 2 the first two via parent.
+    let rests = || [held(), vec![create(), add(Call::via_parent(0, 2, RW))]].concat();
+    edge("via parent, unchanged and then changed", USUAL,
+        [rests(), vec![copies(0), via(1, 0), via(1, 1), Fill(1, 9), copies(1), via(1, 0), Fill(0, 9), copies(1), Answers(Call::delete(1, 0, 2), 0),
+                       Fill(0, 11), Fill(1, 11), restore(2), See(0, 9), See(1, 9)]].concat());
+    edge("via parent, changed and changed back", USUAL, [rests(), vec![Fill(1, 9), Fill(1, 7), copies(0), via(1, 1)]].concat());
+    edge("via parent, changed in the last byte", USUAL, [rests(), vec![Byte(127, 9), copies(1), via(1, 0), Answers(Call::delete(1, 1, 1), 0)]].concat());
+    edge("via parent of via parent", Sizes { e: 12, ..USUAL },
+        [rests(), vec![create(), add(Call::via_parent(0, 2, RW)), copies(0), via(2, 0), Fill(0, 9), copies(1), via(1, 0), via(2, 1), is_copy(3, 0),
+                       Fill(0, 11), restore(3), See(0, 9), restore(2), See(0, 7)]].concat());
+    edge("via parent takes no body while it is unchanged", Sizes { b: 5, ..USUAL },
+        [rests(), vec![copies(0), Fill(0, 9), copies(1), Fill(1, 9), advance(17), Fill(1, 7), copies(0)]].concat());
+
+    // Domain 1 holds 7, domain 2 its own copy of 9.
+    let later = || vec![Fill(0, 7), create(), add(Call::copy(0, 1, RW)), Fill(0, 9), create(), add(Call::copy(0, 1, RW))];
+    edge("the domain's own value counts: like it", USUAL, [later(), vec![copies(0), Fill(0, 11), restore(2), See(0, 9), restore(1), See(0, 7)]].concat());
+    edge("the domain's own value counts: like the parent's", USUAL,
+        [later(), vec![Fill(0, 7), copies(1), Fill(0, 11), restore(2), See(0, 7)]].concat());
+
+    edge("a rule, unchanged and then changed", Sizes { b: 1, ..USUAL },
+        vec![Pattern(0, INDEX), create(), add(Call::pattern(0, 1, INDEX, RW)), copies(0), is_rule(1, 0, INDEX), Byte(63, 0), copies(1), is_copy(1, 0),
+             Byte(63, 63), advance(17), Byte(63, 0), copies(0), Fill(0, 1), restore(1), Byte(63, 63), SeePattern(0, INDEX)]);
+    edge("a rule, changed and changed back", USUAL,
+        vec![Pattern(0, SCALE), create(), add(Call::pattern(0, 1, SCALE, RW)), Fill(0, 0), Pattern(0, SCALE), copies(0), is_rule(1, 0, SCALE),
+             Fill(0, 0), restore(1), SeePattern(0, SCALE)]);
+    edge("another rule's bytes are a change", USUAL,
+        vec![create(), add(Call::pattern(0, 1, ZEROS, RW)), Pattern(0, ONES), copies(1), is_copy(1, 0), Fill(0, 1), restore(1), SeePattern(0, ONES)]);
+    edge("each kind, unchanged and changed", Sizes { m: 6, e: 12, b: 11 },
+        vec![create(), add(Call::copy(0, 6, RW)), create(), add(Call::via_parent(0, 2, RW)), add(Call::pattern(2, 2, ZEROS, RW)),
+             add(Call::copy(4, 2, RW)), copies(0), Fill(1, 9), Fill(3, 9), Fill(5, 9), copies(3), via(1, 0), Answers(Call::delete(1, 1, 1), 0),
+             is_rule(2, 2, ZEROS), is_copy(2, 3), is_copy(2, 4), is_copy(2, 5), restore(2), See(0, 0), See(1, 9), See(2, 0), See(3, 9), See(4, 0), See(5, 9)]);
     list
 }

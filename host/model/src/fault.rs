@@ -24,7 +24,7 @@ pub enum Fault {
     NoQuestion14,
     /// Advance does not ask whether the next domain out holds its read-write cells.
     NoQuestion15,
-    /// Advance counts only the via parent cells as new bodies.
+    /// Advance counts no new body where a copy is replaced.
     AdvanceCountsFewerBodies,
     /// Questions 11 and 12 are put cell by cell instead of one after the other.
     Question12CellByCell,
@@ -54,9 +54,9 @@ pub enum Fault {
     HandleReuse,
     /// Delete frees the cells in every domain.
     DeleteFromAll,
-    /// Advance leaves a read-write via parent cell as it is.
+    /// Advance leaves a read-write via parent cell as it is, though memory has changed.
     AdvanceKeepsViaParent,
-    /// Advance renews read-only cells too.
+    /// Advance copies changed read-only cells too.
     AdvanceTakesReadOnly,
     /// Advance turns read-write into read-only (the text of 2012).
     AdvanceDemotes,
@@ -100,6 +100,28 @@ pub enum Fault {
     TableMissesBothBits,
     /// The table's rules miss a via parent entry that rests on a rule.
     TableMissesViaOnRule,
+    /// Advance copies every read-write cell, as before request A.2.
+    AdvanceCopiesUnchanged,
+    /// Advance turns an unchanged read-write via parent cell into a copy.
+    AdvanceTurnsUnchangedViaParent,
+    /// Advance turns an unchanged read-write cell that is held by a rule into a copy: as before
+    /// request A.2, or by taking the rule's number for that of a body and comparing with other bytes.
+    AdvanceTurnsUnchangedRule,
+    /// Advance compares memory with the value of the next domain out, where that holds the cell, and
+    /// not with the domain's own.
+    AdvanceComparesWithParent,
+    /// Advance does not see a difference in the first byte of a cell.
+    AdvanceMissesFirstByte,
+    /// Advance does not see a difference in the last byte of a cell.
+    AdvanceMissesLastByte,
+    /// Advance counts a new body for every read-write cell, though it copies the changed ones only.
+    AdvanceCountsUnchanged,
+    /// Advance counts a new body for a changed read-only cell too, though it copies none.
+    AdvanceCountsReadOnly,
+    /// Question 15 is put for the changed cells only.
+    Question15OfChangedCells,
+    /// 70k + 2 steps also where k is 0.
+    AdvanceTakesTwoStepsForNothing,
     /// Notebook: a program write spoils nothing.
     NotebookWithoutSpoiltWrites,
     /// Notebook: a delete spoils nothing.
@@ -115,7 +137,7 @@ pub enum Fault {
 }
 
 impl Fault {
-    pub const ALL: [Fault; 52] = [
+    pub const ALL: [Fault; 62] = [
         Fault::NewestWinsInRestore,
         Fault::NewestWinsInCommit,
         Fault::AdvanceInPlace,
@@ -162,6 +184,16 @@ impl Fault {
         Fault::TableMissesRuleNumber,
         Fault::TableMissesBothBits,
         Fault::TableMissesViaOnRule,
+        Fault::AdvanceCopiesUnchanged,
+        Fault::AdvanceTurnsUnchangedViaParent,
+        Fault::AdvanceTurnsUnchangedRule,
+        Fault::AdvanceComparesWithParent,
+        Fault::AdvanceMissesFirstByte,
+        Fault::AdvanceMissesLastByte,
+        Fault::AdvanceCountsUnchanged,
+        Fault::AdvanceCountsReadOnly,
+        Fault::Question15OfChangedCells,
+        Fault::AdvanceTakesTwoStepsForNothing,
         Fault::NotebookWithoutSpoiltWrites,
         Fault::NotebookWithoutSpoiltDeletes,
         Fault::NotebookDeleteSpoilsNamedOnly,
@@ -177,6 +209,15 @@ impl Fault {
         Fault::AdvanceInPlace,
         Fault::RestoreEndsFirst,
         Fault::CommitForgetsRaise,
+    ];
+
+    /// The errors of an advance that leave a changed cell at its old value.
+    pub const STALE: [Fault; 5] = [
+        Fault::AdvanceKeepsViaParent,
+        Fault::AdvanceKeepsRule,
+        Fault::AdvanceComparesWithParent,
+        Fault::AdvanceMissesFirstByte,
+        Fault::AdvanceMissesLastByte,
     ];
 
     /// Whether the error lies in the notebook alone, which a store does not have.

@@ -20,6 +20,11 @@ fn every_edge() {
                 Line::Answers(call, answer) => {
                     assert_eq!(meant.play(call).0, *answer, "{name}: {call}");
                 }
+                Line::Takes(call, steps) => {
+                    let work = meant.work(call);
+                    assert_eq!(work.need, *steps, "{name}: {call}");
+                    meant.carry_out(&work);
+                }
                 Line::CreateGives(handle) => {
                     assert_eq!(meant.play(&Call::Create), (0, *handle), "{name}");
                 }
@@ -77,6 +82,7 @@ fn lengths_of_tables() {
 fn steps_by_hand() {
     let mut meant = Meant::fresh(Sizes { m: 4, e: 8, b: 8 }, 0);
     let add = Call::add;
+    let advance = Call::Advance { handle: 2 };
     let list: [(Call, u64); 16] = [
         (Call::Make, 33),                         // 2 x 8 + 17
         (Call::Open, 0),                          // nothing pending
@@ -87,7 +93,7 @@ fn steps_by_hand() {
         (Call::Create, 11),                       //
         (add(0, 2, 1, 1), 14),                    // two via parent, p = 4
         (add(2, 1, 0, 0), 64 + 8),                // a copy
-        (Call::Advance { handle: 2 }, 128 + 14),  // two read-write cells
+        (advance, 128 + 14),                      // two read-write cells, both written before
         (Call::Commit { handle: 2 }, 3 * 10 + 2), // 2, two freed (4), one raised (2), one moved (2)
         (Call::Create, 11),                       //
         (Call::Create, 11),                       //
@@ -96,6 +102,9 @@ fn steps_by_hand() {
         (Call::delete(1, 0, 3), 20),             // p = 6
     ];
     for (call, need) in list {
+        if call == advance {
+            meant.memory.fill(9);
+        }
         let work = meant.work(&call);
         assert_eq!(work.need, need, "{call}");
         meant.carry_out(&work);

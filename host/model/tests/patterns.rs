@@ -38,30 +38,40 @@ fn steps_by_hand() {
     let mut meant = Meant::fresh(USUAL, 0);
     meant.follow(1, SCALE);
     meant.follow(2, SCALE);
+    let advance = Call::Advance { handle: 2 };
     let list: [(Call, u64); 16] = [
         (Call::Create, 11),
-        (Call::pattern(0, 1, ZEROS, RO), 8),   // one entry, p = 2
-        (Call::pattern(1, 2, SCALE, RW), 14),  // two entries, p = 4
-        (Call::pattern(0, 1, ZEROS, RO), 0),   // nothing new, nothing raised
-        (Call::pattern(0, 1, ONES, RW), 8),    // a raised label; the rule stays
-        (Call::copy(3, 1, RO), 64 + 8),        // a copy
-        (Call::Restore { handle: 0 }, 256),    // three by rules and a copy; nobody ends
-        (Call::Create, 11),                    //
-        (Call::pattern(1, 2, SCALE, RO), 14),  //
-        (Call::pattern(1, 2, SCALE, RW), 14),  // both raised
-        (Call::delete(2, 2, 1), 8),            // p = 2
-        (Call::Advance { handle: 2 }, 64 + 8), // one read-write cell becomes a copy
+        (Call::pattern(0, 1, ZEROS, RO), 8),  // one entry, p = 2
+        (Call::pattern(1, 2, SCALE, RW), 14), // two entries, p = 4
+        (Call::pattern(0, 1, ZEROS, RO), 0),  // nothing new, nothing raised
+        (Call::pattern(0, 1, ONES, RW), 8),   // a raised label; the rule stays
+        (Call::copy(3, 1, RO), 64 + 8),       // a copy
+        (Call::Restore { handle: 0 }, 256),   // three by rules and a copy; nobody ends
+        (Call::Create, 11),                   //
+        (Call::pattern(1, 2, SCALE, RO), 14), //
+        (Call::pattern(1, 2, SCALE, RW), 14), // both raised
+        (Call::delete(2, 2, 1), 8),           // p = 2
+        (advance, 64 + 8),                    // one changed read-write cell becomes a copy
         (Call::Commit { handle: 2 }, 3 * 4 + 2), // 2, and one entry freed
-        (Call::Create, 11),                    //
-        (Call::pattern(1, 1, SCALE, RW), 8),   //
+        (Call::Create, 11),                   //
+        (Call::pattern(1, 1, SCALE, RW), 8),  //
         (Call::Restore { handle: 1 }, 256 + 3 * 4 + 2), // one domain and one entry end: p = 1 + 1 + 2
     ];
     for (call, need) in list {
+        // The advance finds cell 1 written; after it the program writes the scale again.
+        if call == advance {
+            meant.cell(1).fill(9);
+        }
         let work = meant.work(&call);
         assert_eq!(work.need, need, "{call}");
         meant.carry_out(&work);
+        if call == advance {
+            meant.follow(1, SCALE);
+        }
     }
-    // Three read-write cells by rules: three copies.
+    // Three read-write cells by rules: no copy while memory follows these, and three afterwards.
+    assert_eq!(meant.work(&Call::Advance { handle: 1 }).need, 0);
+    meant.memory.fill(9);
     let work = meant.work(&Call::Advance { handle: 1 });
     assert_eq!((work.byte_steps(), work.words, work.need), (192, 6, 212));
 }

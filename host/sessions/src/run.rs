@@ -1,6 +1,6 @@
 //! Many sessions, one after the other, with progress.
 
-use crate::check::{Checker, Tally};
+use crate::check::{Advances, Checker, Tally};
 use crate::generate::Generator;
 use crate::session::Session;
 use crate::shrink::{Shrunk, shrink};
@@ -170,6 +170,31 @@ pub fn long(tally: &Tally) -> String {
         text,
         "restores that ended domains {}, that went outwards {}; advances over via parent {}; commits that raised {}, that moved {}",
         tally.ending_restores, tally.outward_restores, tally.turning_advances, tally.raising_commits, tally.moving_commits
+    )
+    .unwrap();
+    let Advances {
+        nothing,
+        nothing_and_full,
+        some,
+        all,
+        first_byte,
+        last_byte,
+        kept_via_parent,
+        kept_rule,
+        like_parent,
+        unlike_parent,
+        exact,
+        one_short,
+        lacks_unchanged,
+    } = tally.advances;
+    writeln!(
+        text,
+        "advances with nothing changed {nothing} (no body free {nothing_and_full}), some cells {some}, all {all}; the first byte alone {first_byte}, the last {last_byte}"
+    )
+    .unwrap();
+    writeln!(
+        text,
+        "unchanged and kept via parent {kept_via_parent}, by rule {kept_rule}; changed to the parent's value {like_parent}, unchanged and unlike it {unlike_parent}; bodies just enough {exact}, one short {one_short}; 15 for unchanged cells alone {lacks_unchanged}"
     )
     .unwrap();
     writeln!(

@@ -6,7 +6,7 @@ use crate::trace::{Failure, Stored, Trace, Way, at, follow};
 use domain_lend::Linked;
 use domain_lend::pages::Arena;
 use domain_model::{
-    Buffer, Buffers, Call, Ended, FULL, Model, Notebook, Reply, STOPPED, Sizes, State, Step, Store,
+    Buffer, Buffers, Call, Ended, FULL, Model, Notebook, Reply, STOPPED, State, Step, Store,
     Verdict, plan, table,
 };
 
@@ -80,8 +80,8 @@ pub struct Case {
 
 impl Case {
     /// A scenario's call, after the calls before it. What document 01 counts for it was worked out by hand.
-    pub fn new(scenario: &Scenario, sizes: Sizes) -> Result<Case, String> {
-        let (before, notebook) = prepare(scenario, sizes)?;
+    pub fn new(scenario: &Scenario) -> Result<Case, String> {
+        let (before, notebook) = prepare(scenario)?;
         let case = Case::of(scenario.name.into(), scenario.call, before, notebook)?;
         let found = (case.reply.code, case.plan.bytes, case.plan.words);
         let counted = (scenario.number, 64 * scenario.cells, scenario.pairs);
@@ -132,11 +132,11 @@ impl Case {
     }
 
     /// Follows the call in a child.
-    pub fn follow(&self, arena: &Arena, way: Way) -> Result<Trace, Failure> {
+    pub fn follow(&self, arena: &Arena, way: Way, budget: u64) -> Result<Trace, Failure> {
         arena.load(&self.before);
         // SAFETY: the arena's buffers are the child's own while it runs.
         follow(arena, way, &|lent, outs| unsafe {
-            domain_lend::run(lent, &self.call, FULL, outs)
+            domain_lend::run(lent, &self.call, budget, outs)
         })
     }
 

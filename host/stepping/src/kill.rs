@@ -144,16 +144,21 @@ pub struct Ends {
     pub restores: u64,
 }
 
-/// The next act. After a write of a rule's bytes it is mostly an add by that rule, which would hardly ever be done else.
+/// The next act. After a write of a rule's bytes it is mostly an add by that rule, which would hardly ever be done else; after another
+/// write it is an advance now and then, which has something to copy.
 fn choose(random: &mut Rng, cells: u32, handles: &[u32], last: Option<Act>) -> Act {
-    if let Some(Act::Write {
-        first,
-        count,
-        what: Bytes::Rule(rule),
-    }) = last
-        && random.below(8) > 0
-    {
-        return Act::Call(Call::pattern(first, count, rule, random.below(2) as u32));
+    match last {
+        Some(Act::Write {
+            first,
+            count,
+            what: Bytes::Rule(rule),
+        }) if random.below(8) > 0 => {
+            return Act::Call(Call::pattern(first, count, rule, random.below(2) as u32));
+        }
+        Some(Act::Write { .. }) if random.below(4) == 0 => {
+            return Act::Call(Call::Advance { handle: 0 });
+        }
+        _ => {}
     }
     let any = match handles.is_empty() {
         true => 0,

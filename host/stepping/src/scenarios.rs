@@ -17,10 +17,13 @@ pub enum Act {
     Write { cell: u32, version: u32 },
     /// A program write of a rule's bytes into a cell.
     Follow { cell: u32, rule: u32 },
+    /// A program write of one byte of a cell: another than stands there.
+    Touch { cell: u32, byte: usize },
 }
 
 pub struct Scenario {
     pub name: &'static str,
+    pub sizes: Sizes,
     pub before: Vec<Act>,
     pub call: Call,
     /// The answer's number.
@@ -33,6 +36,9 @@ pub struct Scenario {
 
 /// Small enough that every store can be looked at, with room for an advance.
 pub const SMALL: Sizes = Sizes { m: 4, e: 6, b: 6 };
+
+/// The same for two domains that hold eight cells each.
+pub const MIXED: Sizes = Sizes { m: 8, e: 16, b: 18 };
 
 /// What a program write puts into a cell: two versions differ in every byte, and all bytes are below 251, so that none is that with
 /// which what means nothing is filled, and a store shows in every byte it covers.
@@ -52,6 +58,12 @@ fn via_parent(first: u32, count: u32, label: u32) -> Act {
 fn by_rule(cell: u32, rule: u32, label: u32) -> Vec<Act> {
     let held = Call::pattern(cell, 1, rule, label);
     vec![Act::Follow { cell, rule }, Act::Done(held)]
+}
+
+/// A program write of one byte of each of these cells.
+fn touch(cells: &[u32], byte: usize) -> Vec<Act> {
+    let touched = |&cell| Act::Touch { cell, byte };
+    cells.iter().map(touched).collect()
 }
 
 /// A version of which no byte, in any of the first four cells, is that of a rule: a restore by a rule shows in every byte.
@@ -81,7 +93,8 @@ pub fn scenarios() -> Vec<Scenario> {
     let then = |before: Vec<Act>, act: Act| [before, vec![act]].concat();
 
     let mut all = Vec::new();
-    let mut add = |name, before, call, number, cells, pairs| all.push(Scenario { name, before, call, number, cells, pairs });
+    let sizes = SMALL;
+    let mut add = |name, before, call, number, cells, pairs| all.push(Scenario { name, sizes, before, call, number, cells, pairs });
     //   Name, what went before, the call, and its number, cells and pairs.
     add("make over a store", one(), Make, 0, 0, 0);
     add("make over anything", vec![], Make, 0, 0, 0);
@@ -127,6 +140,7 @@ pub fn scenarios() -> Vec<Scenario> {
     add("commit the outer", two(), Commit { handle: 1 }, 6, 0, 0);
     add("restore a dead handle", two(), Restore { handle: 9 }, 5, 0, 0);
     patterns(&mut all);
+    shorter_advances(&mut all);
     all
 }
 
@@ -148,7 +162,8 @@ fn patterns(all: &mut Vec<Scenario>) {
     let over = |before: Vec<Act>| [before, write(0..4, UNRULED)].concat();
     let then = |before: Vec<Act>, act: Act| [before, vec![act]].concat();
 
-    let mut add = |name, before, call, number, cells, pairs| all.push(Scenario { name, before, call, number, cells, pairs });
+    let sizes = SMALL;
+    let mut add = |name, before, call, number, cells, pairs| all.push(Scenario { name, sizes, before, call, number, cells, pairs });
     //   Name, what went before, the call, and its number, cells and pairs.
     add("add by rule 0", two_follow(ZEROS), Call::pattern(1, 2, ZEROS, 1), 0, 0, 4);
     add("add by rule 1", two_follow(ONES), Call::pattern(1, 2, ONES, 1), 0, 0, 4);
@@ -168,7 +183,8 @@ fn patterns(all: &mut Vec<Scenario>) {
 
     add("advance over rules", over(rules()), Advance { handle: 1 }, 0, 2, 4);
     add("advance over rules and copies", over(mixed()), Advance { handle: 0 }, 0, 2, 4);
-    add("advance over an unchanged rule", [made(), vec![CREATE], by_rule(1, ONES, 1)].concat(), Advance { handle: 0 }, 0, 1, 2);
+    add("advance over unchanged rules", rules(), Advance { handle: 0 }, 0, 0, 0);
+    add("advance over one changed rule", [rules(), touch(&[2], 63)].concat(), Advance { handle: 0 }, 0, 1, 2);
     // Freed: 0; moved: 2 and 3; raised in domain 1: 0.
     add("commit of rules", over(inside()), Commit { handle: 2 }, 0, 0, 10);
     add("delete of rules", over(rules()), Call::delete(1, 1, 3), 0, 0, 6);
@@ -184,9 +200,40 @@ fn patterns(all: &mut Vec<Scenario>) {
         Call::via_parent(1, 1, 1), 19, 0, 0);
 }
 
+/// Advances that find some cells changed and others not, of every kind; and such as find none changed, which must store nothing.
+#[rustfmt::skip]
+fn shorter_advances(all: &mut Vec<Scenario>) {
+    use Call::*;
+    let advance = Advance { handle: 0 };
+    let one = || [vec![MAKE], write(0..4, 1), vec![CREATE, copy(0, 2, 1)]].concat();
+    // Domain 1 holds cells 0 to 7. Domain 2 holds 0 to 2 via parent, 3 and 4 by rules, 5 and 6 by copies of its own, all read-write, and 7
+    // by a copy, read-only.
+    let mixed = || [vec![MAKE], write(0..8, 1), vec![CREATE, copy(0, 8, 1), CREATE, via_parent(0, 3, 1)], by_rule(3, SCALE, 1), by_rule(4, INDEX, 1),
+                    write(5..8, 2), vec![copy(5, 2, 1), copy(7, 1, 0)]].concat();
+    // Cells 1, 4, 5 and 7 differ from what is held, 7 being read-only: three are copied.
+    let changed = || [mixed(), touch(&[1, 7], 63), touch(&[4], 0), touch(&[5], 31)].concat();
+    let then = |before: Vec<Act>, act: Act| [before, vec![act]].concat();
+
+    let mut add = |name, sizes, before, call, cells, pairs| all.push(Scenario { name, sizes, before, call, number: 0, cells, pairs });
+    //   Name, sizes, what went before, the call, and its cells and pairs.
+    add("advance, nothing changed", SMALL, one(), advance, 0, 0);
+    add("advance, changed back", SMALL, [one(), write(0..2, 2), write(0..2, 1)].concat(), advance, 0, 0);
+    add("advance, one of two changed", SMALL, [one(), write(1..2, 2)].concat(), advance, 1, 2);
+    add("advance, a first byte changed", SMALL, [one(), touch(&[0], 0)].concat(), advance, 1, 2);
+    add("advance, a last byte changed", SMALL, [one(), touch(&[1], 63)].concat(), advance, 1, 2);
+    add("advance over a mix, nothing", MIXED, mixed(), advance, 0, 0);
+    add("advance over a mix, read-only", MIXED, [mixed(), touch(&[7], 0)].concat(), advance, 0, 0);
+    add("advance over a mix, some", MIXED, changed(), advance, 3, 6);
+    add("advance over a mix, others", MIXED, [mixed(), touch(&[0, 3, 6], 63)].concat(), advance, 3, 6);
+    add("advance over a mix, all", MIXED, [mixed(), write(0..8, 3)].concat(), advance, 7, 14);
+    add("advance over a mix, again", MIXED, [changed(), vec![Act::Done(advance)], touch(&[2, 5], 0)].concat(), advance, 2, 4);
+    // Cut after the store of word 6: 64 bytes and 4 words for each of three cells, and word 6.
+    add("open a cut advance over a mix", MIXED, then(changed(), Act::Cut(advance, 3 * 68 + 1)), Open, 0, 6);
+}
+
 /// The buffers and the notebook as they stand before the call. The buffers are what stood in them before the first make, any bytes.
-pub fn prepare(scenario: &Scenario, sizes: Sizes) -> Result<(Buffers, Notebook), String> {
-    let mut buffers = Buffers::filled(sizes.lengths(), 0xA5, 0xA5A5_A5A5);
+pub fn prepare(scenario: &Scenario) -> Result<(Buffers, Notebook), String> {
+    let mut buffers = Buffers::filled(scenario.sizes.lengths(), 0xA5, 0xA5A5_A5A5);
     let mut notebook = Notebook::new(None);
     for act in &scenario.before {
         match *act {
@@ -211,6 +258,7 @@ pub fn prepare(scenario: &Scenario, sizes: Sizes) -> Result<(Buffers, Notebook),
                 write_cell(&mut buffers, &mut notebook, cell, &contents(cell, version));
             }
             Act::Follow { cell, rule } => follow_rule(&mut buffers, &mut notebook, cell, rule),
+            Act::Touch { cell, byte } => touch_byte(&mut buffers, &mut notebook, cell, byte),
         }
     }
     Ok((buffers, notebook))
@@ -225,6 +273,13 @@ fn write_cell(buffers: &mut Buffers, notebook: &mut Notebook, cell: u32, bytes: 
 /// A program write of a rule's bytes.
 fn follow_rule(buffers: &mut Buffers, notebook: &mut Notebook, cell: u32, rule: u32) {
     write_cell(buffers, notebook, cell, &pattern(rule).expect("a rule"));
+}
+
+/// A program write of one byte, which stays below 251 as all bytes that are written.
+fn touch_byte(buffers: &mut Buffers, notebook: &mut Notebook, cell: u32, byte: usize) {
+    let at = 64 * cell as usize + byte;
+    buffers.memory[at] = (buffers.memory[at] % 251 + 1) % 251;
+    notebook.write(at, 1);
 }
 
 /// Room for calls of many cells: a compiler may have another code for long loops than for short ones.
@@ -263,9 +318,11 @@ impl Session {
     pub fn next_case(&mut self) -> Result<Case, String> {
         loop {
             let call = if self.cut { Call::Open } else { self.choose()? };
-            if let Call::Restore { .. } = call {
+            match call {
                 // Fresh bytes in every cell, so that every byte put back shows.
-                self.write(0..self.buffers.sizes().m)?;
+                Call::Restore { .. } => self.write(0..self.buffers.sizes().m)?,
+                Call::Advance { .. } => self.change_some()?,
+                _ => {}
             }
             let mut tried = self.buffers.clone();
             let reply = Linked.call(&mut tried, &call, FULL);
@@ -318,6 +375,26 @@ impl Session {
                 .ok_or("every version is held")?;
             let bytes = contents(cell, self.version);
             write_cell(&mut self.buffers, &mut self.notebook, cell, &bytes);
+        }
+        Ok(())
+    }
+
+    /// Changes some of the cells that the innermost domain holds: in one byte, or in all of them.
+    fn change_some(&mut self) -> Result<(), String> {
+        let state = state::state(&self.buffers)?;
+        let Some(inner) = state.domains.last() else {
+            return Ok(());
+        };
+        let many = self.random.between(1, 4);
+        for &cell in inner.cells.keys() {
+            match self.random.below(2 * many) {
+                0 => self.write(cell..cell + 1)?,
+                1 => {
+                    let byte = *self.random.pick(&[0, 31, 63]);
+                    touch_byte(&mut self.buffers, &mut self.notebook, cell, byte);
+                }
+                _ => {}
+            }
         }
         Ok(())
     }

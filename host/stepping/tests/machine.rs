@@ -17,7 +17,7 @@ fn main() {
 #[cfg(all(target_os = "linux", target_arch = "x86_64"))]
 mod machine {
     use domain_lend::pages::{Arena, Side};
-    use domain_model::{Call, Sizes};
+    use domain_model::{Call, FULL, Sizes};
     use domain_stepping::check::{Case, Tally, same_stores};
     use domain_stepping::faults;
     use domain_stepping::kill;
@@ -54,7 +54,7 @@ mod machine {
     /// Steps every scenario, and plays the wrong orders.
     fn stepped() -> u32 {
         let start = Instant::now();
-        let arena = Arena::new(SMALL.lengths(), Side::After);
+        let mut arena = Arena::new(SMALL.lengths(), Side::After);
         let mut tally = Tally::default();
         let mut wrong = 0;
         let mut found = 0;
@@ -69,11 +69,19 @@ mod machine {
             "call", "bytes", "words", "stores", "instructions"
         );
         for scenario in scenarios() {
-            let result = Case::new(&scenario, SMALL).and_then(|case| {
+            if arena.lengths != scenario.sizes.lengths() {
+                arena = Arena::new(scenario.sizes.lengths(), Side::After);
+            }
+            let result = Case::new(&scenario).and_then(|case| {
                 let told = |failure: Failure| format!("{failure:?}");
-                let trace = case.follow(&arena, Way::Guarded).map_err(told)?;
+                let trace = case.follow(&arena, Way::Guarded, FULL).map_err(told)?;
                 case.judge(&trace, &mut tally)?;
-                let stepped = case.follow(&arena, way).map_err(told)?;
+                if case.plan.steps.is_empty() {
+                    // What needs no step is done with no budget, and stores nothing then either.
+                    let trace = case.follow(&arena, Way::Guarded, 0).map_err(told)?;
+                    case.judge(&trace, &mut tally)?;
+                }
+                let stepped = case.follow(&arena, way, FULL).map_err(told)?;
                 same_stores(&case.before, &trace, &stepped)?;
                 let instructions = trace.instructions + stepped.instructions;
                 tally.instructions += stepped.instructions;
@@ -135,7 +143,7 @@ mod machine {
             let case = session.next_case()?;
             let told = |wrong: String| format!("{}: {wrong}", case.name);
             let trace = case
-                .follow(&arena, Way::Guarded)
+                .follow(&arena, Way::Guarded, FULL)
                 .map_err(|failure| told(format!("{failure:?}")))?;
             case.judge(&trace, tally).map_err(told)?;
             session.go_on(&case)

@@ -30,8 +30,8 @@ impl Sizes {
     /// 65,536, e and b from 1 to 4,096.
     ///
     /// A domain takes an entry for each cell that it holds and a body for each of them that it
-    /// holds as a copy. An advance takes new bodies for all read-write cells of its domain before
-    /// the old ones become free, so leave room for them.
+    /// holds as a copy. An advance takes a new body for each read-write cell of its domain that has
+    /// changed, before the old ones become free, so leave room for as many as may change.
     pub fn new(m: u32, e: u32, b: u32) -> Result<Sizes, SizeError> {
         let check = |what, asked, most| {
             if (1..=most).contains(&asked) {

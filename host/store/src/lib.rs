@@ -88,6 +88,28 @@
 //! # Ok::<(), Box<dyn std::error::Error>>(())
 //! ```
 //!
+//! # What an advance costs
+//!
+//! An advance copies the read-write cells that have changed, 64 bytes each, and keeps the others as
+//! they are held: an unchanged cell takes no body and no step. It costs a comparison of its 64 bytes
+//! with those that are held, whether these are a copy's, the parent's or a rule's.
+//!
+//! ```
+//! use domain_store::{Buffers, Kind, Label};
+//! # let mut buffers = Buffers::allocate(4, 8, 5)?;
+//! # let mut store = buffers.store();
+//! # store.make()?;
+//! let cycle = store.create()?;
+//! store.add(cycle, 0..4, Kind::Copy, Label::ReadWrite)?;
+//! assert_eq!(store.advance(cycle)?, 0); // nothing has changed: no step
+//! store.cell_mut(1)[63] = 9;
+//! assert_eq!(store.advance(cycle)?, 72); // one of four cells is copied, into the one free body
+//! store.cell_mut(1).fill(0);
+//! store.restore(cycle)?;
+//! assert_eq!(store.cell(1)[63], 9);
+//! # Ok::<(), Box<dyn std::error::Error>>(())
+//! ```
+//!
 //! # Where the buffers come from
 //!
 //! [`Store`] takes any three slices. [`Buffers`] are allocated for given sizes; [`MappedBuffers`]

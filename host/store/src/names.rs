@@ -103,10 +103,11 @@ pub enum Kind {
     /// The domain keeps a copy of memory's 64 bytes, in a body.
     Copy,
     /// The domain relies on the value that its parent holds, which takes no body. Memory must have
-    /// that value still.
+    /// that value still. An advance makes a copy of a read-write cell whose bytes have changed.
     ViaParent,
     /// The domain keeps only the rule that the 64 bytes follow, which takes no body: a restore makes
-    /// them afresh. Memory must follow the rule.
+    /// them afresh. Memory must follow the rule. An advance makes a copy of a read-write cell whose
+    /// bytes have changed.
     Pattern(Rule),
 }
 
@@ -235,7 +236,8 @@ impl Rule {
 pub enum Label {
     /// The program only reads the cell. An advance keeps the value that was held first.
     ReadOnly,
-    /// The program writes the cell. An advance takes memory's bytes as the new value.
+    /// The program writes the cell. An advance takes memory's bytes as the new value, and copies
+    /// them where they have changed.
     ReadWrite,
 }
 

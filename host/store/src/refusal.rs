@@ -208,9 +208,9 @@ impl fmt::Display for Refusal {
             }
             Refusal::NoFreeBody => {
                 "There are too few free bodies for the new copies (an advance needs one for \
-                 each read-write cell before it frees the old ones): delete or commit what is \
-                 no longer needed, or use another store in larger buffers (a make forgets this \
-                 one)."
+                 each changed read-write cell before it frees the old ones): delete or commit \
+                 what is no longer needed, or use another store in larger buffers (a make \
+                 forgets this one)."
             }
             Refusal::PatternDiffers => {
                 "There is no such rule, or memory differs from its bytes in a cell that is newly \

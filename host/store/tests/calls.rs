@@ -122,7 +122,13 @@ fn room_is_counted() {
         let mut buffers = sized(4, 8, bodies);
         let mut store = buffers.store();
         let one = copy(&mut store, 7);
+        // An unchanged cell needs no body.
+        assert_eq!(store.advance(one), Ok(0));
+        store.cell_mut(0).fill(9);
         assert_eq!(store.advance(one), advanced);
+        store.cell_mut(0).fill(11);
+        store.restore(one).unwrap();
+        assert!(is_filled(&store, 0, if advanced.is_ok() { 9 } else { 7 }));
     }
     let mut buffers = sized(4, 1, 8);
     let mut store = buffers.store();
@@ -280,6 +286,78 @@ fn an_advance_turns_read_write_rules_into_copies() {
     }
 }
 
+/// Four cells of 7 that the only domain holds as copies, read-write.
+fn four_copies(buffers: &mut Buffers) -> (Store<'_>, Handle) {
+    let mut store = buffers.store();
+    store.memory_mut().fill(7);
+    let one = store.create().unwrap();
+    store.add(one, 0..4, Kind::Copy, Label::ReadWrite).unwrap();
+    (store, one)
+}
+
+#[test]
+fn an_advance_copies_what_changed() {
+    let mut buffers = fresh();
+    let (mut store, one) = four_copies(&mut buffers);
+    let places = |store: &Store| [0, 1, 2, 3].map(|cell| store.look_place(one, cell).unwrap());
+    let first = places(&store);
+    for budget in [0, 1, u64::MAX] {
+        let outcome = store.advance_with_budget(one, budget).unwrap();
+        assert_eq!((outcome.steps(), outcome.is_done()), (0, true));
+    }
+    // The first byte of one cell, the last byte of another.
+    store.memory_mut()[64] = 9;
+    store.memory_mut()[3 * 64 + 63] = 9;
+    assert_eq!(store.advance(one), Ok(2 * 70 + 2));
+    let then = places(&store);
+    assert_eq!((then[0], then[2]), (first[0], first[2]));
+    assert!(then[1] != first[1] && then[3] != first[3]);
+    // Written and written back is unchanged.
+    store.cell_mut(2).fill(9);
+    store.cell_mut(2).fill(7);
+    assert_eq!(store.advance(one), Ok(0));
+    let kept = store.memory().to_vec();
+    store.memory_mut().fill(200);
+    store.restore(one).unwrap();
+    assert_eq!(store.memory(), kept);
+}
+
+#[test]
+fn an_advance_needs_bodies_for_what_changed() {
+    // Four copies, and two bodies besides.
+    let mut buffers = sized(4, 8, 6);
+    let (mut store, one) = four_copies(&mut buffers);
+    store.memory_mut()[..3 * 64].fill(9);
+    assert_eq!(store.advance(one), Err(Refusal::NoFreeBody));
+    store.cell_mut(1).fill(7);
+    assert_eq!(store.advance(one), Ok(2 * 70 + 2));
+}
+
+#[test]
+fn an_unchanged_cell_stays_via_parent_or_by_its_rule() {
+    let mut buffers = sized(4, 8, 3);
+    let mut store = buffers.store();
+    let one = store.create().unwrap();
+    store.add(one, 0..2, Kind::Copy, Label::ReadWrite).unwrap();
+    let two = store.create().unwrap();
+    let zeros = Kind::Pattern(Rule::Zeros);
+    store
+        .add(two, 0..1, Kind::ViaParent, Label::ReadWrite)
+        .unwrap();
+    store.add(two, 1..2, zeros, Label::ReadWrite).unwrap();
+    assert_eq!(store.advance(two), Ok(0));
+    assert_eq!(store.delete(one, 0..1), Err(Refusal::ChildRelies));
+    assert_eq!(store.look_place(two, 1), Ok(Place::Rule(Rule::Zeros)));
+    // One of them at a time: there is one free body.
+    store.memory_mut()[63] = 1;
+    assert_eq!(store.advance(two), Ok(72));
+    assert_eq!(store.look_place(two, 1), Ok(Place::Rule(Rule::Zeros)));
+    store.memory_mut()[64] = 1;
+    assert_eq!(store.advance(two), Err(Refusal::NoFreeBody));
+    // The first cell is a copy now, so that nobody relies on the parent's.
+    store.delete(one, 0..1).unwrap();
+}
+
 #[test]
 fn a_pattern_has_to_be_in_memory() {
     let mut buffers = fresh();
@@ -330,7 +408,11 @@ fn rules_need_entries_and_no_bodies() {
     store.memory_mut().fill(0);
     assert_eq!(store.restore(one), Ok(8 * 64));
     assert!((0..8).all(|cell| store.cell(cell) == &Rule::Scale.bytes()));
+    // Unchanged, they stay by their rule; changed, they need a body each.
+    assert_eq!(store.advance(one), Ok(0));
+    store.memory_mut()[..2 * 64].fill(0);
     assert_eq!(store.advance(one), Err(Refusal::NoFreeBody));
+    store.restore(one).unwrap();
     let two = store.create().unwrap();
     let added = store.add(two, 0..1, scale, Label::ReadOnly);
     assert_eq!(added, Err(Refusal::NoFreeEntry));

@@ -173,6 +173,7 @@ fn provoked(number: u32) -> Option<Refusal> {
         16 => small.add(one, 0..2, copy, rw).err(),
         17 => {
             small.add(one, 0..1, copy, rw).unwrap();
+            small.cell_mut(0).fill(9);
             small.advance(one).err()
         }
         18 => store.add(two, 0..1, Kind::Pattern(Rule::Ones), rw).err(),

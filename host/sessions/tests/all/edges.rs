@@ -58,6 +58,16 @@ fn every_edge() {
                             .unwrap_or_else(|m| panic!("{name}: {}: {}", m.call, m.what));
                         assert_eq!(reply.code, *answer, "{name}: {call}");
                     }
+                    Edge::Takes(call, steps) => {
+                        checker
+                            .every_cut(&line, call, 3)
+                            .unwrap_or_else(|m| panic!("{name}: {}: {}", m.call, m.what));
+                        // Steps that just suffice.
+                        let reply = checker
+                            .call(&mut line, call, *steps)
+                            .unwrap_or_else(|m| panic!("{name}: {}: {}", m.call, m.what));
+                        assert_eq!((reply.code, reply.steps), (0, *steps), "{name}: {call}");
+                    }
                     Edge::CreateGives(handle) => {
                         let reply = checker
                             .call(&mut line, &Call::Create, FULL)
@@ -160,6 +170,12 @@ fn the_largest_store() {
         at,
         bytes: vec![byte; 5000],
     };
+    // Every cell that domain 2 holds read-write.
+    let write_all = |byte| Input::Write {
+        at: 64 * 65_000,
+        bytes: vec![byte; 64 * 500],
+    };
+    let advance = Call::Advance { handle: 2 };
     let session = Session {
         sizes: Sizes {
             m: 65_536,
@@ -180,12 +196,18 @@ fn the_largest_store() {
             plain(add(0, 1560, 0, 0)),
             plain(add(2000, 1, 0, 0)),
             plain(add(65_535, 1, 1, 1)),
-            write(64 * 65_100 + 3, 9),
-            plain(Call::Advance { handle: 2 }),
-            plain(Call::Advance { handle: 2 }),
+            // Nothing has changed; then every cell, and the copies take the last free bodies.
+            plain(advance),
+            write_all(9),
+            plain(advance),
+            plain(advance),
+            write(64 * 65_100 + 3, 7),
+            plain(advance),
             plain(Call::delete(2, 1000, 560)),
-            stopped(Call::Advance { handle: 2 }, 64 * 500 + 2 * 1000 + 1),
-            cut(Call::Advance { handle: 2 }),
+            write_all(8),
+            stopped(advance, 64 * 500 + 2 * 1000 + 1),
+            write(64 * 65_100 + 3, 9),
+            cut(advance),
             write(64 * 65_300 + 40, 8),
             plain(Call::Look {
                 handle: 1,
@@ -193,6 +215,7 @@ fn the_largest_store() {
             }),
             plain(Call::Restore { handle: 2 }),
             plain(Call::Commit { handle: 2 }),
+            plain(Call::Restore { handle: 1 }),
             plain(Call::Create),
             plain(add(65_200, 300, 1, 1)),
             write(64 * 65_250, 7),
@@ -210,8 +233,8 @@ fn the_largest_store() {
         "most entries {}",
         checker.tally.entries
     );
-    // One add past memory, three without a free entry, one advance without free bodies; all else
-    // was done or stopped.
+    // One add past memory, three without a free entry, one advance of changed cells without free
+    // bodies; all else was done or stopped.
     let refused: Vec<(u32, u64)> = REFUSALS
         .map(|n| (n, checker.tally.answered(n)))
         .filter(|(_, times)| *times > 0)

@@ -1,5 +1,6 @@
 //! All tests of the harness, in one program, so that one line at the end can tell what was tried.
 
+mod advances;
 mod bits;
 mod edges;
 mod faults;

@@ -48,9 +48,14 @@ fn before<T: Copy>(buffer: &mut [T], change: impl Fn(T) -> T) {
     }
 }
 
+/// An advance that was done and copied nothing.
+fn is_still(call: &Call, reply: &Reply) -> bool {
+    matches!(call, Call::Advance { .. }) && (reply.code, reply.steps) == (0, 0)
+}
+
 #[test]
 fn each_small_thing_is_seen() {
-    let list: [(&str, Meddle); 21] = [
+    let list: [(&str, Meddle); 24] = [
         ("one byte past memory", |b, c, _| {
             if matches!(c, Call::Restore { .. }) {
                 past(&mut b.memory, |v| v ^ 1)
@@ -149,6 +154,26 @@ fn each_small_thing_is_seen() {
                 r.offset = 64
             }
         }),
+        ("a body byte in an advance of no step", |b, c, r| {
+            let last = b.bodies.len().saturating_sub(1);
+            if is_still(c, r) {
+                flip(&mut b.bodies, last, |v| v ^ 1);
+            }
+        }),
+        ("a spare pair in an advance of no step", |b, c, r| {
+            let last = b.table.len().saturating_sub(1);
+            if is_still(c, r) {
+                flip(&mut b.table, last, |v| v ^ 1);
+            }
+        }),
+        (
+            "an advance of no step that is told as stopped",
+            |_, c, r| {
+                if is_still(c, r) {
+                    r.code = STOPPED
+                }
+            },
+        ),
         ("a body byte in an add by a rule", |b, c, r| {
             if matches!(c, Call::Add(Add { kind: PATTERN, .. })) && r.code == 0 {
                 flip(&mut b.bodies, 0, |v| v ^ 1);

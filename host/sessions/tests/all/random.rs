@@ -38,6 +38,13 @@ fn the_store_and_the_model_agree() {
         tally.pattern_adds >= 500 && tally.pattern_restores >= 200 && tally.pattern_looks >= 100
     );
     assert!(tally.pattern_advances >= 50 && tally.pattern_commits >= 50);
+    let met = tally.advances;
+    assert!(met.nothing >= 500 && met.some >= 200 && met.all >= 200);
+    assert!(met.first_byte >= 100 && met.last_byte >= 100);
+    assert!(met.kept_via_parent >= 30 && met.kept_rule >= 50);
+    assert!(met.like_parent >= 30 && met.unlike_parent >= 200);
+    assert!(met.exact >= 10 && met.one_short >= 30 && met.nothing_and_full >= 30);
+    assert!(met.lacks_unchanged >= 200);
     assert!(tally.cuts >= 10_000 && tally.stopped_openings >= 2_000 && tally.counts >= 2_000);
 }
 
