@@ -3,11 +3,11 @@
 //
 // A body in use is never written, so that a cut leaves the old copies whole. The questions are asked of the entries and not of the cells: there
 // may be 65,536 cells, but no more than 4,096 entries. Each innermost read-write entry is compared with memory once (values): by its own body or
-// rule, or by what its chain ends in, for which notes tell where to begin the search. The entries that advance set their cells' bits, 64 cells to a
-// number, and there is a number for each block of the marks that question 4 made: so they cost what the table has and not what memory has. A walk over the groups that have a
-// block notes how many bits there are up to the end of each. That tells the rank of each cell, and a pass over the entries lists the slots of
-// those that advance in the order of their cells. Along the list each cell is copied into the lowest body that is free, and its entry is staged
-// with that body. Then the staged words are written by the journal.
+// rule, or by what its chain ends in, for which notes tell where to begin the search. The entries that advance set their cells' bits, 64 cells to
+// a number, and there is a number for each block of the marks that question 4 made: so they cost what the table has and not what memory has. A
+// walk over the groups that have a block notes how many bits there are up to the end of each. That tells the rank of each cell, and a pass over
+// the entries lists the slots of those that advance in the order of their cells. Along the list each cell is copied into the lowest body that is
+// free, and its entry is staged with that body. Then the staged words are written by the journal.
 use changes::few_bits;
 use changes::few_words;
 use changes::many_bits;

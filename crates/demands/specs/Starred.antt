@@ -16,7 +16,8 @@ use Rattle.demands.specs.Session.{inputOn}
 
 -- ---- edges as data
 
--- A call, and the number that it must answer, 0 for done; one that must be done in so many steps; a program write that fills a cell with one byte ("cells are filled with one byte");
+-- A call, and the number that it must answer, 0 for done; one that must be done in so many steps; a program write that fills a cell with one byte
+-- ("cells are filled with one byte");
 -- and what must be seen: the byte that fills each cell of memory, and the number of live domains that list gives.
 pub data Act : Type 0 where
   calls : Request → (number : ℕ) → Act
