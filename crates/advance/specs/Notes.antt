@@ -1,15 +1,15 @@
 -- What the parts of advance's code pass on to each other: which cells advance, as bits; the list of the entries that advance, in the order of
 -- their cells; and what is staged for them.
 use Prim.Native.Nat.{ℕ, _+_, _*_, _≤_, _<_}
-use mathlib.Core.Bool.{Bool, true, false, cond, not, _&&_, _||_}
+use mathlib.Core.Bool.{Bool, true, false, cond, not, _||_}
 use mathlib.Core.Path.{_≡_}
 use mathlib.Core.List.{List}
-use lib.Dec.{leb, ltb, eqb}
+use lib.Dec.{leb, ltb}
 use lib.ListN.{length, getD, set}
 use Rattle.words.specs.Layout.{cellsOf, bodiesOf, slotsOf, pairsAt, maxSlots, groupAt, groupOf, inGroup}
 use Rattle.words.specs.Scan.{all, count}
 use Rattle.words.specs.Stores.{tab}
-use Rattle.table.specs.Entry.{live, word1, word2, depthOf, writableOf, cellOf, innermost, parent, isOutermost, holdsIn}
+use Rattle.table.specs.Entry.{live, word1, word2, cellOf, innermost, parent, isOutermost, holdsIn}
 use Rattle.marks.specs.Blocks.{blockOf, blockAt, maxGroups, Kept}
 use Rattle.table.specs.Marks.{Marks, Marked, IsCopy, EndsAt, cellIn}
 use Rattle.table.specs.Rule.{ruleOk}

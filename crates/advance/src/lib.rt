@@ -66,10 +66,9 @@ ghost use Rattle.words.specs.Layout.{cellAt, cellsOf, bodiesOf, slotsOf, pairsA
 ghost use Rattle.words.specs.Scan.{all, count, nth};
 ghost use Rattle.words.specs.Stores.{stores, gather};
 ghost use Rattle.words.specs.Cells.{cellPlan};
-ghost use Rattle.table.specs.Entry.{live, word1, parent, cellOf, asCopy};
+ghost use Rattle.table.specs.Entry.{live, word1, parent, isOutermost, cellOf, asCopy};
 ghost use Rattle.marks.specs.Blocks.{blockOf, blockAt, maxGroups, directoryEnd, Kept, Enough};
 ghost use Rattle.table.specs.Marks.{Blank, CellsOnce, EndsAt, Reached, RoomForMarks, cellIn, has, markAt, zeros};
-ghost use Rattle.table.specs.Rule.{ruleOk};
 ghost use Rattle.table.specs.Changes.{keep, put};
 ghost use Rattle.search.specs.Free.{unmarked};
 ghost use Rattle.values.specs.Values.{writes, entryChanged};
@@ -81,13 +80,16 @@ ghost use Rattle.advance.specs.Notes.{entriesCheck, Comparable, byGroup,
 
 // ---- the questions: 0, or the number of the first no
 
-// What question 15 asks of a domain with one around it: does the parent hold the cell of every innermost read-write entry, as the marks of these
-// cells tell? It takes no branch on what an entry holds. No entry from `top` on is in use.
+// What question 15 asks: does the parent, if there is one, hold the cell of every innermost read-write entry, as the marks of these cells tell? It
+// takes no branch on what an entry holds. No entry from `top` on is in use.
 fn parent_covers(table: &[u32], slots: usize, top: usize, live: u32, seen: &[u8]) -> bool
     requires { ⌜ (slots ≤ maxSlots) × (pairsAt slots ≤ length (now table)) × (1 ≤ live) × (live ≤ maxLive) × EndsAt slots (now table) top × Kept (now seen) ⌝ }
-    ensures { λ r. ⌜ r
-        ≡ all slots (λ i. not (writes live (word1 slots (now (table .entry)) i)) || has (parent live) (markAt (now (seen .entry)) (word1 slots (now (table .entry)) i))) ⌝ }
+    ensures { λ r. ⌜ r ≡ (isOutermost live
+        || all slots (λ i. not (writes live (word1 slots (now (table .entry)) i)) || has (parent live) (markAt (now (seen .entry)) (word1 slots (now (table .entry)) i)))) ⌝ }
 {
+    if live <= 1 {
+        return true;
+    }
     let mut good = true;
     let mut i: usize = 0;
     while i < top {
@@ -292,8 +294,7 @@ fn entries_check(
     ensures bits { λ r. ⌜ (r ≡ 0 → ChangedBits (now (memory .entry)) (now (bodies .entry)) slots (now (table .entry)) (live (now (table .entry))) (now (seen .entry)) (now (bits .exit))) ⌝ }
 {
     let live = table[LIVE_AT];
-    let covered = parent_covers(table, slots, top, live, seen);
-    if !((live <= 1) | covered) {
+    if !parent_covers(table, slots, top, live, seen) {
         return 15;
     }
     let k = changed_cells(memory, bodies, table, slots, top, live, seen, bits);
@@ -622,7 +623,7 @@ fn many_places() -> [u16; 4096] {
     [0u16; 4096]
 }
 
-// What is needed only once no question refuses the call is made here, so that it can stand where question 4 had its copy of the table: for few
+// What is needed only once a cell advances is made here, so that it can stand where question 4 had its copy of the table: for few
 // entries, where clearing arrays for the most would take longer than all else. No entry from `top` on is in use, so none of these is listed.
 fn store_few(
     memory: &[u8],

@@ -13,7 +13,7 @@ const SCALE: u64 = BYTE + 3 * C + 63 * N;
 // m = 8, an entry for each of 13 holdings, and three bodies more than copies.
 const MIXED: u64 = FRESH + 13 * E + 12 * B + 0x0707_0509 * V;
 
-const ADVANCES: [[u64; 5]; 67] = [
+const ADVANCES: [[u64; 5]; 73] = [
     // k = 0
     [TEXT, STORE + 0x0500_0707 * V + T, CREATE, 0, 0],
     [ADD + 3 * N + RW, CREATE, ADD + N + RW, 0, 0],
@@ -24,16 +24,21 @@ const ADVANCES: [[u64; 5]; 67] = [
     [CUT, ADVANCE + 2 * H, OPEN, STATE, 0],
     // one byte
     [SEVENS + 3 * T, RISE, BYTE + 9 * Y, CREATE, ADD + 2 * N + RW],
-    [BYTE, STATE, ADVANCE + H, STATE, WRITE + 9 * Y],
-    [RESTORE + H, STATE, 0, 0, 0],
+    [BYTE, STATE, KEEP, ADVANCE + H, WHOLE],
+    [STATE, 0, 0, 0, 0],
+    [SWEEP + 73 * S, ADVANCE + H, OPEN, SAME, 0],
+    [WRITE + 9 * Y, RESTORE + H, STATE, 0, 0],
     [TEXT + 4 * T, LAST + 9 * Y, KEEP, ADVANCE + H, WHOLE],
     [STATE, 0, 0, 0, 0],
     [SWEEP + 73 * S, ADVANCE + H, OPEN, SAME, 0],
     [LAST + 63 * Y, ADVANCE + H, STATE, 0, 0],
     // changed and changed back
     [SEVENS + 5 * T, CREATE, ADD + N + RW, WRITE + 9 * Y, 0],
-    [WRITE + 7 * Y, ADVANCE + H, STATE, WRITE + 9 * Y, 0],
-    [ADVANCE + H, WRITE + 7 * Y, ADVANCE + H, STATE, 0],
+    [WRITE + 7 * Y, KEEP, ADVANCE + H, WHOLE, STATE],
+    [SWEEP + 3 * S, ADVANCE + H, OPEN, SAME, 0],
+    [WRITE + 9 * Y, ADVANCE + H, WRITE + 7 * Y, KEEP, 0],
+    [ADVANCE + H, WHOLE, STATE, 0, 0],
+    [SWEEP + 73 * S, ADVANCE + H, OPEN, SAME, 0],
     // via parent, and a pattern
     [EDGE + 6 * T, CREATE, ADD + 2 * N + RW, CREATE, 0],
     [ADD + C + N + VIA + RW, CREATE, ADD + C + N + VIA + RW, 0, 0],
@@ -59,7 +64,8 @@ const ADVANCES: [[u64; 5]; 67] = [
     [FRESH + 8 * E + 5 * B + 7 * Y + 9 * T, CREATE, 0, 0, 0],
     [ADD + 3 * N + RW, WRITE + 9 * Y, WRITE + C + 10 * Y, 0, 0],
     [WRITE + 2 * C + 11 * Y, ADVANCE + H, 0, 0, 0],
-    [WRITE + C + 7 * Y, ADVANCE + H, STATE, 0, 0],
+    [WRITE + C + 7 * Y, KEEP, ADVANCE + H, WHOLE, STATE],
+    [SWEEP + 143 * S, ADVANCE + H, OPEN, SAME, 0],
     [FRESH + 8 * E + B + 7 * Y + 10 * T, CREATE, 0, 0, 0],
     [ADD + N + RW, ADVANCE, WRITE + 9 * Y, ADVANCE, STATE],
     [FRESH + 8 * E + 2 * B + 7 * Y + 11 * T, CREATE, 0, 0, 0],
@@ -73,7 +79,7 @@ const ADVANCES: [[u64; 5]; 67] = [
     [WRITE + 9 * Y, ADVANCE + 2 * H, ADVANCE + 2 * H, 0, 0],
     [WRITE + 11 * Y, RESTORE + 2 * H, STATE, 0, 0],
     [WRITE + 11 * Y, RESTORE + H, STATE, 0, 0],
-    // all kinds in one domain, whose entries are not in the order of their cells. In cells 0 and 4 1 holds what memory has, in 1 and 5 something else:
+    // all kinds in one domain, whose entries are not in the order of their cells. In cells 0 and 4 domain 1 holds what memory has, in 1 and 5 something else:
     // what 1 holds counts in 2 and 3 alone
     [MIXED + 20 * T, WRITE + 4 * C + 9 * Y, 0, 0, 0],
     [WRITE + 5 * C + 5 * Y, WRITE + 6 * C + 7 * Y, 0, 0, 0],
@@ -96,13 +102,13 @@ pub fn show(m: &mut [u8], b: &mut [u8], t: &mut [u32]) {
 800 Advances that copy only what changed: a read-write cell in which memory differs from the value held. m = 4 and E = B = 8 unless said
 801 Nothing changed: 1 copies three cells, 2 holds them by copy, via parent and by rule 0. Then with each budget from 0 to 3:
 802 The same with a budget of 0, before and after a write:
-803 One byte of one cell in two, at place 0; then a write and a restore:
+803 One byte of one cell in two, at place 0, also with each budget from 0 to 73; then a write and a restore:
 804 One byte, at place 63, also with each budget from 0 to 73; put back after the advance, it is changed again:
-805 Changed and changed back, before the advance and after one:
+805 Changed and changed back, before the advance, also with each budget from 0 to 3, and after one, also with each budget from 0 to 73:
 806 Via parent, over two domains, unchanged, then changed, also with each budget from 0 to 73. After a commit, via parent over one:
 807 By each rule, unchanged; then one byte in two of them, at place 0 and at 63, also with each budget from 0 to 143. Put back, they stay copies:
 808 Three copies, all changed, and B = 6 is exactly enough; with each budget from 0 to 213:
-809 B = 5 is one short; with one of them changed back it is enough:
+809 B = 5 is one short; with one of them changed back it is enough, also with each budget from 0 to 143:
 810 * B = 1, one read-write copy, advance: done. After a write that changes it: 17.
 811 * B = 2, and the write: done, and after a further write a restore puts back what was advanced to.
 812 Question 15 for a cell that 1 lacks: with nothing changed, with another cell changed, and with the cell deleted:

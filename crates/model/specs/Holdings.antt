@@ -290,8 +290,8 @@ deleteChecks m h first n s =
 abbrev pub deleteEffect : (m h first n : ℕ) → State → Effect
 deleteEffect m h first n s = orRefuse (deleteChecks m h first n s) (change 0 (2 * n) 0 (deleteFrom (named h s) first n s))
 
--- ---- advance: "gives every read-write cell of the innermost domain memory's bytes, as a copy. Read-only cells keep theirs"; and "copy only cells
--- whose memory differs from the held value; the others keep kind and body"
+-- ---- advance: "gives every read-write cell of the innermost domain memory's bytes, as a copy. Read-only cells keep theirs"; by document 02 "Copy only
+-- cells whose memory differs from the held value; the others keep kind and body"
 
 -- held read-write, and memory, which has these bytes, differs from its value
 abbrev pub heldChanged : (bytes : List ℕ) → Option Holding → Bool
@@ -327,8 +327,8 @@ advanceChecks room memory h s =
 -- where none changed nothing is stored, so that the call is done at every budget
 abbrev pub advanceEffect : Room → List ℕ → (h : ℕ) → State → Effect
 advanceEffect room memory h s =
-    orRefuse (advanceChecks room memory h s)
-    (change (cellSize * changedCells (room .cells) memory s) (2 * changedCells (room .cells) memory s) 0 (advance memory s))
+    let k = changedCells (room .cells) memory s in
+    orRefuse (advanceChecks room memory h s) (change (cellSize * k) (2 * k) 0 (advance memory s))
 
 -- ---- commit
 

@@ -27,7 +27,7 @@ pub fn many_notes() -> [u16; 4096] {
     [0u16; 4096]
 }
 
-// No notes at all, for a call that searches once.
+// No notes at all, for a call that searches once or not at all.
 pub fn no_notes() -> [u16; 1] {
     [0u16; 1]
 }

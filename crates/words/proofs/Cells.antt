@@ -38,11 +38,11 @@ cell-kept ps l c out =
     short : (l : List ℕ) (j : ℕ) → j < length (cellBytes l c) → j < 64
     short l j h = let z = rw length-take at h in omega arith
 
--- a part from k to k + 64, as the code has it
 -- 64 bytes are their own first cell
 pub first-cell : (v : List ℕ) → length v ≡ 64 → cellBytes v 0 ≡ v
 first-cell v q = take-all 64 v (omega arith)
 
+-- a part from k to k + 64, as the code has it
 pub part-from : (s : List ℕ) (k : ℕ) → take (k + 64 - k) (drop k s) ≡ take 64 (drop k s)
 part-from s k =
     let e : k + 64 - k ≡ 64 = omega arith in

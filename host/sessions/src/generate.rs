@@ -604,7 +604,7 @@ impl Generator {
                 true => self.other_bytes(state, c, value),
                 false => value,
             };
-            // Changed and changed back: two writes, and none of them is left.
+            // Changed and changed back: two writes, and nothing of them is left.
             if now == value && wanted == value && self.rng.chance(30) {
                 let letter = self.letter();
                 self.write_cell(c, vec![letter; 64]);

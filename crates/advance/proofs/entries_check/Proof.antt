@@ -1,7 +1,6 @@
 -- `advance::entries_check` meets its contract. Assumes nothing.
 use Prim.Native.Nat.{_+_}
-use mathlib.Core.Path.{_≡_, sym, ap, _∙_}
-use mathlib.Core.Bool.{Bool, _||_}
+use mathlib.Core.Path.{_≡_, sym, _∙_}
 use native.Mathlib.Omega.{arith}
 use borrow.Author.Tests.{not-true, not-false, le-leb, lt-leb}
 use borrow.Author.Needs.{needs}
@@ -13,8 +12,8 @@ use Rattle.words.proofs.Scan.{count-le}
 use Rattle.table.specs.Entry.{live}
 use Rattle.table.proofs.Rule.{ok-facts}
 use Rattle.search.specs.Free.{isCopy, copies}
-use Rattle.store.proofs.Checks.{ask-go, ask-stop}
 use Rattle.values.specs.Values.{entryChanged}
+use Rattle.store.proofs.Checks.{ask-go, ask-stop}
 use Rattle.advance.proofs.Noting.{covers}
 use Rattle.advance.proofs.entries_check.Statement.{statement}
 use Rattle.advance.proofs.entries_check.Tie as tie
@@ -31,8 +30,7 @@ parent-covers-requires c κs =
 returns : tie.Need-returns
 returns c =
     let a = c .before .before .before .before .before .before .before .before .args in
-    let n = live (a .table .now) in
-    let told = ap (λ (x : Bool). leb n 1 || x) (c .before .parent-covers .ensures) ∙ covers (a .slots) (a .table .now) (a .seen .now) n (c .before .before .before .before .before .before .before .before .pre .0 .marked) in
+    let told = c .before .parent-covers .ensures ∙ covers (a .slots) (a .table .now) (a .seen .now) (live (a .table .now)) (c .before .before .before .before .before .before .before .before .pre .0 .marked) in
     (sym (ask-stop _ 15 _ (sym told ∙ not-true _ (c .if1 .taken))), λ z. absurd (omega (arith, z)))
 
 changed-cells-requires : tie.Need-changed-cells-requires
@@ -59,7 +57,7 @@ returns-2 : tie.Need-returns-2
 returns-2 c =
     let a = c .before .before .before .before .before .before .before .before .before .before .before .before .before .before .before .before .args in
     let n = live (a .table .now) in
-    let told = ap (λ (x : Bool). leb n 1 || x) (c .before .before .before .before .before .before .before .before .before .parent-covers .ensures) ∙ covers (a .slots) (a .table .now) (a .seen .now) n (c .before .before .before .before .before .before .before .before .before .before .before .before .before .before .before .before .pre .0 .marked) in
+    let told = c .before .before .before .before .before .before .before .before .before .parent-covers .ensures ∙ covers (a .slots) (a .table .now) (a .seen .now) n (c .before .before .before .before .before .before .before .before .before .before .before .before .before .before .before .before .pre .0 .marked) in
     let wanted : leb (c .before .before .before .count-used .result .copies + c .before .before .before .before .before .before .changed-cells .result) (c .before .before .bodies-of .result)
     ≡ leb (copies (a .slots) (a .table .now) + count (a .slots) (entryChanged (a .memory .now) (a .bodies .now) (a .slots) (a .table .now) n)) (bodiesOf (length (a .bodies .now))) =
     λ j. leb (c .before .before .before .count-used .ensures .1 j + c .before .before .before .before .before .before .changed-cells .ensures .0 j) (c .before .before .bodies-of .ensures j) in
@@ -72,7 +70,7 @@ returns-3 : tie.Need-returns-3
 returns-3 c =
     let a = c .before .before .before .before .before .before .before .before .before .before .before .before .before .before .before .before .args in
     let n = live (a .table .now) in
-    let told = ap (λ (x : Bool). leb n 1 || x) (c .before .before .before .before .before .before .before .before .before .parent-covers .ensures) ∙ covers (a .slots) (a .table .now) (a .seen .now) n (c .before .before .before .before .before .before .before .before .before .before .before .before .before .before .before .before .pre .0 .marked) in
+    let told = c .before .before .before .before .before .before .before .before .before .parent-covers .ensures ∙ covers (a .slots) (a .table .now) (a .seen .now) n (c .before .before .before .before .before .before .before .before .before .before .before .before .before .before .before .before .pre .0 .marked) in
     let wanted : leb (c .before .before .before .count-used .result .copies + c .before .before .before .before .before .before .changed-cells .result) (c .before .before .bodies-of .result)
     ≡ leb (copies (a .slots) (a .table .now) + count (a .slots) (entryChanged (a .memory .now) (a .bodies .now) (a .slots) (a .table .now) n)) (bodiesOf (length (a .bodies .now))) =
     λ j. leb (c .before .before .before .count-used .ensures .1 j + c .before .before .before .before .before .before .changed-cells .ensures .0 j) (c .before .before .bodies-of .ensures j) in
