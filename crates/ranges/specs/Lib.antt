@@ -1,0 +1,3 @@
+-- The definitions that the contracts of `ranges` cite.
+pub mod Ranges
+pub mod Batch
