@@ -1,22 +1,21 @@
 -- The history's lines do to its domains what the calls do to the state's: handles, cells, labels and values stay the same. Assumes nothing.
-use Prim.Native.Nat.{ℕ, zero, suc, _+_, _-_, _≤_, _<_}
-use mathlib.Core.Bool.{Bool, true, false, cond, _||_}
+use Prim.Native.Nat.{ℕ, zero, suc, _<_}
+use mathlib.Core.Bool.{Bool, true, false, cond}
 use mathlib.Core.List.{List, [], _∷_, _++_}
 use mathlib.Core.Option.{Option, none, some}
-use mathlib.Core.Path.{_≡_, refl, sym, ap, subst, _∙_}
+use mathlib.Core.Path.{_≡_, refl, sym, ap, _∙_}
 use native.Mathlib.Omega.{arith}
 use borrow.Author.Tests.{eqb-true}
 use lib.Dec.{eqb, leb}
 use lib.ListN.{length, getD, take}
 use Rattle.words.specs.Cells.{cellBytes, sameCell}
-use Rattle.words.specs.Scan.{all}
 use Rattle.words.proofs.Scan.{by-bool, all-at, and-split}
 use Rattle.patterns.specs.Pattern.{maxRule, pattern}
 use Rattle.model.specs.State.{Label, readOnly, readWrite, Kind, copy, viaParent, byRule, Holding, Domain, State}
-use Rattle.model.specs.Holdings.{deeper, depthIn, named, holdingAt, isHeld, valueOr, onDepth, onInnermost, onCommit, holding, inRange, raised, added, givenValue, addTo, parentSame, ruleFits, advanced, merged}
+use Rattle.model.specs.Holdings.{deeper, depthIn, named, holdingAt, innerHolding, outerHolding, isHeld, valueOr, onDepth, onInnermost, onCommit, holding, inRange, raised, added, givenValue, addTo, parentSame, ruleFits, advanced, merged}
 use Rattle.model.specs.History.{Kept, Tracked, inner, depthAmong, namedAmong, turned, atDepth, atInnermost, intoParent, entered, addTracked, deleteAround, renewed, advanceTracked, joined, commitTracked, writeLine, excludeAfter, excludeInside}
 use Rattle.model.specs.Session.{SameCell, SameDomains, none-left, same}
-use Rattle.model.proofs.Ranges.{range-both}
+use Rattle.model.proofs.Ranges.{new-cell}
 
 -- ---- handles
 
@@ -76,10 +75,6 @@ added-same l k v bytes none (some p) f e = absurd e
 added-same l k v bytes (some h) none f e = absurd e
 added-same l k v bytes (some h) (some p) f e = (label-same l (h .label) (p .label) (e .0), e .1)
 
-not-held : (o : Option Holding) (b : Bool) → (isHeld o || b) ≡ true → o ≡ none → b ≡ true
-not-held none b t e = t
-not-held (some h) b t e = absurd (let z : _≡_ {A = ℕ} 0 1 = cc in omega arith)
-
 bytes-same : (a b : List ℕ) → sameCell a b ≡ true → (i : ℕ) → i < 64 → getD a i 0 ≡ getD b i 0
 unfolding sameCell
 bytes-same a b e i l = eqb-true (getD a i 0) (getD b i 0) (all-at 64 (λ (k : ℕ). eqb (getD a k 0) (getD b k 0)) e i l)
@@ -90,29 +85,16 @@ Matched memory first n copy s = Unit {0}
 Matched memory first n viaParent s = parentSame memory first n s ≡ true
 Matched memory first n (byRule r) s = ruleFits memory r first n s ≡ true
 
--- one cell of the range: a cell that is not held yet has what a question asks of every such cell
-asked-at : (first n c : ℕ) (s : State) (f : ℕ → Bool) → all n (λ j. isHeld (holdingAt (s .domains) (length (s .domains)) (first + j)) || f (first + j)) ≡ true
-    → inRange first n c ≡ true → holdingAt (s .domains) (length (s .domains)) c ≡ none → f c ≡ true
-asked-at first n c s f q r e =
-    let b = range-both first n c r in
-    let lo : first ≤ c = b .0 in
-    let hi : c < first + n = b .1 in
-    let at : first + (c - first) ≡ c = omega arith in
-    let here = all-at n _ q (c - first) (omega arith) in
-    not-held (holdingAt (s .domains) (length (s .domains)) c) (f c)
-    (subst (λ (i : ℕ). (isHeld (holdingAt (s .domains) (length (s .domains)) i) || f i) ≡ true) at here) e
-
 -- so what a cell newly held is given is what memory has
 given-same : (memory : List ℕ) (first n c : ℕ) (k : Kind) (s : State) → Matched memory first n k s → inRange first n c ≡ true
-    → holdingAt (s .domains) (length (s .domains)) c ≡ none → (j : ℕ) → j < 64
-    → getD (givenValue k memory (holdingAt (s .domains) (length (s .domains) - 1) c) c) j 0 ≡ getD (cellBytes memory c) j 0
+    → innerHolding s c ≡ none → (j : ℕ) → j < 64 → getD (givenValue k memory (outerHolding s c) c) j 0 ≡ getD (cellBytes memory c) j 0
 given-same memory first n c copy s q r e j l = refl
 given-same memory first n c viaParent s q r e j l =
-    bytes-same (valueOr (cellBytes memory c) (holdingAt (s .domains) (length (s .domains) - 1) c)) (cellBytes memory c)
-    (asked-at first n c s (λ i. sameCell (valueOr (cellBytes memory i) (holdingAt (s .domains) (length (s .domains) - 1) i)) (cellBytes memory i)) q r e) j l
+    bytes-same (valueOr (cellBytes memory c) (outerHolding s c)) (cellBytes memory c)
+    (new-cell first n c (λ i. isHeld (innerHolding s i)) (λ i. sameCell (valueOr (cellBytes memory i) (outerHolding s i)) (cellBytes memory i)) q r (ap isHeld e)) j l
 given-same memory first n c (byRule rule) s q r e j l =
     bytes-same (pattern rule) (cellBytes memory c)
-    (asked-at first n c s (λ i. sameCell (pattern rule) (cellBytes memory i)) (and-split (leb rule maxRule) _ q .1) r e) j l
+    (new-cell first n c (λ i. isHeld (innerHolding s i)) (λ i. sameCell (pattern rule) (cellBytes memory i)) (and-split (leb rule maxRule) _ q .1) r (ap isHeld e)) j l
 
 pub agree-add : (memory : List ℕ) (first n : ℕ) (k : Kind) (l : Label) (s : State) (qs : List Tracked)
     → Matched memory first n k s → SameDomains (s .domains) qs
@@ -121,9 +103,9 @@ agree-add memory first n k l s qs q a =
     agree-innermost _ (addTracked memory first n l) (λ d. refl) (λ t. refl) (λ d t e f c. one c d t (inRange first n c) refl (e c) (f c)) a
   where
     given : ℕ → List ℕ
-    given c = givenValue k memory (holdingAt (s .domains) (length (s .domains) - 1) c) c
+    given c = givenValue k memory (outerHolding s c) c
 
-    one : (c : ℕ) (d : Domain) (t : Tracked) (r : Bool) → inRange first n c ≡ r → d .holds c ≡ holdingAt (s .domains) (length (s .domains)) c
+    one : (c : ℕ) (d : Domain) (t : Tracked) (r : Bool) → inRange first n c ≡ r → d .holds c ≡ innerHolding s c
         → SameCell (d .holds c) (t .cells c)
         → SameCell (cond r (added l k (given c) (d .holds c)) (d .holds c)) (cond r (entered l (cellBytes memory c) (t .cells c)) (t .cells c))
     one c d t false r e f = f

@@ -3,23 +3,27 @@ use Prim.Native.Nat.{ℕ, _+_, _-_, _*_, _≤_, _<_}
 use mathlib.Core.Bool.{Bool, true, false, cond, not, _&&_, true≢false, false≢true}
 use mathlib.Core.List.{List, [], _∷_}
 use mathlib.Core.Option.{Option, none, some}
-use mathlib.Core.Path.{_≡_, refl, ap, subst, _∙_}
+use mathlib.Core.Path.{_≡_, refl, sym, ap, subst, _∙_}
 use native.Mathlib.Omega.{arith}
-use borrow.Author.Tests.{leb-true, ltb-true, eqb-true, not-false}
-use lib.Dec.{leb, ltb, eqb}
+use borrow.Author.Tests.{leb-true, eqb-true, not-false}
+use lib.Dec.{leb, eqb}
 use lib.ListN.{length}
 use lib.Seq.{take-all}
 use Rattle.words.specs.Scan.{count}
 use Rattle.words.specs.Cells.{cellBytes}
-use Rattle.words.proofs.Scan.{by-bool, by-le, and-split}
+use Rattle.words.proofs.Scan.{by-bool, by-le, and-split, true≢}
 use Rattle.words.proofs.Nth.{count-below}
+use Rattle.ranges.specs.declared.Range.{Range}
+use Rattle.ranges.specs.Ranges.{kindFor, ruleFor, labelFor}
+use Rattle.ranges.specs.Ranges.{named as namedBy}
 use Rattle.model.specs.State.{Label, readOnly, readWrite, Kind, Holding, Domain, State}
 use Rattle.model.specs.Answer.{ask}
-use Rattle.model.specs.Holdings.{holdingAt, isHeld, isWritable, heldChanged, heldReadOnly, isLive, inRange, onInnermost, holding, raised, added, givenValue, addTo, newlyHeld, relabelled, deleteChecks, advanced, changedCells}
+use Rattle.model.specs.Holdings.{Room, holdingAt, innerHolding, outerHolding, isHeld, isWritable, heldChanged, heldReadOnly, isLive, onInnermost, holding, labelNumbered, kindNumbered, raised, added, givenValue, addRanges, newlyHeld, relabelled, addChecks, deleteChecks, advanced, changedCells}
 use Rattle.model.specs.Holdings.{advance as advanceState}
 use Rattle.model.specs.Restore.{restored, endedDomains, freedEntries, restoreWords}
 use Rattle.model.specs.Session.{Within}
 use Rattle.model.proofs.Asking.{ask-yes, ask-rest}
+use Rattle.model.proofs.Ranged.{ranges-state, newly-after, relabelled-after, asked-cell, AddAsked, add-asked}
 
 -- ---- counts of none
 
@@ -52,36 +56,45 @@ added-same l k v (some o) h r = ap (λ (a : Label). some (record { label = a; ki
     go readWrite readOnly f = absurd (true≢false (f refl))
     go readWrite readWrite f = refl
 
-relabelled-none : (first n : ℕ) (l : Label) (s : State) → relabelled first n l s ≡ 0 → isWritable l ≡ true
-    → count n (λ j. heldReadOnly (holdingAt (s .domains) (length (s .domains)) (first + j))) ≡ 0
-relabelled-none first n readOnly s e w = absurd (false≢true w)
-relabelled-none first n readWrite s e w = e
-
-pub add-idle : (memory : List ℕ) (first n : ℕ) (k : Kind) (l : Label) (s : State) → newlyHeld first n s + relabelled first n l s ≡ 0
-    → addTo memory first n k l s ≡ s
-add-idle memory first n k l s e =
-    same-domains s _ (inner-same _ (s .domains) (λ d at. same-holdings _ d (λ c. one c (inRange first n c) (d .holds c) refl (at c))))
+writable-numbered : (l : ℕ) → isWritable (labelNumbered l) ≡ eqb l 1
+writable-numbered l = go (eqb l 1)
   where
-    fresh : newlyHeld first n s ≡ 0
-    fresh = omega arith
+    go : (w : Bool) → isWritable (cond w readWrite readOnly) ≡ w
+    go true = refl
+    go false = refl
 
-    one : (c : ℕ) (r : Bool) (o : Option Holding) → inRange first n c ≡ r → o ≡ holdingAt (s .domains) (length (s .domains)) c
-        → cond r (added l k (givenValue k memory (holdingAt (s .domains) (length (s .domains) - 1) c) c) o) o ≡ o
+-- no cell of memory is newly held and none has its label raised: and the questions leave no cell outside memory
+pub add-idle : (room : Room) (memory : List ℕ) (h : ℕ) (rs : List Range) (s : State) → addChecks room memory h rs s ≡ 0
+    → newlyHeld (room .cells) s (addRanges memory rs s) + relabelled (room .cells) s (addRanges memory rs s) ≡ 0 → addRanges memory rs s ≡ s
+add-idle room memory h rs s q e =
+    ranges-state memory rs s
+    ∙ same-domains s _ (inner-same _ (s .domains) (λ d at. same-holdings _ d (λ c. one c (namedBy rs c) (d .holds c) refl (at c))))
+  where
+    y : AddAsked room memory h rs s
+    y = add-asked room memory h rs s q
+
+    none-new : count (room .cells) (λ c. namedBy rs c && not (isHeld (innerHolding s c))) ≡ 0
+    none-new = omega (arith, newly-after (room .cells) memory rs s (y .live))
+
+    none-raised : count (room .cells) (λ c. heldReadOnly (innerHolding s c) && eqb (labelFor rs c) 1) ≡ 0
+    none-raised = omega (arith, relabelled-after (room .cells) memory rs s (y .live))
+
+    both : (a b : Bool) → (a && b) ≡ false → b ≡ true → a ≡ false
+    both true b f t = absurd (true≢ t f)
+    both false b f t = refl
+
+    one : (c : ℕ) (n : Bool) (o : Option Holding) → namedBy rs c ≡ n → o ≡ innerHolding s c
+        → cond n (added (labelNumbered (labelFor rs c)) (kindNumbered (kindFor rs c) (ruleFor rs c)) (givenValue (kindNumbered (kindFor rs c) (ruleFor rs c)) memory (outerHolding s c) c) o) o ≡ o
     one c false o i a = refl
     one c true o i a =
-        let p = and-split (leb first c) (ltb c (first + n)) i in
-        let lo : first ≤ c = leb-true first c (p .0) in
-        let hi : c < first + n = ltb-true c (first + n) (p .1) in
-        let back : first + (c - first) ≡ c = omega arith in
-        let held = none-counted n (λ j. not (isHeld (holdingAt (s .domains) (length (s .domains)) (first + j)))) fresh (c - first) (omega arith) in
-        let here : not (isHeld (holdingAt (s .domains) (length (s .domains)) c)) ≡ false =
-        subst (λ (x : ℕ). not (isHeld (holdingAt (s .domains) (length (s .domains)) x)) ≡ false) back held in
-        added-same l k _ o (ap isHeld a ∙ not-false (isHeld (holdingAt (s .domains) (length (s .domains)) c)) here)
-        (λ w.
-        let none : count n (λ j. heldReadOnly (holdingAt (s .domains) (length (s .domains)) (first + j))) ≡ 0 =
-        relabelled-none first n l s (omega arith) w in
-        let there = none-counted n (λ j. heldReadOnly (holdingAt (s .domains) (length (s .domains)) (first + j))) none (c - first) (omega arith) in
-        ap heldReadOnly a ∙ subst (λ (x : ℕ). heldReadOnly (holdingAt (s .domains) (length (s .domains)) x) ≡ false) back there)
+        let below = asked-cell (room .cells) memory rs s _ c (y .live) (y .ranges) i .within in
+        let held : not (isHeld (innerHolding s c)) ≡ false =
+        subst (λ (b : Bool). (b && not (isHeld (innerHolding s c))) ≡ false) i
+        (none-counted (room .cells) (λ x. namedBy rs x && not (isHeld (innerHolding s x))) none-new c below) in
+        added-same _ _ _ o (ap isHeld a ∙ not-false (isHeld (innerHolding s c)) held)
+        (λ w. ap heldReadOnly a
+        ∙ both _ (eqb (labelFor rs c) 1) (none-counted (room .cells) (λ x. heldReadOnly (innerHolding s x) && eqb (labelFor rs x) 1) none-raised c below)
+        (sym (writable-numbered (labelFor rs c)) ∙ w))
 
 -- ---- delete: it frees a cell at least
 

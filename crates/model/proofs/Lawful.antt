@@ -6,7 +6,7 @@ use native.Mathlib.Omega.{arith}
 use lib.ListN.{length}
 use Rattle.model.specs.State.{State}
 use Rattle.model.specs.Calls.{createChecks, change, orRefuse}
-use Rattle.model.specs.Holdings.{Room, named, kindNumbered, labelNumbered, addChecks, deleteChecks, advanceChecks, commitChecks}
+use Rattle.model.specs.Holdings.{Room, named, addChecks, deleteChecks, advanceChecks, commitChecks}
 use Rattle.model.specs.Restore.{restoreChecks}
 use Rattle.model.specs.History.{Changing, create, add, delete, advance, commit, Request, changes, restore, reads, changeLine, History}
 use Rattle.model.specs.Session.{changeEffect, readChecks, effectOf, Within}
@@ -39,10 +39,10 @@ lawful room m create s =
     by-questions (createChecks s) _ _ _ _ refl
     (λ q size t z. create-sound s m t z)
     (λ q none w. absurd (omega arith))
-lawful room m (add h first n k r l) s =
-    by-questions (addChecks room m h first n k r l s) _ _ _ _ refl
-    (λ q size t z. add-sound room s m t h first n k r l q z)
-    (λ q none w. add-idle m first n (kindNumbered k r) (labelNumbered l) s (omega arith))
+lawful room m (add h rs) s =
+    by-questions (addChecks room m h rs s) _ _ _ _ refl
+    (λ q size t z. add-sound room s m t h rs q z)
+    (λ q none w. add-idle room m h rs s q (omega arith))
 lawful room m (delete h first n) s =
     by-questions (deleteChecks (room .cells) h first n s) _ _ _ _ refl
     (λ q size t z. delete-sound s m t h first n z)

@@ -2,6 +2,7 @@
 pub mod Asking
 pub mod Told
 pub mod Ranges
+pub mod Ranged
 pub mod Effects
 pub mod Byte
 pub mod Agree

@@ -6,6 +6,8 @@ use lib.ListN.{replicate}
 use Rattle.words.specs.Scan.{all, count}
 use Rattle.words.specs.Stores.{Store, _≔_, tab}
 use Rattle.words.specs.Cells.{sameCell}
+use Rattle.ranges.specs.declared.Range.{Range}
+use Rattle.ranges.specs.Ranges.{oneRange}
 use Rattle.patterns.specs.Pattern.{patternByte, pattern}
 use Rattle.model.specs.State.{readWrite, copy, viaParent, State}
 use Rattle.model.specs.Answer.{isDone, isStopped, Report, done}
@@ -30,45 +32,45 @@ abbrev changed : Changing → Event
 changed c = called (changes c) 100 isDone
 
 -- domain 1 copies cell 0 = 7 read-write, write 9, restore 1: memory is 7, or was left at 9
-kept : counts begun (does (changed create) 7 ∷ does (changed (add 1 0 1 0 0 1)) 7 ∷ does (written places) 9
+kept : counts begun (does (changed create) 7 ∷ does (changed (add 1 (oneRange 0 1 0 0 1))) 7 ∷ does (written places) 9
     ∷ does (called (restore 1) 100 isDone) 7 ∷ []) ≡ 0 ∷ []
 unfolding count
 kept = refl
 
-lost : counts begun (does (changed create) 7 ∷ does (changed (add 1 0 1 0 0 1)) 7 ∷ does (written places) 9
+lost : counts begun (does (changed create) 7 ∷ does (changed (add 1 (oneRange 0 1 0 0 1))) 7 ∷ does (written places) 9
     ∷ does (called (restore 1) 100 isDone) 9 ∷ []) ≡ 64 ∷ []
 unfolding count
 lost = refl
 
 -- held read-only: the write leaves the cell unprotected, and nothing is asked of it
-unheld : counts begun (does (changed create) 7 ∷ does (changed (add 1 0 1 0 0 0)) 7 ∷ does (written places) 9
+unheld : counts begun (does (changed create) 7 ∷ does (changed (add 1 (oneRange 0 1 0 0 0))) 7 ∷ does (written places) 9
     ∷ does (called (restore 1) 100 isDone) 9 ∷ []) ≡ 0 ∷ []
 unfolding count
 unheld = refl
 
 -- the restore of 1 cut late, with 2 inside: counted at the opening that carries it out, though that was cut itself
-late : counts begun (does (changed create) 7 ∷ does (changed (add 1 0 1 0 0 1)) 7 ∷ does (written places) 9
+late : counts begun (does (changed create) 7 ∷ does (changed (add 1 (oneRange 0 1 0 0 1))) 7 ∷ does (written places) 9
     ∷ does (changed create) 9 ∷ does (called (restore 1) 70 isStopped) 7 ∷ does (opened 1 isStopped 1) 7 ∷ does (opened 100 isDone 3) 7
     ∷ does (called (restore 0) 100 isDone) 7 ∷ []) ≡ 0 ∷ 0 ∷ []
 unfolding count
 late = refl
 
 -- cut early, with memory mixed: 2 is excluded and its own restore not counted, 1 is counted
-early : counts begun (does (changed create) 7 ∷ does (changed (add 1 0 1 0 0 1)) 7 ∷ does (written places) 9
+early : counts begun (does (changed create) 7 ∷ does (changed (add 1 (oneRange 0 1 0 0 1))) 7 ∷ does (written places) 9
     ∷ does (changed create) 9 ∷ does (called (restore 1) 3 isStopped) 8 ∷ does (opened 100 isDone 0) 8
     ∷ does (called (restore 2) 100 isDone) 8 ∷ does (called (restore 1) 100 isDone) 7 ∷ []) ≡ 0 ∷ []
 unfolding count
 early = refl
 
 -- 1 holds 7 read-only, 2 copies it read-write, write 9, commit, advance 1, write 11, restore 1: 9; a stale 7 is counted
-moved-on : counts begun (does (changed create) 7 ∷ does (changed (add 1 0 1 0 0 0)) 7 ∷ does (changed create) 7
-    ∷ does (changed (add 2 0 1 0 0 1)) 7 ∷ does (written places) 9 ∷ does (changed (commit 2)) 9
+moved-on : counts begun (does (changed create) 7 ∷ does (changed (add 1 (oneRange 0 1 0 0 0))) 7 ∷ does (changed create) 7
+    ∷ does (changed (add 2 (oneRange 0 1 0 0 1))) 7 ∷ does (written places) 9 ∷ does (changed (commit 2)) 9
     ∷ does (changed (advance 1)) 9 ∷ does (written places) 11 ∷ does (called (restore 1) 100 isDone) 9 ∷ []) ≡ 0 ∷ []
 unfolding count
 moved-on = refl
 
-stale : counts begun (does (changed create) 7 ∷ does (changed (add 1 0 1 0 0 0)) 7 ∷ does (changed create) 7
-    ∷ does (changed (add 2 0 1 0 0 1)) 7 ∷ does (written places) 9 ∷ does (changed (commit 2)) 9
+stale : counts begun (does (changed create) 7 ∷ does (changed (add 1 (oneRange 0 1 0 0 0))) 7 ∷ does (changed create) 7
+    ∷ does (changed (add 2 (oneRange 0 1 0 0 1))) 7 ∷ does (written places) 9 ∷ does (changed (commit 2)) 9
     ∷ does (changed (advance 1)) 9 ∷ does (written places) 11 ∷ does (called (restore 1) 100 isDone) 7 ∷ []) ≡ 64 ∷ []
 unfolding count
 stale = refl
@@ -84,20 +86,20 @@ unfolding count
 beside = refl
 
 -- 1 holds both read-write, write 9, delete cell 0: nothing is asked of it any more, and a cell 1 left at 9 is counted
-deleted : counts begun (twoCells (changed create) 7 7 ∷ twoCells (changed (add 1 0 2 0 0 1)) 7 7 ∷ twoCells (written (places ++ tab 64 (λ x. x + 64))) 9 9
+deleted : counts begun (twoCells (changed create) 7 7 ∷ twoCells (changed (add 1 (oneRange 0 2 0 0 1))) 7 7 ∷ twoCells (written (places ++ tab 64 (λ x. x + 64))) 9 9
     ∷ twoCells (changed (delete 1 0 1)) 9 9 ∷ twoCells (called (restore 1) 100 isDone) 9 9 ∷ []) ≡ 64 ∷ []
 unfolding count
 deleted = refl
 
 -- 1 and 2 hold cell 0 read-write, write 9, delete it from 1: a restore of 2 that leaves 9 is counted, and one of 1 asks nothing of it
-deleted-outside : counts begun (does (changed create) 7 ∷ does (changed (add 1 0 1 0 0 1)) 7 ∷ does (changed create) 7
-    ∷ does (changed (add 2 0 1 0 0 1)) 7 ∷ does (written places) 9 ∷ does (changed (delete 1 0 1)) 9
+deleted-outside : counts begun (does (changed create) 7 ∷ does (changed (add 1 (oneRange 0 1 0 0 1))) 7 ∷ does (changed create) 7
+    ∷ does (changed (add 2 (oneRange 0 1 0 0 1))) 7 ∷ does (written places) 9 ∷ does (changed (delete 1 0 1)) 9
     ∷ does (called (restore 2) 100 isDone) 9 ∷ does (called (restore 1) 100 isDone) 9 ∷ []) ≡ 64 ∷ 0 ∷ []
 unfolding count
 deleted-outside = refl
 
 -- 2 inside 1 holds cell 0 read-write, and it is deleted from 2: nothing is asked of it by 1 either, which is around it
-deleted-inside : counts begun (does (changed create) 7 ∷ does (changed create) 7 ∷ does (changed (add 2 0 1 0 0 1)) 7
+deleted-inside : counts begun (does (changed create) 7 ∷ does (changed create) 7 ∷ does (changed (add 2 (oneRange 0 1 0 0 1))) 7
     ∷ does (changed (delete 2 0 1)) 7 ∷ does (called (restore 1) 100 isDone) 9 ∷ []) ≡ 0 ∷ []
 unfolding count
 deleted-inside = refl
@@ -108,6 +110,12 @@ cut-inside : counts begun (does (changed create) 7 ∷ does (changed create) 7 �
     ∷ does (called (restore 2) 100 isDone) 9 ∷ does (called (restore 1) 100 isDone) 9 ∷ []) ≡ 64 ∷ 64 ∷ []
 unfolding count
 cut-inside = refl
+
+-- one add of two ranges: cell 0 read-only, then both cells read-write, so that both are asked to be put back
+two-ranges : counts begun (twoCells (changed create) 7 7 ∷ twoCells (changed (add 1 (oneRange 0 1 0 0 0 ++ oneRange 0 2 0 0 1))) 7 7
+    ∷ twoCells (written (places ++ tab 64 (λ x. x + 64))) 9 9 ∷ twoCells (called (restore 1) 100 isDone) 9 9 ∷ []) ≡ 128 ∷ []
+unfolding count
+two-ranges = refl
 
 -- ---- what is in use: domain 1 copies cell 0, domain 2 holds it via parent
 
@@ -129,10 +137,43 @@ unfolding count all sameCell
 one-body = (refl, refl, refl)
 
 -- "E = 1, cell 0 held: add cells 0 and 1 gives 16; add cell 0 is done."
-one-slot : (addChecks (record { cells = 2; slots = 1; bodies = 8 }) (filled 7 ++ filled 7) 1 0 2 0 0 1 outer ≡ 16)
-    × (addChecks (record { cells = 2; slots = 1; bodies = 8 }) (filled 7 ++ filled 7) 1 0 1 0 0 1 outer ≡ 0)
+one-slot : (addChecks (record { cells = 2; slots = 1; bodies = 8 }) (filled 7 ++ filled 7) 1 (oneRange 0 2 0 0 1) outer ≡ 16)
+    × (addChecks (record { cells = 2; slots = 1; bodies = 8 }) (filled 7 ++ filled 7) 1 (oneRange 0 1 0 0 1) outer ≡ 0)
 unfolding count
 one-slot = (refl, refl)
+
+-- ---- the questions on a list
+
+abbrev listAsked : (slots bodies : ℕ) → List Range → State → ℕ
+listAsked e b rs s = addChecks (record { cells = 2; slots = e; bodies = b }) (filled 7 ++ filled 7) 0 rs s
+
+-- "a later one finds cells that an earlier one has just taken": copy and then via parent of one cell is done, the other way round nobody holds it
+in-list-order : (listAsked 8 8 (oneRange 0 1 0 0 1 ++ oneRange 0 1 1 0 1) (created fresh) ≡ 0)
+    × (listAsked 8 8 (oneRange 0 1 1 0 1 ++ oneRange 0 1 0 0 1) (created fresh) ≡ 11)
+unfolding count all
+in-list-order = (refl, refl)
+
+-- 1 copies cell 0: the first range that names it fixes its kind in 2, so that no body is needed, or one
+first-kind : (listAsked 8 1 (oneRange 0 1 1 0 1 ++ oneRange 0 1 0 0 1) (created outer) ≡ 0)
+    × (listAsked 8 1 (oneRange 0 1 0 0 1 ++ oneRange 0 1 1 0 1) (created outer) ≡ 17)
+unfolding count all sameCell
+first-kind = (refl, refl)
+
+-- "those on room once for the whole list": each range fits alone, and both do not; a cell that both name is counted once; a later range's kind is
+-- asked before room
+room-for-all : (listAsked 1 8 (oneRange 0 1 0 0 1 ++ oneRange 1 1 0 0 1) (created fresh) ≡ 16)
+    × (listAsked 8 1 (oneRange 0 1 0 0 1 ++ oneRange 1 1 0 0 1) (created fresh) ≡ 17)
+    × (listAsked 1 1 (oneRange 0 1 0 0 0 ++ oneRange 0 1 0 0 1) (created fresh) ≡ 0)
+    × (listAsked 0 0 (oneRange 0 1 0 0 1 ++ oneRange 1 1 3 0 1) (created fresh) ≡ 7)
+unfolding count all
+room-for-all = (refl, refl, refl, refl)
+
+-- "fewer than 1 or more than 64 records", after the handle's questions
+how-many : (listAsked 8 8 [] (created fresh) ≡ 20) × (listAsked 8 8 [] fresh ≡ 5)
+    × (listAsked 8 8 (tab 64 (λ i. record { first = 0; count = 1; kind = 0; rule = 0; label = 1 })) (created fresh) ≡ 0)
+    × (listAsked 8 8 (tab 65 (λ i. record { first = 0; count = 1; kind = 3; rule = 0; label = 1 })) (created fresh) ≡ 20)
+unfolding count all
+how-many = (refl, refl, refl, refl)
 
 -- ---- sessions: the states and the memory are those that the calls' meanings give
 
@@ -141,6 +182,9 @@ room = record { cells = 1; slots = 8; bodies = 8 }
 
 abbrev no-bodies : Room
 no-bodies = record { cells = 1; slots = 8; bodies = 0 }
+
+abbrev one-body-room : Room
+one-body-room = record { cells = 2; slots = 8; bodies = 1 }
 
 abbrev fill : ℕ → List Store
 fill v = tab 64 (λ x. x ≔ v)
@@ -156,7 +200,7 @@ session-kept = (
   _,
   _,
   next {i = call (changes create) 100} (call-done room refl refl)
-      (next {i = call (changes (add 1 0 1 0 0 1)) 100} (call-done room refl refl)
+      (next {i = call (changes (add 1 (oneRange 0 1 0 0 1))) 100} (call-done room refl refl)
       (next {i = write (fill 9)} (written-to {r = none-given})
       (next {i = call (restore 1) 100} (call-done room refl refl) end))),
   refl,
@@ -169,9 +213,9 @@ session-moved-on = (
   _,
   _,
   next {i = call (changes create) 100} (call-done room refl refl)
-      (next {i = call (changes (add 1 0 1 0 0 0)) 100} (call-done room refl refl)
+      (next {i = call (changes (add 1 (oneRange 0 1 0 0 0))) 100} (call-done room refl refl)
       (next {i = call (changes create) 100} (call-done room refl refl)
-      (next {i = call (changes (add 2 0 1 0 0 1)) 100} (call-done room refl refl)
+      (next {i = call (changes (add 2 (oneRange 0 1 0 0 1))) 100} (call-done room refl refl)
       (next {i = write (fill 9)} (written-to {r = none-given})
       (next {i = call (changes (commit 2)) 100} (call-done room refl refl)
       (next {i = call (changes (advance 1)) 200} (call-done room refl refl)
@@ -188,11 +232,11 @@ session-via = (
   _,
   _,
   next {i = call (changes create) 100} (call-done room refl refl)
-      (next {i = call (changes (add 1 0 1 0 0 1)) 100} (call-done room refl refl)
+      (next {i = call (changes (add 1 (oneRange 0 1 0 0 1))) 100} (call-done room refl refl)
       (next {i = call (changes create) 100} (call-done room refl refl)
-      (next {i = call (changes (add 2 0 1 1 0 1)) 100} (call-done room refl refl)
+      (next {i = call (changes (add 2 (oneRange 0 1 1 0 1))) 100} (call-done room refl refl)
       (next {i = write (fill 9)} (written-to {r = none-given})
-      (next {i = call (changes (add 2 0 1 0 0 1)) 100} (call-done room refl refl)
+      (next {i = call (changes (add 2 (oneRange 0 1 0 0 1))) 100} (call-done room refl refl)
       (next {i = call (restore 2) 100} (call-done room refl refl) end)))))),
   refl,
   refl,
@@ -205,9 +249,24 @@ session-rule = (
   _,
   _,
   next {i = call (changes create) 100} (call-done no-bodies refl refl)
-      (next {i = call (changes (add 1 0 1 2 0 1)) 100} (call-done no-bodies refl refl)
+      (next {i = call (changes (add 1 (oneRange 0 1 2 0 1))) 100} (call-done no-bodies refl refl)
       (next {i = write (fill 9)} (written-to {r = none-given})
       (next {i = call (restore 1) 100} (call-done no-bodies refl refl) end))),
+  refl,
+  refl,
+)
+
+-- two cells of memory, 7 and 0: one add holds the first by copy and the second by rule 0, write 9, restore 1: 7 and 0; one body is needed
+session-list : (l : List Observation) × (w : World) × Session 2 (afterMake (filled 7 ++ filled 0)) l w × (counts begun l ≡ 0 ∷ [])
+    × (memoryOf w ≡ filled 7 ++ filled 0)
+unfolding count all sameCell pattern patternByte restoredMemory
+session-list = (
+  _,
+  _,
+  next {i = call (changes create) 100} (call-done one-body-room refl refl)
+      (next {i = call (changes (add 1 (oneRange 0 1 0 0 1 ++ oneRange 1 1 2 0 1))) 100} (call-done one-body-room refl refl)
+      (next {i = write (tab 128 (λ x. x ≔ 9))} (written-to {r = none-given})
+      (next {i = call (restore 1) 200} (call-done one-body-room refl refl) end))),
   refl,
   refl,
 )
@@ -219,10 +278,10 @@ session-late = (
   _,
   _,
   next {i = call (changes create) 100} (call-done room refl refl)
-      (next {i = call (changes (add 1 0 1 0 0 1)) 100} (call-done room refl refl)
+      (next {i = call (changes (add 1 (oneRange 0 1 0 0 1))) 100} (call-done room refl refl)
       (next {i = write (fill 9)} (written-to {r = none-given})
       (next {i = call (changes create) 100} (call-done room refl refl)
-      (next {i = call (changes (add 2 0 1 0 0 1)) 100} (call-done room refl refl)
+      (next {i = call (changes (add 2 (oneRange 0 1 0 0 1))) 100} (call-done room refl refl)
       (next {i = call (restore 1) 75} (call-late room refl refl)
       (next {i = opening 1} open-stopped
       (next {i = opening 100} (open-finishes {n = 4} {h = 0}) end))))))),

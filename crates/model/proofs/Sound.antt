@@ -1,46 +1,33 @@
 -- A state, memory and a history that go together, and that each call, carried out, keeps them so; a restore counts no mismatch. Assumes nothing.
 use Prim.Native.Nat.{ℕ, zero, suc, _+_, _-_, _*_, _<_}
-use mathlib.Core.Bool.{Bool, true, not, _&&_, _||_}
-use mathlib.Core.List.{List}
+use mathlib.Core.Bool.{Bool, true, not, _||_}
+use mathlib.Core.List.{List, [], _∷_}
 use mathlib.Core.Logic.{_⊎_, inl, inr}
 use mathlib.Core.Option.{Option}
 use mathlib.Core.Path.{_≡_, refl, sym, ap, subst, _∙_}
 use native.Mathlib.Omega.{arith}
-use borrow.Author.Tests.{ltb-true, eqb-true}
-use lib.Dec.{leb}
+use borrow.Author.Tests.{ltb-true}
 use lib.ListN.{length, getD, take}
 use Rattle.words.proofs.Plans.{length-tab}
+use Rattle.ranges.specs.declared.Range.{Range}
 use Rattle.model.specs.State.{State}
 use Rattle.model.specs.Answer.{ask}
 use Rattle.model.specs.Calls.{created, fresh}
-use Rattle.model.specs.Holdings.{Room, named, isLive, isInnermost, rangeOk, isVia, isSome, ruleOf, ruleFits, kindNumbered, labelNumbered, addTo, addChecks, parentHolds, parentSame, deleteFrom, parentCovers, advanceChecks}
+use Rattle.model.specs.Holdings.{Room, named, isLive, isInnermost, isVia, isSome, ruleOf, ruleFits, kindNumbered, labelNumbered, addRange, addRanges, listChecks, addChecks, parentSame, deleteFrom, parentCovers, advanceChecks}
 use Rattle.model.specs.Holdings.{advance as advanceState, commit as commitState}
 use Rattle.model.specs.Restore.{cellOfByte, restoredByte, restoredMemory, restored, restoreChecks}
-use Rattle.model.specs.History.{create, add, delete, advance, commit, Request, restore, changeLine, Tracked, History, withDomains, withWaiting, namedAmong, atDepth, atInnermost, begun, addTracked, line, downTo, excludeInside, stopLine, trackedAt, countOf, completed}
+use Rattle.model.specs.History.{create, add, delete, advance, commit, Request, restore, changeLine, Tracked, History, withDomains, withWaiting, namedAmong, atDepth, atInnermost, begun, addTracked, addLine, addLines, line, downTo, excludeInside, stopLine, trackedAt, countOf, completed}
 use Rattle.model.specs.Session.{Mixed, next, AllZero, SameDomains, none-left, Agrees}
 use Rattle.model.proofs.Byte.{backAt}
 use Rattle.model.proofs.Agree.{agree-length, agree-named, agree-create, at-length, Matched, agree-add, agree-delete, agree-advance, agree-commit, agree-take, agree-inside}
 use Rattle.model.proofs.Bytes.{keptAt, agree-bytes, restored-byte, covered}
 use Rattle.model.proofs.Asking.{ask-yes, ask-rest}
+use Rattle.model.proofs.Ranged.{RangeAsked, range-asked, add-asked, ranges-named, ranges-length}
 use Rattle.model.proofs.Invariant.{Inv, inv-create, inv-add, inv-delete, inv-advance, inv-commit, inv-restore, inv-stopped, count-restored}
 
 -- ---- what a call that is not refused has passed
 
--- questions 6, 12 and 18 of add, 15 of advance
-add-asked : (a b c d e f g : Bool) (rest : ℕ) → ask a 5 (ask b 6 (ask c 7 (ask d 8 (ask e 11 (ask f 12 (ask g 18 rest)))))) ≡ 0
-    → (b ≡ true) × (f ≡ true) × (g ≡ true)
-add-asked a b c d e f g rest q =
-    let q6 = ask-rest a 5 (ask b 6 (ask c 7 (ask d 8 (ask e 11 (ask f 12 (ask g 18 rest)))))) (omega arith) q in
-    let q7 = ask-rest b 6 (ask c 7 (ask d 8 (ask e 11 (ask f 12 (ask g 18 rest))))) (omega arith) q6 in
-    let q8 = ask-rest c 7 (ask d 8 (ask e 11 (ask f 12 (ask g 18 rest)))) (omega arith) q7 in
-    let q11 = ask-rest d 8 (ask e 11 (ask f 12 (ask g 18 rest))) (omega arith) q8 in
-    let q12 = ask-rest e 11 (ask f 12 (ask g 18 rest)) (omega arith) q11 in
-    let q18 = ask-rest f 12 (ask g 18 rest) (omega arith) q12 in (
-      ask-yes b 6 (ask c 7 (ask d 8 (ask e 11 (ask f 12 (ask g 18 rest))))) (omega arith) q6,
-      ask-yes f 12 (ask g 18 rest) (omega arith) q12,
-      ask-yes g 18 rest (omega arith) q18,
-    )
-
+-- question 15 of advance
 advance-asked : (a b c : Bool) (rest : ℕ) → ask a 5 (ask b 6 (ask c 15 rest)) ≡ 0 → c ≡ true
 advance-asked a b c rest q =
     let q6 = ask-rest a 5 (ask b 6 (ask c 15 rest)) (omega arith) q in
@@ -75,26 +62,40 @@ matched m first n zero r s p q = tt
 matched m first n (suc zero) r s p q = p
 matched m first n (suc (suc k)) r s p q = q
 
-pub add-sound : (room : Room) (s : State) (m : List ℕ) (n : History) (h first c k r l : ℕ) → addChecks room m h first c k r l s ≡ 0 → Sound s m n
-    → Sound (addTo m first c (kindNumbered k r) (labelNumbered l) s) m (changeLine (add h first c k r l) m n)
-add-sound room s m n h first c k r l q z =
-    let kind = kindNumbered k r in
-    let asked = add-asked (isLive h s) (isInnermost h s) (leb k 2 && leb l 1) (rangeOk (room .cells) first c)
-    (not (isVia kind) || parentHolds first c s) (not (isVia kind) || parentSame m first c s) (not (isSome (ruleOf kind)) || ruleFits m r first c s) _ q in
+-- one range: in the history, too, it is the innermost domain that is named
+range-sound : (cells : ℕ) (s : State) (m : List ℕ) (n : History) (h : ℕ) (r : Range) (rest : ℕ) → RangeAsked cells m r s rest → named h s ≡ length (s .domains)
+    → Sound s m n → Sound (addRange m r s) m (withDomains (addLine m h r (n .domains)) n)
+range-sound cells s m n h r rest y last z =
+    let kind = kindNumbered (r .kind) (r .rule) in
     let same-name : namedAmong h (n .domains) ≡ length (n .domains) =
-    sym (agree-named h s (n .domains) (z .agrees .same-domains)) ∙ eqb-true (named h s) (length (s .domains)) (asked .0)
-    ∙ agree-length (z .agrees .same-domains) in
-    let inner : atDepth (namedAmong h (n .domains)) (addTracked m first c (labelNumbered l)) (n .domains)
-    ≡ atInnermost (addTracked m first c (labelNumbered l)) (n .domains) =
-    ap (λ (d : ℕ). atDepth d (addTracked m first c (labelNumbered l)) (n .domains)) same-name ∙ at-length _ (n .domains) in
-    subst (λ (qs : List Tracked). Sound (addTo m first c kind (labelNumbered l) s) m (withDomains qs n)) (sym inner)
+    sym (agree-named h s (n .domains) (z .agrees .same-domains)) ∙ last ∙ agree-length (z .agrees .same-domains) in
+    let inner : addLine m h r (n .domains) ≡ atInnermost (addTracked m (r .first) (r .count) (labelNumbered (r .label))) (n .domains) =
+    ap (λ (d : ℕ). atDepth d (addTracked m (r .first) (r .count) (labelNumbered (r .label))) (n .domains)) same-name ∙ at-length _ (n .domains) in
+    subst (λ (qs : List Tracked). Sound (addRange m r s) m (withDomains qs n)) (sym inner)
     (record {
       agrees = record {
         same-next = z .agrees .same-next;
-        same-domains = agree-add m first c kind (labelNumbered l) s (n .domains) (matched m first c k r s (asked .1) (asked .2)) (z .agrees .same-domains);
+        same-domains = agree-add m (r .first) (r .count) kind (labelNumbered (r .label)) s (n .domains)
+            (matched m (r .first) (r .count) (r .kind) (r .rule) s (y .same) (y .rules)) (z .agrees .same-domains);
       };
-      inv = λ x b. inv-add x first c (labelNumbered l) m (n .domains) (z .inv x b);
+      inv = λ x b. inv-add x (r .first) (r .count) (labelNumbered (r .label)) m (n .domains) (z .inv x b);
     })
+
+-- a list, range by range
+ranges-sound : (cells : ℕ) (s : State) (m : List ℕ) (n : History) (h : ℕ) (rs : List Range) (rest : ℕ) → listChecks cells m rs s rest ≡ 0
+    → named h s ≡ length (s .domains) → Sound s m n → Sound (addRanges m rs s) m (withDomains (addLines m h rs (n .domains)) n)
+ranges-sound cells s m n h [] rest q last z = z
+ranges-sound cells s m n h (r ∷ rs) rest q last z =
+    let y = range-asked cells m r s _ q in
+    let still : named h (addRange m r s) ≡ length ((addRange m r s) .domains) =
+    ranges-named m (r ∷ []) s h ∙ last ∙ sym (ranges-length m (r ∷ []) s) in
+    ranges-sound cells (addRange m r s) m (withDomains (addLine m h r (n .domains)) n) h rs rest (y .onward) still (range-sound cells s m n h r _ y last z)
+
+pub add-sound : (room : Room) (s : State) (m : List ℕ) (n : History) (h : ℕ) (rs : List Range) → addChecks room m h rs s ≡ 0 → Sound s m n
+    → Sound (addRanges m rs s) m (changeLine (add h rs) m n)
+add-sound room s m n h rs q z =
+    let y = add-asked room m h rs s q in
+    ranges-sound (room .cells) s m n h rs _ (y .ranges) (y .innermost) z
 
 pub delete-sound : (s : State) (m : List ℕ) (n : History) (h first c : ℕ) → Sound s m n
     → Sound (deleteFrom (named h s) first c s) m (changeLine (delete h first c) m n)

@@ -8,6 +8,7 @@ use lib.Dec.{eqb}
 use lib.ListN.{length, getD, take}
 use Rattle.words.specs.Scan.{count}
 use Rattle.words.specs.Cells.{cellBytes}
+use Rattle.ranges.specs.declared.Range.{Range}
 use Rattle.model.specs.State.{Label, readOnly, readWrite}
 use Rattle.model.specs.Answer.{Status, isDone, isStopped, isRefused}
 use Rattle.model.specs.Holdings.{inRange, labelNumbered}
@@ -20,7 +21,7 @@ use Rattle.model.specs.Restore.{cellOfByte}
 -- restore, which alone changes memory
 pub data Changing : Type 0 where
   create : Changing
-  add : (h first n kind rule label : ℕ) → Changing
+  add : (h : ℕ) → List Range → Changing
   delete : (h first n : ℕ) → Changing
   advance commit : (h : ℕ) → Changing
 
@@ -149,8 +150,13 @@ entered l bytes (some k) = some (record { label = turned l (k .label); bytes = k
 abbrev pub addTracked : List ℕ → (first n : ℕ) → Label → Tracked → Tracked
 addTracked memory first n l q = withCells (λ c. cond (inRange first n c) (entered l (cellBytes memory c) (q .cells c)) (q .cells c)) q
 
-abbrev pub addLine : List ℕ → (h first n label : ℕ) → List Tracked → List Tracked
-addLine memory h first n l qs = atDepth (namedAmong h qs) (addTracked memory first n (labelNumbered l)) qs
+abbrev pub addLine : List ℕ → (h : ℕ) → Range → List Tracked → List Tracked
+addLine memory h r qs = atDepth (namedAmong h qs) (addTracked memory (r .first) (r .count) (labelNumbered (r .label))) qs
+
+-- for each range of a list in its order
+abbrev pub addLines : List ℕ → (h : ℕ) → List Range → List Tracked → List Tracked
+addLines memory h [] qs = qs
+addLines memory h (r ∷ rs) qs = addLines memory h rs (addLine memory h r qs)
 
 -- ---- "Delete: the cells leave the named domain. Their bytes are spoilt for it and for all around it"
 
@@ -233,7 +239,7 @@ writeLine places (q ∷ qs) = unprotect (λ x. isIn x places && not (anyWritable
 
 abbrev pub changeLine : Changing → List ℕ → History → History
 changeLine create memory n = createLine memory n
-changeLine (add h first c k r l) memory n = withDomains (addLine memory h first c l (n .domains)) n
+changeLine (add h rs) memory n = withDomains (addLines memory h rs (n .domains)) n
 changeLine (delete h first c) memory n = withDomains (deleteLine h first c (n .domains)) n
 changeLine (advance h) memory n = withDomains (advanceLine memory (n .domains)) n
 changeLine (commit h) memory n = withDomains (commitLine (n .domains)) n

@@ -8,6 +8,9 @@ use lib.ListN.{length}
 use Rattle.words.specs.Layout.{cellSize}
 use Rattle.words.specs.Scan.{all, count}
 use Rattle.words.specs.Cells.{cellBytes, sameCell}
+use Rattle.ranges.specs.declared.Range.{Range}
+use Rattle.ranges.specs.Ranges.{listOk}
+pub use Rattle.ranges.specs.Ranges.{inRange}
 use Rattle.patterns.specs.Pattern.{maxRule, pattern}
 use Rattle.model.specs.State.{Label, readOnly, readWrite, Kind, copy, viaParent, byRule, Holding, Domain, State}
 use Rattle.model.specs.Answer.{ask}
@@ -167,10 +170,6 @@ askInnermost h s rest = askLive h s (ask (isInnermost h s) 6 rest)
 abbrev pub askRange : (m first n rest : ℕ) → ℕ
 askRange m first n rest = ask (rangeOk m first n) 8 rest
 
--- is cell c one of first, .., first + n - 1?
-abbrev pub inRange : (first n c : ℕ) → Bool
-inRange first n c = leb first c && ltb c (first + n)
-
 -- ---- what is in use, counted in the state
 
 -- how many cells of m these domains hold so that f, each cell once for every domain that holds it
@@ -220,12 +219,14 @@ addTo memory first n k l s = record {
   domains = onInnermost (λ d. holding (λ c. cond (inRange first n c) (added l k (givenValue k memory (outerHolding s c) c) (d .holds c)) (d .holds c)) d) (s .domains);
 }
 
--- cells of the range that are newly held, and those whose label rises
-abbrev pub newlyHeld : (first n : ℕ) → State → ℕ
-newlyHeld first n s = count n (λ j. not (isHeld (innerHolding s (first + j))))
+-- the same of a record, by its numbers; and of a list of them: "Ranges act in list order, so a later one finds cells that an earlier one has just
+-- taken"
+abbrev pub addRange : List ℕ → Range → State → State
+addRange memory r s = addTo memory (r .first) (r .count) (kindNumbered (r .kind) (r .rule)) (labelNumbered (r .label)) s
 
-abbrev pub relabelled : (first n : ℕ) → Label → State → ℕ
-relabelled first n l s = cond (isWritable l) (count n (λ j. heldReadOnly (innerHolding s (first + j)))) 0
+abbrev pub addRanges : List ℕ → List Range → State → State
+addRanges memory [] s = s
+addRanges memory (r ∷ rs) s = addRanges memory rs (addRange memory r s)
 
 -- 11: "Does the next domain out hold every newly held cell?"
 abbrev pub parentHolds : (first n : ℕ) → State → Bool
@@ -247,30 +248,52 @@ ruleFits memory r first n s =
 abbrev pub parentPlain : (first n : ℕ) → State → Bool
 parentPlain first n s = all n (λ j. isHeld (innerHolding s (first + j)) || not (heldByRule (outerHolding s (first + j))))
 
--- new bodies, where n cells are newly held
-abbrev pub newBodies : Kind → ℕ → ℕ
-newBodies k n = cond (hasBody k) n 0
+-- the questions on a range, in this order, each for all its cells before the next
+abbrev pub rangeChecks : (m : ℕ) → List ℕ → Range → State → (rest : ℕ) → ℕ
+rangeChecks m memory r s rest =
+    let kind = kindNumbered (r .kind) (r .rule) in
+    ask (leb (r .kind) 2 && leb (r .label) 1) 7
+    (askRange m (r .first) (r .count)
+    (ask (not (isVia kind) || parentHolds (r .first) (r .count) s) 11
+    (ask (not (isVia kind) || parentSame memory (r .first) (r .count) s) 12
+    (ask (not (isSome (ruleOf kind)) || ruleFits memory (r .rule) (r .first) (r .count) s) 18
+    (ask (not (isVia kind) || parentPlain (r .first) (r .count) s) 19 rest)))))
 
--- the questions are put in this order, each for all cells before the next
-abbrev pub addChecks : Room → List ℕ → (h first n k r l : ℕ) → State → ℕ
-addChecks room memory h first n k r l s =
-    let kind = kindNumbered k r in
+-- "The questions on a range are put range by range", each on the state as the ranges before it leave it
+abbrev pub listChecks : (m : ℕ) → List ℕ → List Range → State → (rest : ℕ) → ℕ
+listChecks m memory [] s rest = rest
+listChecks m memory (r ∷ rs) s rest = rangeChecks m memory r s (listChecks m memory rs (addRange memory r s) rest)
+
+-- of m cells, from one state to another: those that the innermost domain newly holds, those of them that it holds in a body, and those whose label
+-- rises
+abbrev pub newlyHeld : (m : ℕ) → (before after : State) → ℕ
+newlyHeld m s t = count m (λ c. not (isHeld (innerHolding s c)) && isHeld (innerHolding t c))
+
+abbrev pub newBodies : (m : ℕ) → (before after : State) → ℕ
+newBodies m s t = count m (λ c. not (isHeld (innerHolding s c)) && heldInBody (innerHolding t c))
+
+abbrev pub relabelled : (m : ℕ) → (before after : State) → ℕ
+relabelled m s t = count m (λ c. heldReadOnly (innerHolding s c) && heldWritable (innerHolding t c))
+
+-- "those on room once for the whole list": 16 and 17
+abbrev pub roomChecks : Room → (before after : State) → ℕ
+roomChecks room s t =
+    ask (leb (liveEntries (room .cells) s + newlyHeld (room .cells) s t) (room .slots)) 16
+    (ask (leb (copiesInUse (room .cells) s + newBodies (room .cells) s t) (room .bodies)) 17 0)
+
+-- 20, "after question 6: fewer than 1 or more than 64 records"
+abbrev pub addChecks : Room → List ℕ → (h : ℕ) → List Range → State → ℕ
+addChecks room memory h rs s =
     askInnermost h s
-    (ask (leb k 2 && leb l 1) 7
-    (askRange (room .cells) first n
-    (ask (not (isVia kind) || parentHolds first n s) 11
-    (ask (not (isVia kind) || parentSame memory first n s) 12
-    (ask (not (isSome (ruleOf kind)) || ruleFits memory r first n s) 18
-    (ask (not (isVia kind) || parentPlain first n s) 19
-    (ask (leb (liveEntries (room .cells) s + newlyHeld first n s) (room .slots)) 16
-    (ask (not (hasBody kind) || leb (copiesInUse (room .cells) s + newlyHeld first n s) (room .bodies)) 17 0))))))))
+    (ask (listOk rs) 20
+    (listChecks (room .cells) memory rs s
+    (roomChecks room s (addRanges memory rs s))))
 
-abbrev pub addEffect : Room → List ℕ → (h first n k r l : ℕ) → State → Effect
-addEffect room memory h first n k r l s =
-    let kind = kindNumbered k r in
-    orRefuse (addChecks room memory h first n k r l s)
-    (change (cellSize * newBodies kind (newlyHeld first n s)) (2 * (newlyHeld first n s + relabelled first n (labelNumbered l) s)) 0
-    (addTo memory first n kind (labelNumbered l) s))
+abbrev pub addEffect : Room → List ℕ → (h : ℕ) → List Range → State → Effect
+addEffect room memory h rs s =
+    let m = room .cells in
+    let t = addRanges memory rs s in
+    orRefuse (addChecks room memory h rs s) (change (cellSize * newBodies m s t) (2 * (newlyHeld m s t + relabelled m s t)) 0 t)
 
 -- ---- delete: "frees the named cells of the named domain only"
 

@@ -51,7 +51,7 @@ memoryOf (world o m d) = m
 
 abbrev pub changeEffect : Room → List ℕ → Changing → State → Effect
 changeEffect room memory create s = createEffect s
-changeEffect room memory (add h first n k r l) s = addEffect room memory h first n k r l s
+changeEffect room memory (add h rs) s = addEffect room memory h rs s
 changeEffect room memory (delete h first n) s = deleteEffect (room .cells) h first n s
 changeEffect room memory (advance h) s = advanceEffect room memory h s
 changeEffect room memory (commit h) s = commitEffect (room .cells) h s
