@@ -1,82 +1,98 @@
 -- A choice of places, told slot by slot; and the lowest free places, which the contract's call takes, are one. Assumes nothing.
-use Prim.Native.Nat.{ℕ, _+_, _-_, _≤_, _<_}
+use Prim.Native.Nat.{ℕ, _≤_, _<_}
 use mathlib.Core.Bool.{true, false, not}
 use mathlib.Core.List.{List}
 use mathlib.Core.Path.{_≡_, refl, sym, ap, _∙_}
 use native.Mathlib.Omega.{arith}
-use borrow.Author.Tests.{eqb-true, lt-ltb, not-true}
-use lib.Dec.{ltb}
+use borrow.Author.Tests.{eq-eqb, eqb-true, lt-ltb, not-true}
+use lib.Dec.{ltb, eqb}
 use lib.ListN.{length}
 use Rattle.words.specs.Layout.{cellsOf, bodiesOf, slotsOf}
 use Rattle.words.specs.Scan.{count}
-use Rattle.table.specs.Entry.{live, word1, holdsIn, secondWord}
+use Rattle.words.proofs.Scan.{and-split, and-join}
+use Rattle.ranges.specs.declared.Range.{Range}
+use Rattle.ranges.specs.Ranges.{named, kindFor, ruleFor}
+use Rattle.table.specs.Entry.{live, word1, holdsIn}
 use Rattle.table.specs.Changes.{entryChanges}
 use Rattle.search.specs.Free.{slotFree, bodyFree}
 use Rattle.search.proofs.Free.{slots-all, bodies-all}
 use Rattle.search.proofs.Taking.{taker-facts, same-place, taker-of, taken-free, lowest-free}
-use Rattle.model.specs.Holdings.{inRange}
 use Rattle.store.proofs.Raw.{raw-rule}
-use Rattle.add.specs.Add.{isNew, slotFor, bodyFor, changeWith, cellFor, changeWith}
-use Rattle.add.specs.Walking.{Ready}
+use Rattle.add.specs.Add.{isNew, isNewCopy, slotFor, bodyFor, changeWith, cellFor, takenSecond}
+use Rattle.add.specs.Ready.{Ready}
 use Rattle.add.specs.Choice.{Choice}
-use Rattle.model.proofs.Ranges.{range-both, range-make}
 use Rattle.add.proofs.Choices.{Taking, chosen, second-copy, second-via, second-rule}
+
+-- ---- new cells
+
+module _ (e : ℕ) (t : List ℕ) (rs : List Range) (c : ℕ) where
+  pub new-facts : isNew e t rs c ≡ true → (named rs c ≡ true) × (holdsIn e t (live t) c ≡ false)
+  new-facts h = let s = and-split (named rs c) (not (holdsIn e t (live t) c)) h in (s .0, not-true _ (s .1))
+
+  pub new-make : named rs c ≡ true → holdsIn e t (live t) c ≡ false → isNew e t rs c ≡ true
+  new-make p q = and-join (named rs c) (not (holdsIn e t (live t) c)) p (ap not q)
+
+  pub copy-facts : isNewCopy e t rs c ≡ true → (isNew e t rs c ≡ true) × (kindFor rs c ≡ 0)
+  copy-facts h = let s = and-split (isNew e t rs c) (eqb (kindFor rs c) 0) h in (s .0, eqb-true _ _ (s .1))
+
+  pub copy-make : isNew e t rs c ≡ true → kindFor rs c ≡ 0 → isNewCopy e t rs c ≡ true
+  copy-make p z = and-join (isNew e t rs c) (eqb (kindFor rs c) 0) p (eq-eqb (kindFor rs c) 0 z)
 
 -- ---- slot by slot
 
-pub same-after : (base x y : ℕ) → base + x ≡ base + y → x ≡ y
-same-after base x y q = omega arith
-
-module _ {e b : ℕ} {t : List ℕ} {base n k : ℕ} {slot body : ℕ → ℕ} (choice : Choice e b t base n k slot body) (u : ℕ) where
+module _ {m e b : ℕ} {t : List ℕ} {rs : List Range} {slot body : ℕ → ℕ} (choice : Choice m e b t rs slot body) where
   abbrev taker : ℕ → ℕ
-  taker i = cellFor e t base n slot i
+  taker i = cellFor m e t rs slot i
 
-  abbrev facts : (i : ℕ) → ltb (taker i) n ≡ true → (taker i < n) × (isNew e t base (taker i) ≡ true) × (slot (taker i) ≡ i)
-  facts = taker-facts n (isNew e t base) slot
+  abbrev facts : (i : ℕ) → ltb (taker i) m ≡ true → (taker i < m) × (isNew e t rs (taker i) ≡ true) × (slot (taker i) ≡ i)
+  facts = taker-facts m (isNew e t rs) slot
 
-  abbrev same-slot : (i j : ℕ) → ltb (taker i) n ≡ true → ltb (taker j) n ≡ true → taker i ≡ taker j → i ≡ j
-  same-slot = same-place n (isNew e t base) slot
+  abbrev same-slot : (i j : ℕ) → ltb (taker i) m ≡ true → ltb (taker j) m ≡ true → taker i ≡ taker j → i ≡ j
+  same-slot = same-place m (isNew e t rs) slot
 
-  unfoldable pub taking : Taking e b t base n k u
+  -- the second word of a copy is its body
+  abbrev own-body : (i : ℕ) → kindFor rs (taker i) ≡ 0 → takenSecond rs (body (taker i)) (taker i) ≡ body (taker i)
+  own-body i z = second-copy (kindFor rs (taker i)) (ruleFor rs (taker i)) (body (taker i)) z
+
+  unfoldable pub taking : Taking m e b t rs
   taking =
       record {
-        taken = λ i. ltb (cellFor e t base n slot i) n;
-        cell = λ i. base + cellFor e t base n slot i;
-        body = λ i. secondWord k u (body (cellFor e t base n slot i));
+        taken = λ i. ltb (cellFor m e t rs slot i) m;
+        cell = λ i. cellFor m e t rs slot i;
+        body = λ i. takenSecond rs (body (cellFor m e t rs slot i)) (cellFor m e t rs slot i);
         free = λ i h p. eqb-true (word1 e t i) 0 (taken-free (choice .slots) i p);
-        within = λ i h p. let f = facts i p in range-make base n (base + taker i) (omega arith) (omega (arith, f .0));
-        new = λ i h p. not-true _ (facts i p .1);
-        apart = λ i j hi hj p q s. same-slot i j p q (same-after base (taker i) (taker j) s);
+        within = λ i h p. new-facts e t rs (taker i) (facts i p .1) .0;
+        new = λ i h p. new-facts e t rs (taker i) (facts i p .1) .1;
+        apart = λ i j hi hj p q s. same-slot i j p q s;
         covers = covers;
-        fits = λ z i h p. let f = facts i p in rw (second-copy k u (body (taker i)) z) (choice .bodies z .below (taker i) (f .0) (f .1));
-        unused = λ z i h p. let f = facts i p in rw (second-copy k u (body (taker i)) z) (choice .bodies z .was-free (taker i) (f .0) (f .1));
-        bodies = λ z i j hi hj p q s.
+        fits = λ i h p z. let f = facts i p in rw (own-body i z) (choice .bodies .below (taker i) (f .0) (copy-make e t rs (taker i) (f .1) z));
+        unused = λ i h p z. let f = facts i p in rw (own-body i z) (choice .bodies .was-free (taker i) (f .0) (copy-make e t rs (taker i) (f .1) z));
+        bodies = λ i j hi hj p q y z s.
             let f = facts i p in
             let g = facts j q in
-            same-slot i j p q (choice .bodies z .own (taker i) (taker j) (f .0) (g .0) (f .1) (g .1) (sym (second-copy k u (body (taker i)) z) ∙ s ∙ second-copy k u (body (taker j)) z));
-        bodiless = λ z i h p. second-via k u (body (taker i)) z;
-        ruled = λ z i h p. second-rule k u (body (taker i)) z;
+            same-slot i j p q
+            (choice .bodies .own (taker i) (taker j) (f .0) (g .0) (copy-make e t rs (taker i) (f .1) y) (copy-make e t rs (taker j) (g .1) z) (sym (own-body i y) ∙ s ∙ own-body j z));
+        bodiless = λ i h p z. second-via (kindFor rs (taker i)) (ruleFor rs (taker i)) (body (taker i)) z;
+        ruled = λ i h p z. second-rule (kindFor rs (taker i)) (ruleFor rs (taker i)) (body (taker i)) z;
       }
     where
-      covers : (c : ℕ) → inRange base n c ≡ true → holdsIn e t (live t) c ≡ false → (i : ℕ) × (i < e) × (ltb (taker i) n ≡ true) × (base + taker i ≡ c)
-      covers c within lacks =
-          let low = range-both base n c within .0 in
-          let high = range-both base n c within .1 in
-          let j : ℕ = c - base in
-          let back : base + j ≡ c = omega arith in
-          let here : isNew e t base j ≡ true = ap (λ (x : ℕ). not (holdsIn e t (live t) x)) back ∙ ap not lacks in
-          let l : j < n = omega arith in
-          let at : taker (slot j) ≡ j = taker-of (choice .slots) j l here in
-          (slot j, choice .slots .below j l here, lt-ltb (taker (slot j)) n (omega arith), ap (λ (x : ℕ). base + x) at ∙ back)
+      covers : (c : ℕ) → c < m → named rs c ≡ true → holdsIn e t (live t) c ≡ false → (i : ℕ) × (i < e) × (ltb (taker i) m ≡ true) × (taker i ≡ c)
+      covers c l within lacks =
+          let here : isNew e t rs c ≡ true = new-make e t rs c within lacks in
+          let at : taker (slot c) ≡ c = taker-of (choice .slots) c l here in
+          (slot c, choice .slots .below c l here, lt-ltb (taker (slot c)) m (omega arith), at)
 
   -- its changes are those of the call with the choice
-  pub words-told : (l : ℕ) → entryChanges e (chosen taking l) ≡ entryChanges e (changeWith e t base n k u l slot body)
+  pub words-told : entryChanges e (chosen taking) ≡ entryChanges e (changeWith m e t rs slot body)
   unfolding chosen changeWith taking
-  words-told l = refl
+  words-told = refl
 
 -- ---- the lowest free slots and bodies
 
-module _ (memory bodies t : List ℕ) (base n k u l : ℕ) (r : Ready memory bodies t base n k u l) where
+module _ (memory bodies t : List ℕ) (rs : List Range) (r : Ready memory bodies t rs) where
+  abbrev m : ℕ
+  m = cellsOf (length memory)
+
   abbrev e : ℕ
   e = slotsOf (length t)
 
@@ -84,15 +100,15 @@ module _ (memory bodies t : List ℕ) (base n k u l : ℕ) (r : Ready memory bod
   b = bodiesOf (length bodies)
 
   -- there are slots and bodies enough
-  pub slots-enough : count n (isNew (slotsOf (length t)) t base) ≤ count (slotsOf (length t)) (slotFree (slotsOf (length t)) t)
+  pub slots-enough : count (cellsOf (length memory)) (isNew (slotsOf (length t)) t rs) ≤ count (slotsOf (length t)) (slotFree (slotsOf (length t)) t)
   slots-enough = omega (arith, r .slots, slots-all (slotsOf (length t)) t)
 
-  pub places-enough : k ≡ 0 → count n (isNew (slotsOf (length t)) t base) ≤ count (bodiesOf (length bodies)) (bodyFree (slotsOf (length t)) t)
-  places-enough z = omega (arith, r .places z, bodies-all (cellsOf (length memory)) (slotsOf (length t)) (bodiesOf (length bodies)) t (raw-rule memory bodies t (r .store)))
+  pub places-enough : count (cellsOf (length memory)) (isNewCopy (slotsOf (length t)) t rs) ≤ count (bodiesOf (length bodies)) (bodyFree (slotsOf (length t)) t)
+  places-enough = omega (arith, r .places, bodies-all (cellsOf (length memory)) (slotsOf (length t)) (bodiesOf (length bodies)) t (raw-rule memory bodies t (r .store)))
 
-  pub lowest : Choice (slotsOf (length t)) (bodiesOf (length bodies)) t base n k (slotFor (slotsOf (length t)) t base) (bodyFor (slotsOf (length t)) (bodiesOf (length bodies)) t base)
+  pub lowest : Choice (cellsOf (length memory)) (slotsOf (length t)) (bodiesOf (length bodies)) t rs (slotFor (slotsOf (length t)) t rs) (bodyFor (slotsOf (length t)) (bodiesOf (length bodies)) t rs)
   lowest =
       record {
-        slots = lowest-free n (isNew e t base) e (slotFree e t) slots-enough;
-        bodies = λ z. lowest-free n (isNew e t base) b (bodyFree e t) (places-enough z);
+        slots = lowest-free m (isNew e t rs) e (slotFree e t) slots-enough;
+        bodies = lowest-free m (isNewCopy e t rs) b (bodyFree e t) places-enough;
       }

@@ -1,25 +1,20 @@
--- Laws of counts that add needs: two tests that never both pass, and a range. Assumes nothing.
-use Prim.Native.Nat.{ℕ, zero, suc, _+_, _-_, _≤_, _<_}
-use mathlib.Core.Bool.{Bool, true, false, _&&_, _||_}
-use mathlib.Core.Path.{_≡_, refl, ap, _∙_}
+-- Laws of counts that add needs. Assumes nothing.
+use Prim.Native.Nat.{ℕ, zero, suc, _+_, _-_, _≤_}
+use mathlib.Core.Bool.{Bool, _&&_}
+use mathlib.Core.Path.{_≡_, ap, _∙_}
 use native.Mathlib.Omega.{arith}
 use borrow.Author.Tests.{lt-ltb, le-ltb, le-leb, lt-leb}
 use Rattle.words.specs.Scan.{count}
-use Rattle.words.proofs.Scan.{by-bool, is-false}
-use Rattle.model.specs.Holdings.{inRange}
-use Rattle.words.proofs.Scan.{count-none}
+use Rattle.words.proofs.Scan.{by-bool, count-none}
+use Rattle.ranges.specs.Ranges.{inRange}
 
--- two tests that never both pass
-pub count-or : (n : ℕ) (f g : ℕ → Bool) → ((i : ℕ) → i < n → f i ≡ true → g i ≡ true → ⊥) → count n (λ i. f i || g i) ≡ count n f + count n g
+-- those that pass a second test too are no more
+pub count-both : (n : ℕ) (f g : ℕ → Bool) → count n (λ i. f i && g i) ≤ count n f
 unfolding count
-count-or zero f g h = refl
-count-or (suc n) f g h =
-    let r : count n (λ i. f i || g i) ≡ count n f + count n g = count-or n f g (λ i l. h i (omega arith)) in
-    by-bool (f n)
-    (λ p.
-    let q : g n ≡ false = is-false (g n) (λ y. h n (omega arith) p y) in
-    rw (p, q) (omega arith))
-    (λ p. by-bool (g n) (λ q. rw (p, q) (omega arith)) (λ q. rw (p, q) (omega arith)))
+count-both zero f g = omega arith
+count-both (suc n) f g =
+    let rest : count n (λ i. f i && g i) ≤ count n f = count-both n f g in
+    by-bool (f n) (λ p. by-bool (g n) (λ q. rw (p, q) (omega arith)) (λ q. rw (p, q) (omega arith))) (λ p. rw p (omega arith))
 
 -- the numbers of a range
 module _ (base : ℕ) (f : ℕ → Bool) where

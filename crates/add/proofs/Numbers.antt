@@ -1,16 +1,18 @@
 -- What the model asks and counts of a state, read off the words; and how many bytes and words add stores, whichever places it takes.
 -- Assumes nothing.
-use Prim.Native.Nat.{ℕ, zero, suc, _+_, _-_, _*_, _≤_}
-use mathlib.Core.Bool.{Bool, true, false, not, _&&_, _||_}
+use Prim.Native.Nat.{ℕ, _+_, _-_, _*_, _≤_}
+use mathlib.Core.Bool.{Bool, true, not, _&&_, _||_, and-assoc, and-comm}
 use mathlib.Core.List.{List}
-use mathlib.Core.Path.{_≡_, refl, sym, ap, _∙_}
+use mathlib.Core.Path.{_≡_, sym, ap, _∙_}
 use native.Mathlib.Omega.{arith}
-use borrow.Author.Tests.{ne-eqb, le-leb, lt-leb, leb-true}
+use borrow.Author.Tests.{le-leb, lt-leb, leb-true}
 use lib.Dec.{leb, eqb}
 use lib.ListN.{length}
 use Rattle.words.specs.Layout.{cellsOf, bodiesOf, slotsOf}
 use Rattle.words.specs.Scan.{count}
-use Rattle.words.proofs.Scan.{by-bool, by-le, and-split, true≢, count-ext, count-none}
+use Rattle.words.proofs.Scan.{by-bool, by-le, and-split, true≢, count-ext, count-or}
+use Rattle.ranges.specs.declared.Range.{Range}
+use Rattle.ranges.specs.Ranges.{named, kindFor, labelFor}
 use Rattle.table.specs.Entry.{live, word1, writableOf, cellOf, parent, findIn, holdsIn, parentHas}
 use Rattle.table.specs.Changes.{isChanged}
 use Rattle.table.proofs.Rule.{Rule}
@@ -18,17 +20,18 @@ use Rattle.table.proofs.Entry.{read-only, find-hit, holds-found}
 use Rattle.table.proofs.Entries.{changes-count}
 use Rattle.search.specs.Search.{valueIn, ruledIn}
 use Rattle.search.proofs.Counts.{count-entries}
-use Rattle.model.specs.Holdings.{holdingAt, isHeld, isSome, heldByRule, heldReadOnly, valueOr, inRange, labelNumbered, kindNumbered, newlyHeld, relabelled, newBodies}
+use Rattle.model.specs.State.{State}
+use Rattle.model.specs.Holdings.{holdingAt, isHeld, isSome, heldByRule, heldReadOnly, valueOr, addRanges, newlyHeld, relabelled, newBodies}
+use Rattle.model.proofs.Ranged.{newly-after, bodies-after, relabelled-after}
 use Rattle.store.specs.State.{heldIn, stateIn}
 use Rattle.store.proofs.Domains.{inner-holding, outer-holding, state-zero, domains-count, held-holds, held-writable}
 use Rattle.store.proofs.Outermost.{held-rule}
 use Rattle.store.proofs.Raw.{raw-rule}
-use Rattle.add.specs.Add.{isNew, rises, raiseChange, wordsWith, bytesWith}
-use Rattle.add.specs.Walking.{Ready}
+use Rattle.add.specs.Add.{isNew, isNewCopy, rises, raiseChange, wordsWith, bytesWith}
+use Rattle.add.specs.Ready.{Ready}
 use Rattle.add.specs.Choice.{Choice}
 use Rattle.add.proofs.Choices.{Taking, chosen, rises-free}
 use Rattle.add.proofs.Chosen.{taking, words-told}
-use Rattle.add.proofs.Counting.{count-or, count-range}
 use Rattle.add.proofs.Filling.{slots-taken, bytes-length}
 
 -- ---- the state of a table's words
@@ -59,18 +62,32 @@ module _ (e : ℕ) (t bodies : List ℕ) (inner : 1 ≤ live t) where
       let p = and-split (leb 2 (live t)) (holdsIn e t (parent (live t)) c) h in
       ap (valueOr v) (outer-holding e t bodies c (leb-true 2 (live t) (p .0))) ∙ rw (p .1)
 
-  -- ---- numbers
+  -- ---- numbers, from the state to the one after the list
 
-  module _ (base n : ℕ) where
-    pub newly-is : newlyHeld base n (stateIn e t bodies) ≡ count n (isNew e t base)
-    newly-is = count-ext n _ (isNew e t base) (λ j h. ap not (inner-held (base + j)))
+  module _ (m : ℕ) (memory : List ℕ) (rs : List Range) where
+    abbrev s : State
+    s = stateIn e t bodies
 
-    pub relabelled-is : (l : ℕ) → l ≤ 1 → relabelled base n (labelNumbered l) (stateIn e t bodies)
-        ≡ count n (λ j. holdsIn e t (live t) (base + j) && (eqb l 1 && eqb (writableOf (word1 e t (findIn e t (live t) (base + j)))) 0))
-    relabelled-is l small =
-        by-bool (eqb l 1)
-        (λ p. rw p (count-ext n _ _ (λ j h. inner-only (base + j))))
-        (λ p. rw p (sym (count-none n _ (λ j h. by-bool (holdsIn e t (live t) (base + j)) (λ q. rw q) (λ q. rw q)))))
+    some : 1 ≤ length (stateIn e t bodies .domains)
+    some = omega (arith, domains-count e t bodies)
+
+    new-is : (c : ℕ) → (named rs c && not (isHeld (holdingAt (stateIn e t bodies .domains) (length (stateIn e t bodies .domains)) c))) ≡ isNew e t rs c
+    new-is c = ap (λ (x : Bool). named rs c && not x) (inner-held c)
+
+    pub newly-is : newlyHeld m (stateIn e t bodies) (addRanges memory rs (stateIn e t bodies)) ≡ count m (isNew e t rs)
+    newly-is = newly-after m memory rs s some ∙ count-ext m _ (isNew e t rs) (λ c h. new-is c)
+
+    pub bodies-is : newBodies m (stateIn e t bodies) (addRanges memory rs (stateIn e t bodies)) ≡ count m (isNewCopy e t rs)
+    bodies-is = bodies-after m memory rs s some ∙ count-ext m _ (isNewCopy e t rs) (λ c h. ap (λ (x : Bool). x && eqb (kindFor rs c) 0) (new-is c))
+
+    pub relabelled-is : relabelled m (stateIn e t bodies) (addRanges memory rs (stateIn e t bodies))
+        ≡ count m (λ c. holdsIn e t (live t) c && (eqb (labelFor rs c) 1 && eqb (writableOf (word1 e t (findIn e t (live t) c))) 0))
+    relabelled-is =
+        relabelled-after m memory rs s some
+        ∙ count-ext m _ _ (λ c h.
+        ap (λ (x : Bool). x && eqb (labelFor rs c) 1) (inner-only c)
+        ∙ and-assoc (holdsIn e t (live t) c) (eqb (writableOf (word1 e t (findIn e t (live t) c))) 0) (eqb (labelFor rs c) 1)
+        ∙ ap (λ (x : Bool). holdsIn e t (live t) c && x) (and-comm (eqb (writableOf (word1 e t (findIn e t (live t) c))) 0) (eqb (labelFor rs c) 1)))
 
 -- does the parent hold the cell by a rule? Its value then comes from that
 pub outer-ruled : (m e b : ℕ) (t : List ℕ) → Rule m e b t → (bodies : List ℕ) → 1 ≤ live t → (c : ℕ) → parentHas e t (live t) c ≡ true
@@ -84,58 +101,57 @@ outer-ruled m e b t ok bodies inner c h =
 
 -- ---- how many bytes and words
 
-module _ (memory bodies t : List ℕ) (base n k u l : ℕ) (r : Ready memory bodies t base n k u l)
-    {slot body : ℕ → ℕ} (choice : Choice (slotsOf (length t)) (bodiesOf (length bodies)) t base n k slot body) where
+module _ (memory bodies t : List ℕ) (rs : List Range) (r : Ready memory bodies t rs)
+    {slot body : ℕ → ℕ} (choice : Choice (cellsOf (length memory)) (slotsOf (length t)) (bodiesOf (length bodies)) t rs slot body) where
   -- slot by slot
-  abbrev told : Taking (slotsOf (length t)) (bodiesOf (length bodies)) t base n k u
-  told = taking choice u
+  abbrev told : Taking (cellsOf (length memory)) (slotsOf (length t)) (bodiesOf (length bodies)) t rs
+  told = taking choice
+
+  abbrev m : ℕ
+  m = cellsOf (length memory)
 
   abbrev e : ℕ
   e = slotsOf (length t)
 
-  abbrev up : ℕ → Bool
-  up i = rises (live t) base n l (word1 (slotsOf (length t)) t i)
+  -- the state before, and after the list
+  abbrev before : State
+  before = stateIn (slotsOf (length t)) t bodies
 
-  changed-is : (i : ℕ) → isChanged (chosen told l i) ≡ (told .taken i || rises (live t) base n l (word1 (slotsOf (length t)) t i))
+  abbrev after : State
+  after = addRanges memory rs (stateIn (slotsOf (length t)) t bodies)
+
+  abbrev up : ℕ → Bool
+  up i = rises (live t) rs (word1 (slotsOf (length t)) t i)
+
+  changed-is : (i : ℕ) → isChanged (chosen told i) ≡ (told .taken i || rises (live t) rs (word1 (slotsOf (length t)) t i))
   unfolding chosen raiseChange
   changed-is i =
       by-bool (told .taken i) (λ p. rw p)
       (λ p. by-bool (up i) (λ q. rw (p, q)) (λ q. rw (p, q)))
 
-  raised-many : count (slotsOf (length t)) (λ i. rises (live t) base n l (word1 (slotsOf (length t)) t i)) ≡ relabelled base n (labelNumbered l) (stateIn (slotsOf (length t)) t bodies)
+  raised-many : count (slotsOf (length t)) (λ i. rises (live t) rs (word1 (slotsOf (length t)) t i)) ≡ relabelled (cellsOf (length memory)) before after
   raised-many =
-      let P : ℕ → Bool = λ w. inRange base n (cellOf w) && (eqb l 1 && eqb (writableOf w) 0) in
-      let Q : ℕ → Bool = λ c. holdsIn e t (live t) c && (eqb l 1 && eqb (writableOf (word1 e t (findIn e t (live t) c))) 0) in
-      count-entries (cellsOf (length memory)) e (bodiesOf (length bodies)) t (raw-rule memory bodies t (r .store)) (live t) (r .inner) P
-      ∙ count-ext (cellsOf (length memory)) (λ c. holdsIn e t (live t) c && P (word1 e t (findIn e t (live t) c))) (λ c. inRange base n c && Q c)
+      let P : ℕ → Bool = λ w. eqb (labelFor rs (cellOf w)) 1 && eqb (writableOf w) 0 in
+      count-entries m e (bodiesOf (length bodies)) t (raw-rule memory bodies t (r .store)) (live t) (r .inner) P
+      ∙ count-ext m (λ c. holdsIn e t (live t) c && P (word1 e t (findIn e t (live t) c)))
+      (λ c. holdsIn e t (live t) c && (eqb (labelFor rs c) 1 && eqb (writableOf (word1 e t (findIn e t (live t) c))) 0))
       (λ c h.
       by-bool (holdsIn e t (live t) c)
       (λ p. let hit = find-hit e t (live t) c (holds-found e t (live t) c p) in rw (p, hit .1))
-      (λ p. rw p (by-bool (inRange base n c) (λ q. rw q) (λ q. rw q))))
-      ∙ count-range base Q (cellsOf (length memory)) n (r .range)
-      ∙ sym (relabelled-is e t bodies (r .inner) base n l (r .label))
+      (λ p. rw p))
+      ∙ sym (relabelled-is e t bodies (r .inner) m memory rs)
 
-  pub words-many : length (wordsWith t base n k u l slot body)
-      ≡ 2 * (newlyHeld base n (stateIn (slotsOf (length t)) t bodies) + relabelled base n (labelNumbered l) (stateIn (slotsOf (length t)) t bodies))
+  pub words-many : length (wordsWith (cellsOf (length memory)) t rs slot body)
+      ≡ 2 * (newlyHeld (cellsOf (length memory)) (stateIn (slotsOf (length t)) t bodies) (addRanges memory rs (stateIn (slotsOf (length t)) t bodies))
+      + relabelled (cellsOf (length memory)) (stateIn (slotsOf (length t)) t bodies) (addRanges memory rs (stateIn (slotsOf (length t)) t bodies)))
   words-many =
-      ap length (sym (words-told choice u l))
-      ∙ changes-count e (chosen told l)
+      ap length (sym (words-told choice))
+      ∙ changes-count e (chosen told)
       ∙ ap (λ (x : ℕ). 2 * x)
-      (count-ext e (λ i. isChanged (chosen told l i)) (λ i. told .taken i || up i) (λ i h. changed-is i)
+      (count-ext e (λ i. isChanged (chosen told i)) (λ i. told .taken i || up i) (λ i h. changed-is i)
       ∙ count-or e (told .taken) up
-      (λ i h p q. true≢ q (rw (told .free i h p) (rises-free (live t) base n l (r .inner))))
-      ∙ rw (slots-taken memory bodies t base n k u l r choice, raised-many, newly-is e t bodies (r .inner) base n))
+      (λ i h p q. true≢ q (rw (told .free i h p) (rises-free (live t) rs (r .inner))))
+      ∙ rw (slots-taken memory bodies t rs r choice, raised-many, newly-is e t bodies (r .inner) m memory rs))
 
-  pub bytes-many : length (bytesWith memory t base n k body) ≡ 64 * newBodies (kindNumbered k u) (newlyHeld base n (stateIn (slotsOf (length t)) t bodies))
-  bytes-many =
-      bytes-length memory bodies t base n k u l r choice
-      ∙ rw (newly-is e t bodies (r .inner) base n)
-      (by-kind k)
-    where
-      none-copied : 64 * count n (λ j. false) ≡ 64 * 0
-      none-copied = ap (λ (x : ℕ). 64 * x) (count-none n (λ j. false) (λ i h. refl))
-
-      by-kind : (k : ℕ) → 64 * count n (λ j. eqb k 0 && isNew e t base j) ≡ 64 * newBodies (kindNumbered k u) (count n (isNew e t base))
-      by-kind zero = refl
-      by-kind (suc zero) = none-copied
-      by-kind (suc (suc k)) = rw (ne-eqb (suc (suc k)) 0 (λ z. omega arith)) none-copied
+  pub bytes-many : length (bytesWith memory t rs body) ≡ 64 * newBodies (cellsOf (length memory)) (stateIn (slotsOf (length t)) t bodies) (addRanges memory rs (stateIn (slotsOf (length t)) t bodies))
+  bytes-many = bytes-length memory bodies t rs r choice ∙ rw (bodies-is e t bodies (r .inner) m memory rs)

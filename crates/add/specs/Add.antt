@@ -1,89 +1,85 @@
--- Add: its questions, the bytes and words that it stores, and what it means. n cells from `first` on, kind k, rule r and label l as numbers.
-use Prim.Native.Nat.{ℕ, _+_}
-use mathlib.Core.Bool.{Bool, cond, not, _&&_, _||_}
+-- Add: its questions, the bytes and words that it stores, and what it means. `rs` is the list of ranges; the plain add's has one.
+use Prim.Native.Nat.{ℕ}
+use mathlib.Core.Bool.{Bool, cond, not, _&&_}
 use mathlib.Core.List.{List, []}
-use lib.Dec.{ltb, leb, eqb}
+use lib.Dec.{ltb, eqb}
 use lib.ListN.{length}
 use Rattle.words.specs.Layout.{cellsOf, bodiesOf, slotsOf, pairsAt}
-use Rattle.words.specs.Scan.{all, count}
-use Rattle.words.specs.Cells.{cellBytes, sameCell, cellPlan}
+use Rattle.words.specs.Cells.{cellPlan}
 use Rattle.words.specs.Stores.{Store, gather}
-use Rattle.patterns.specs.Pattern.{maxRule, pattern}
-use Rattle.table.specs.Entry.{word1, word2, depthOf, cellOf, writableOf, entryWord, secondWord, writable, innermost, parent, holdsIn, parentHas}
+use Rattle.ranges.specs.declared.Range.{Range}
+use Rattle.ranges.specs.Ranges.{named, kindFor, ruleFor, labelFor}
+use Rattle.table.specs.Entry.{word1, word2, depthOf, cellOf, writableOf, entryWord, secondWord, writable, innermost, holdsIn}
 use Rattle.table.specs.Changes.{Change, keep, put, entryChanges}
-use Rattle.search.specs.Search.{valueIn, ruledIn}
-use Rattle.search.specs.Free.{slotFree, bodyFree, usedSlots, copies, lowestFree, takerOf}
-use Rattle.model.specs.Answer.{ask, orElse, View}
-use Rattle.model.specs.Holdings.{askRange, inRange, addEffect}
+use Rattle.search.specs.Free.{slotFree, bodyFree, lowestFree, takerOf}
+use Rattle.model.specs.Answer.{orElse, View}
+use Rattle.model.specs.Holdings.{addChecks, addEffect}
 use Rattle.store.specs.Outcome.{Buffers, Call, perform, unless, changePlan}
-use Rattle.store.specs.Checks.{storeCheck, askInnermostIn, lentOf}
+use Rattle.store.specs.Checks.{storeCheck, lentOf}
+use Rattle.store.specs.State.{stateOf}
 use Rattle.store.specs.Means.{callMeans, roomOf}
 
--- is the j-th cell of the range newly held?
-abbrev pub isNew : ℕ → List ℕ → (first j : ℕ) → Bool
-isNew e t first j = not (holdsIn e t (innermost t) (first + j))
+-- questions 1 to 4 on the buffers; 5, 6, 20, the questions on each range, 16 and 17 on the state that they stand for
+unfoldable pub addCheck : Buffers → (h : ℕ) → List Range → ℕ
+addCheck b h rs = orElse (storeCheck (lentOf b)) (addChecks (roomOf b) (b .memory) h rs (stateOf b))
 
--- questions 1 to 8, 11, 12, 18, 19, 16 and 17, in this order, each for all cells before the next
-unfoldable pub addCheck : Buffers → (h first n k r l : ℕ) → ℕ
-addCheck b h first n k r l =
-    let t = b .table in
-    let e = slotsOf (length t) in
-    orElse (storeCheck (lentOf b))
-    (askInnermostIn t h
-    (ask (leb k 2 && leb l 1) 7
-    (askRange (cellsOf (length (b .memory))) first n
-    (ask (not (eqb k 1) || all n (λ j. not (isNew e t first j) || parentHas e t (innermost t) (first + j))) 11
-    (ask (not (eqb k 1) || all n (λ j. not (isNew e t first j)
-    || sameCell (valueIn e t (b .bodies) (parent (innermost t)) (first + j)) (cellBytes (b .memory) (first + j)))) 12
-    (ask (not (eqb k 2) || (leb r maxRule && all n (λ j. not (isNew e t first j) || sameCell (pattern r) (cellBytes (b .memory) (first + j))))) 18
-    (ask (not (eqb k 1) || all n (λ j. not (isNew e t first j) || not (ruledIn e t (parent (innermost t)) (first + j)))) 19
-    (ask (leb (usedSlots e t + count n (isNew e t first)) e) 16
-    (ask (not (eqb k 0) || leb (copies e t + count n (isNew e t first)) (bodiesOf (length (b .bodies)))) 17 0)))))))))
+-- is cell c newly held? And by copy?
+abbrev pub isNew : ℕ → List ℕ → List Range → ℕ → Bool
+isNew e t rs c = named rs c && not (holdsIn e t (innermost t) c)
 
--- does the label of an entry with first word w rise, d being the innermost depth? It is one of the range's read-only entries, and the label is read-write
-abbrev pub rises : (d first n l w : ℕ) → Bool
-rises d first n l w = eqb (depthOf w) d && (inRange first n (cellOf w) && (eqb l 1 && eqb (writableOf w) 0))
+abbrev pub isNewCopy : ℕ → List ℕ → List Range → ℕ → Bool
+isNewCopy e t rs c = isNew e t rs c && eqb (kindFor rs c) 0
 
-unfoldable pub raiseChange : (d first n l w v : ℕ) → Change
-raiseChange d first n l w v = cond (rises d first n l w) (put (writable w) v) keep
+-- does the label of an entry with first word w rise, d being the innermost depth? It is read-only, and a range that names its cell is read-write
+abbrev pub rises : (d : ℕ) → List Range → (w : ℕ) → Bool
+rises d rs w = eqb (depthOf w) d && (eqb (labelFor rs (cellOf w)) 1 && eqb (writableOf w) 0)
 
--- where `slot j` and `body j` are those of the j-th cell of the range, if it is newly held: the one that takes slot i, or n
-abbrev pub cellFor : ℕ → List ℕ → (first n : ℕ) (slot : ℕ → ℕ) → ℕ → ℕ
-cellFor e t first n slot i = takerOf n (isNew e t first) slot i
+unfoldable pub raiseChange : (d : ℕ) → List Range → (w v : ℕ) → Change
+raiseChange d rs w v = cond (rises d rs w) (put (writable w) v) keep
 
--- the change of entry i: its slot is taken by a cell, with a body, a rule or neither; else its label rises, or it stays
-unfoldable pub changeWith : ℕ → List ℕ → (first n k r l : ℕ) (slot body : ℕ → ℕ) → ℕ → Change
-changeWith e t first n k r l slot body i =
-    cond (ltb (cellFor e t first n slot i) n)
-    (put (entryWord (innermost t) k l (first + cellFor e t first n slot i)) (secondWord k r (body (cellFor e t first n slot i))))
-    (raiseChange (innermost t) first n l (word1 e t i) (word2 e t i))
+-- the words of the new entry of cell c, with this body if it is a copy
+abbrev pub takenFirst : List ℕ → List Range → ℕ → ℕ
+takenFirst t rs c = entryWord (innermost t) (kindFor rs c) (labelFor rs c) c
 
-abbrev pub wordsWith : List ℕ → (first n k r l : ℕ) (slot body : ℕ → ℕ) → List Store
-wordsWith t first n k r l slot body = entryChanges (slotsOf (length t)) (changeWith (slotsOf (length t)) t first n k r l slot body)
+abbrev pub takenSecond : List Range → (body : ℕ) → ℕ → ℕ
+takenSecond rs body c = secondWord (kindFor rs c) (ruleFor rs c) body
 
--- "bytes first: 64 for each copy taken .., rising by cell and byte"; none for via parent and by rule
-abbrev pub bytesWith : List ℕ → List ℕ → (first n k : ℕ) (body : ℕ → ℕ) → List Store
-bytesWith memory t first n k body =
-    gather n (λ j. cond (eqb k 0 && isNew (slotsOf (length t)) t first j) (cellPlan memory (first + j) (body j)) [])
+-- where `slot c` and `body c` are those of cell c, if it is newly held: which of m cells takes slot i, or m
+abbrev pub cellFor : (m e : ℕ) → List ℕ → List Range → (slot : ℕ → ℕ) → ℕ → ℕ
+cellFor m e t rs slot i = takerOf m (isNew e t rs) slot i
+
+-- the change of entry i: its slot is taken by a cell; else its label rises, or it stays
+unfoldable pub changeWith : (m e : ℕ) → List ℕ → List Range → (slot body : ℕ → ℕ) → ℕ → Change
+changeWith m e t rs slot body i =
+    let c = cellFor m e t rs slot i in
+    cond (ltb c m) (put (takenFirst t rs c) (takenSecond rs (body c) c)) (raiseChange (innermost t) rs (word1 e t i) (word2 e t i))
+
+abbrev pub wordsWith : (m : ℕ) → List ℕ → List Range → (slot body : ℕ → ℕ) → List Store
+wordsWith m t rs slot body = entryChanges (slotsOf (length t)) (changeWith m (slotsOf (length t)) t rs slot body)
+
+-- "bytes first: 64 for each copy taken .., rising by cell and byte", over the whole list; none for via parent and by rule
+abbrev pub bytesWith : (memory t : List ℕ) → List Range → (body : ℕ → ℕ) → List Store
+bytesWith memory t rs body =
+    gather (cellsOf (length memory)) (λ c. cond (isNewCopy (slotsOf (length t)) t rs c) (cellPlan memory c (body c)) [])
 
 -- the lowest free ones, in the order of the cells
-abbrev pub slotFor : ℕ → List ℕ → (first : ℕ) → ℕ → ℕ
-slotFor e t first = lowestFree e (slotFree e t) (isNew e t first)
+abbrev pub slotFor : ℕ → List ℕ → List Range → ℕ → ℕ
+slotFor e t rs = lowestFree e (slotFree e t) (isNew e t rs)
 
-abbrev pub bodyFor : (e b : ℕ) → List ℕ → (first : ℕ) → ℕ → ℕ
-bodyFor e b t first = lowestFree b (bodyFree e t) (isNew e t first)
+abbrev pub bodyFor : (e b : ℕ) → List ℕ → List Range → ℕ → ℕ
+bodyFor e b t rs = lowestFree b (bodyFree e t) (isNewCopy e t rs)
 
-unfoldable pub addWords : (b : ℕ) → List ℕ → (first n k r l : ℕ) → List Store
-addWords b t first n k r l = wordsWith t first n k r l (slotFor (slotsOf (length t)) t first) (bodyFor (slotsOf (length t)) b t first)
+unfoldable pub addWords : (m b : ℕ) → List ℕ → List Range → List Store
+addWords m b t rs = wordsWith m t rs (slotFor (slotsOf (length t)) t rs) (bodyFor (slotsOf (length t)) b t rs)
 
-unfoldable pub addBytes : (b : ℕ) → List ℕ → List ℕ → (first n k : ℕ) → List Store
-addBytes b memory t first n k = bytesWith memory t first n k (bodyFor (slotsOf (length t)) b t first)
+unfoldable pub addBytes : (b : ℕ) → (memory t : List ℕ) → List Range → List Store
+addBytes b memory t rs = bytesWith memory t rs (bodyFor (slotsOf (length t)) b t rs)
 
-unfoldable pub addCall : (h first n k r l : ℕ) → Buffers → Call
-addCall h first n k r l b =
-    unless (addCheck b h first n k r l)
-    (perform (changePlan (pairsAt (slotsOf (length (b .table)))) (addBytes (bodiesOf (length (b .bodies))) (b .memory) (b .table) first n k)
-    (addWords (bodiesOf (length (b .bodies))) (b .table) first n k r l)) 0)
+unfoldable pub addCall : (h : ℕ) → List Range → Buffers → Call
+addCall h rs b =
+    unless (addCheck b h rs)
+    (perform (changePlan (pairsAt (slotsOf (length (b .table)))) (addBytes (bodiesOf (length (b .bodies))) (b .memory) (b .table) rs)
+    (addWords (cellsOf (length (b .memory))) (bodiesOf (length (b .bodies))) (b .table) rs)) 0)
 
-abbrev pub addMeans : (h first n k r l : ℕ) → ℕ → Buffers → View
-addMeans h first n k r l budget b = callMeans (addEffect (roomOf b) (b .memory) h first n k r l) budget b
+abbrev pub addMeans : (h : ℕ) → List Range → ℕ → Buffers → View
+addMeans h rs budget b = callMeans (addEffect (roomOf b) (b .memory) h rs) budget b

@@ -1,11 +1,12 @@
-// Add: names cells of memory for the innermost domain to hold.
+// Add: names cells of memory for the innermost domain to hold, by a list of ranges; the plain add's has one.
 //
 // Which domains hold a cell is told by one mark a cell, and which bodies are in use by one mark a body. Question 4 makes these marks, and
-// the call goes on with them. Via parent is compared with notes of where the entries stand, which go before anything is staged. Then the range is
-// walked once for the bytes, and the entries once to stage those that are taken and those whose label rises. Where no label can rise that walk
-// goes from one free slot to the next, and ends with the last new cell; else it ends behind the last entry in use, if no new cell is left. What
-// is staged is written at the end. The arrays for it are made after the questions, by how far entries may change, and the marks before, by how
-// many blocks of cells the entries may need.
+// the call goes on with them. The ranges are asked one after the other; what those before a range take, it finds held, which they tell
+// themselves: no mark is changed. Via parent is compared with notes of where the entries stand, which go before anything is staged. Then the cells
+// are taken in their order, over the whole list: each new one gets the next free slot and, as a copy, the next free body, where its bytes go. The
+// entries whose label rises are staged in a pass of their own, which is left out where none can rise. What is staged is written at the end, by one
+// journal. The arrays for it are made after the questions, by how far entries may change, and the marks before, by how many blocks of cells the
+// entries may need.
 use changes::few_bits;
 use changes::few_words;
 use changes::many_bits;
@@ -23,6 +24,21 @@ use marks::mark_of;
 use marks::some_marks;
 use patterns::MAX_RULE;
 use patterns::pattern_bytes;
+use ranges::Batch;
+use ranges::MAX_RANGES;
+use ranges::Range;
+use ranges::Segment;
+use ranges::count_at;
+use ranges::earlier;
+use ranges::first_at;
+use ranges::gather;
+use ranges::is_named;
+use ranges::is_rising;
+use ranges::kind_at;
+use ranges::label_at;
+use ranges::label_for;
+use ranges::next_segment;
+use ranges::rule_at;
 use search::Held;
 use search::count_used;
 use search::find_value;
@@ -51,6 +67,7 @@ use table::second_word;
 use words::copy_cell;
 use words::layout::CELL_SIZE;
 use words::layout::LIVE_AT;
+use words::layout::bodies_of;
 use words::layout::cells_of;
 use words::layout::slots_of;
 use words::least;
@@ -58,7 +75,7 @@ use words::remaining;
 use words::same_cell;
 use words::wide;
 ghost use mathlib.Core.Path.{_≡_};
-ghost use mathlib.Core.Bool.{true, cond, _||_};
+ghost use mathlib.Core.Bool.{true, cond, not, _||_};
 ghost use mathlib.Core.List.{[]};
 ghost use Prim.Native.Nat.{ℕ, _+_, _-_, _*_, _<_, _≤_};
 ghost use lib.ListN.{length, take};
@@ -68,90 +85,114 @@ ghost use Rattle.words.specs.Scan.{all, count};
 ghost use Rattle.words.specs.Cells.{cellPlan};
 ghost use Rattle.words.specs.Stores.{stores};
 ghost use Rattle.words.specs.Journal.{journal};
+ghost use Rattle.ranges.specs.Ranges.{labelFor, oneRange, maxRanges};
+ghost use Rattle.ranges.specs.Batch.{rangeAt, rangesIn, batchRanges, recordSize, Listed, Within, NoneEmpty, Rising, Passed};
 ghost use Rattle.table.specs.Entry.{live, word1, word2, parent};
+ghost use Rattle.table.specs.Changes.{Change};
 ghost use Rattle.marks.specs.Blocks.{cellsIn, Enough};
 ghost use Rattle.table.specs.Marks.{CellsOnce, EndsAt, Reached, RoomForMarks, Marked, AllMarked};
-ghost use Rattle.search.specs.Free.{unmarked, unmarkedFrom};
-ghost use Rattle.changes.specs.Staged.{RoomFor, Stages, Journaled};
+ghost use Rattle.search.specs.Free.{unmarkedFrom};
+ghost use Rattle.changes.specs.Staged.{RoomFor, Restaged, Stages, Journaled};
 ghost use Rattle.model.specs.Answer.{ask, orElse, stepsOf};
+ghost use Rattle.model.specs.Holdings.{listChecks};
 ghost use Rattle.store.specs.Checks.{storeCheck, lent};
 ghost use Rattle.store.specs.Outcome.{buffers, report, Makes};
 ghost use Rattle.store.specs.Means.{Shows};
-ghost use Rattle.add.specs.Add.{addCheck, addCall, addMeans, rises, raiseChange};
-ghost use Rattle.add.specs.Walking.{lacks, newIn, nextUnheld, rangeCheck, parentCheck, ruleCheck, valueCheck, roomCheck, heldCheck, backed, follows};
-ghost use Rattle.add.specs.Walking.{valueNumber, cellNumber, rangeNumber, Source, Comparable, copyBytes};
-ghost use Rattle.add.specs.Walking.{bodyBeyond, listChange, NoneBelow, StagesOn, Walkable, Walked, Stageable, Skips, Ready, bytesOfRange, wordsOf, callOf};
-ghost use Rattle.add.specs.Walking.{rangeWords, endOf};
+ghost use Rattle.store.specs.State.{stateIn};
+ghost use Rattle.add.specs.Add.{isNew, isNewCopy, addCheck, addCall, addMeans, rises, raiseChange, addBytes, addWords};
+ghost use Rattle.add.specs.Ready.{Ready};
+ghost use Rattle.add.specs.Walking.{lacks, freshTo, PartOf, Given, Askable, Comparable, Asking, Counted, Source, copiesOf};
+ghost use Rattle.add.specs.Walking.{parentCheck, ruleCheck, valueCheck, partCheck, roomCheck, backed, follows, valueNumber, cellNumber, rangeNumber};
+ghost use Rattle.add.specs.Walking.{freeFrom, bodyBeyond, listChange, Takeable, RoomToTake, Standing, Copied, tookCell, passedCell, cellBytesOf, TookEntry, RoomForCell, Restages, Lifts, endOf, bytesOf, wordsOf};
 
-// What an add names: `count` cells from `first` on, to be held as copies (kind 0), via parent (kind 1) or by a rule (kind 2), which other kinds
-// ignore, read-only (label 0) or read-write (label 1).
-pub struct Range {
+// A range taken out of the list, and how many of those before it are to be asked whether they name one of its cells.
+pub struct Part {
     pub first: usize,
     pub count: usize,
     pub kind: u32,
     pub rule: u32,
     pub label: u32,
+    pub seen: usize,
+}
+
+// The number of the first no among the questions on ranges, or 0; how many cells are newly held, and how many of them by copy.
+pub struct Tally {
+    pub no: u32,
+    pub new: usize,
+    pub copies: usize,
 }
 
 // ---- the questions: 0, or the number of the first no
 
-// Questions 5 to 8.
-fn range_check(table: &[u32], cells: usize, handle: u32, range: Range) -> u32
-    requires { ⌜ (handleAt maxLive ≤ length (now table)) × (live (now table) ≤ maxLive) ⌝ }
-    ensures { λ r. ⌜ r ≡ rangeCheck (now (table .entry)) cells handle (range .first) (range .count) (range .kind) (range .label) ⌝ }
+// The i-th range of the list.
+fn part_at(list: &[u32], i: usize) -> Part
+    requires { ⌜ Listed (i + 1) (now list) ⌝ }
+    ensures { λ r. ⌜ PartOf (now (list .entry)) i r ⌝ }
 {
-    let no = innermost_check(table, handle);
-    if no != 0 {
-        return no;
+    Part {
+        first: first_at(list, i),
+        count: count_at(list, i),
+        kind: kind_at(list, i),
+        rule: rule_at(list, i),
+        label: label_at(list, i),
+        seen: earlier(list, i),
     }
-    if !((range.kind <= 2) & (range.label <= 1)) {
-        return 7;
-    }
-    if !range_ok(cells, range.first, range.count) {
-        return 8;
-    }
-    0
 }
 
 // Does the domain at this depth not hold the cell?
-fn is_new(held: &[u8], depth: u32, cell: usize) -> bool
+fn is_lacking(held: &[u8], depth: u32, cell: usize) -> bool
     requires { ⌜ (cell < cellsIn (now held)) × (depth ≤ maxLive) ⌝ }
     ensures { λ r. ⌜ r ≡ lacks (now (held .entry)) depth cell ⌝ }
 {
     !has_depth(mark_of(held, cell), depth)
 }
 
-// 1 where it does not, else 0.
-fn new_here(held: &[u8], depth: u32, cell: usize) -> usize
-    requires { ⌜ (cell < cellsIn (now held)) × (depth ≤ maxLive) ⌝ }
-    ensures { λ r. ⌜ r ≡ cond (lacks (now (held .entry)) depth cell) 1 0 ⌝ }
+// Is the cell new to a range behind the first `seen` ranges: not held, and named by none of them?
+fn is_new(held: &[u8], depth: u32, list: &[u32], seen: usize, cell: usize) -> bool
+    requires { ⌜ (cell < cellsIn (now held)) × (depth ≤ maxLive) × Listed seen (now list) ⌝ }
+    ensures { λ r. ⌜ r ≡ freshTo (now (held .entry)) depth (rangesIn seen (now (list .entry))) cell ⌝ }
 {
-    if is_new(held, depth, cell) { 1 } else { 0 }
+    if !is_lacking(held, depth, cell) {
+        return false;
+    }
+    !is_named(list, seen, cell)
+}
+
+// 1 where it is, else 0.
+fn new_here(held: &[u8], depth: u32, list: &[u32], seen: usize, cell: usize) -> usize
+    requires { ⌜ (cell < cellsIn (now held)) × (depth ≤ maxLive) × Listed seen (now list) ⌝ }
+    ensures { λ r. ⌜ r ≡ cond (freshTo (now (held .entry)) depth (rangesIn seen (now (list .entry))) cell) 1 0 ⌝ }
+{
+    if is_new(held, depth, list, seen, cell) {
+        1
+    } else {
+        0
+    }
 }
 
 // How many cells of the range are new.
-fn count_new(held: &[u8], depth: u32, range: Range) -> usize
-    requires { ⌜ (range .first + range .count ≤ cellsIn (now held)) × (depth ≤ maxLive) ⌝ }
-    ensures { λ r. ⌜ r ≡ newIn (now (held .entry)) depth range ⌝ }
+fn count_new(held: &[u8], depth: u32, list: &[u32], part: Part) -> usize
+    requires { ⌜ (part .first + part .count ≤ cellsIn (now held)) × (depth ≤ maxLive) × Listed (part .seen) (now list) ⌝ }
+    ensures { λ r. ⌜ r ≡ count (part .count) (λ j. freshTo (now (held .entry)) depth (rangesIn (part .seen) (now (list .entry))) (part .first + j)) ⌝ }
 {
     let mut new: usize = 0;
     let mut j: usize = 0;
-    while j < range.count {
-        new += new_here(held, depth, range.first + j);
+    while j < part.count {
+        new += new_here(held, depth, list, part.seen, part.first + j);
         j += 1;
     }
     new
 }
 
 // Does the parent hold every new cell of the range? Depth 0, the outermost domain's parent, holds none.
-fn parent_holds(held: &[u8], depth: u32, range: Range) -> bool
-    requires { ⌜ (range .first + range .count ≤ cellsIn (now held)) × (1 ≤ depth) × (depth ≤ maxLive) ⌝ }
-    ensures { λ r. ⌜ r ≡ all (range .count) (λ j. backed (now (held .entry)) depth (range .first + j)) ⌝ }
+fn parent_holds(held: &[u8], depth: u32, list: &[u32], part: Part) -> bool
+    requires { ⌜ (part .first + part .count ≤ cellsIn (now held)) × (1 ≤ depth) × (depth ≤ maxLive) × Listed (part .seen) (now list) ⌝ }
+    ensures { λ r. ⌜ r ≡ all (part .count) (λ j. backed (now (held .entry)) depth (freshTo (now (held .entry)) depth (rangesIn (part .seen) (now (list .entry)))) (part .first + j)) ⌝ }
 {
     let mut j: usize = 0;
-    while j < range.count {
-        let cell = range.first + j;
-        if is_new(held, depth, cell) & is_new(held, parent_of(depth), cell) {
+    while j < part.count {
+        let cell = part.first + j;
+        if is_new(held, depth, list, part.seen, cell) & is_lacking(held, parent_of(depth), cell) {
             return false;
         }
         j += 1;
@@ -205,15 +246,18 @@ fn cell_number(
     before: &[u16],
     held: &[u8],
     depth: u32,
+    list: &[u32],
+    seen: usize,
     cell: usize,
 ) -> u32
     requires { ⌜ (slots ≤ maxSlots) × (pairsAt slots ≤ length (now table)) × (1 ≤ depth) × (depth ≤ live (now table)) × (live (now table) ≤ maxLive)
         × CellsOnce slots (now table) slots × EndsAt slots (now table) top ⌝ }
-    requires { ⌜ (cell < maxCells) × (cellAt cell + cellSize ≤ length (now memory)) × (cell < cellsIn (now held)) ⌝ }
-    requires { ⌜ (lacks (now held) depth cell ≡ true → Source slots (now table) (now bodies) (parent depth) cell) ⌝ }
-    ensures { λ r. ⌜ r ≡ cellNumber (now (memory .entry)) (now (bodies .entry)) slots (now (table .entry)) (now (held .entry)) depth cell ⌝ }
+    requires { ⌜ (cell < maxCells) × (cellAt cell + cellSize ≤ length (now memory)) × (cell < cellsIn (now held)) × Listed seen (now list) ⌝ }
+    requires { ⌜ (freshTo (now held) depth (rangesIn seen (now list)) cell ≡ true → Source slots (now table) (now bodies) (parent depth) cell) ⌝ }
+    ensures { λ r. ⌜ r ≡ cellNumber (now (memory .entry)) (now (bodies .entry)) slots (now (table .entry)) depth
+        (freshTo (now (held .entry)) depth (rangesIn seen (now (list .entry)))) cell ⌝ }
 {
-    if !is_new(held, depth, cell) {
+    if !is_new(held, depth, list, seen, cell) {
         return 0;
     }
     value_number(
@@ -248,15 +292,16 @@ fn parent_number(
     before: &[u16],
     held: &[u8],
     depth: u32,
-    range: Range,
+    list: &[u32],
+    part: Part,
 ) -> u32
-    requires { ⌜ Comparable (now memory) (now bodies) slots (now table) top (now held) depth range ⌝ }
-    ensures { λ r. ⌜ r ≡ rangeNumber (now (memory .entry)) (now (bodies .entry)) slots (now (table .entry)) (now (held .entry)) depth (range .first) (range .count) ⌝ }
+    requires { ⌜ Comparable (now memory) (now bodies) slots (now table) top (now held) (now list) depth part ⌝ }
+    ensures { λ r. ⌜ r ≡ rangeNumber (now (memory .entry)) (now (bodies .entry)) slots (now (table .entry)) depth
+        (freshTo (now (held .entry)) depth (rangesIn (part .seen) (now (list .entry)))) (part .first) (part .count) ⌝ }
 {
     let mut ruled: u32 = 0;
     let mut j: usize = 0;
-    while j < range.count {
-        let cell = range.first + j;
+    while j < part.count {
         let no = cell_number(
             memory,
             bodies,
@@ -267,7 +312,9 @@ fn parent_number(
             before,
             held,
             depth,
-            cell,
+            list,
+            part.seen,
+            part.first + j,
         );
         if no == 12 {
             return 12;
@@ -287,10 +334,12 @@ fn number_plain(
     top: usize,
     held: &[u8],
     depth: u32,
-    range: Range,
+    list: &[u32],
+    part: Part,
 ) -> u32
-    requires { ⌜ Comparable (now memory) (now bodies) slots (now table) top (now held) depth range ⌝ }
-    ensures { λ r. ⌜ r ≡ rangeNumber (now (memory .entry)) (now (bodies .entry)) slots (now (table .entry)) (now (held .entry)) depth (range .first) (range .count) ⌝ }
+    requires { ⌜ Comparable (now memory) (now bodies) slots (now table) top (now held) (now list) depth part ⌝ }
+    ensures { λ r. ⌜ r ≡ rangeNumber (now (memory .entry)) (now (bodies .entry)) slots (now (table .entry)) depth
+        (freshTo (now (held .entry)) depth (rangesIn (part .seen) (now (list .entry)))) (part .first) (part .count) ⌝ }
 {
     let notes = no_notes();
     parent_number(
@@ -303,7 +352,8 @@ fn number_plain(
         &notes,
         held,
         depth,
-        range,
+        list,
+        part,
     )
 }
 
@@ -316,10 +366,12 @@ fn number_few(
     top: usize,
     held: &[u8],
     depth: u32,
-    range: Range,
+    list: &[u32],
+    part: Part,
 ) -> u32
-    requires { ⌜ Comparable (now memory) (now bodies) slots (now table) top (now held) depth range ⌝ }
-    ensures { λ r. ⌜ r ≡ rangeNumber (now (memory .entry)) (now (bodies .entry)) slots (now (table .entry)) (now (held .entry)) depth (range .first) (range .count) ⌝ }
+    requires { ⌜ Comparable (now memory) (now bodies) slots (now table) top (now held) (now list) depth part ⌝ }
+    ensures { λ r. ⌜ r ≡ rangeNumber (now (memory .entry)) (now (bodies .entry)) slots (now (table .entry)) depth
+        (freshTo (now (held .entry)) depth (rangesIn (part .seen) (now (list .entry)))) (part .first) (part .count) ⌝ }
 {
     let mut last = few_notes();
     let mut before = few_notes();
@@ -334,7 +386,8 @@ fn number_few(
         &before,
         held,
         depth,
-        range,
+        list,
+        part,
     )
 }
 
@@ -347,10 +400,12 @@ fn number_many(
     top: usize,
     held: &[u8],
     depth: u32,
-    range: Range,
+    list: &[u32],
+    part: Part,
 ) -> u32
-    requires { ⌜ Comparable (now memory) (now bodies) slots (now table) top (now held) depth range ⌝ }
-    ensures { λ r. ⌜ r ≡ rangeNumber (now (memory .entry)) (now (bodies .entry)) slots (now (table .entry)) (now (held .entry)) depth (range .first) (range .count) ⌝ }
+    requires { ⌜ Comparable (now memory) (now bodies) slots (now table) top (now held) (now list) depth part ⌝ }
+    ensures { λ r. ⌜ r ≡ rangeNumber (now (memory .entry)) (now (bodies .entry)) slots (now (table .entry)) depth
+        (freshTo (now (held .entry)) depth (rangesIn (part .seen) (now (list .entry)))) (part .first) (part .count) ⌝ }
 {
     let mut last = many_notes();
     let mut before = many_notes();
@@ -365,7 +420,8 @@ fn number_many(
         &before,
         held,
         depth,
-        range,
+        list,
+        part,
     )
 }
 
@@ -382,18 +438,20 @@ fn range_number(
     top: usize,
     held: &[u8],
     depth: u32,
-    range: Range,
+    list: &[u32],
+    part: Part,
 ) -> u32
-    requires { ⌜ Comparable (now memory) (now bodies) slots (now table) top (now held) depth range ⌝ }
-    ensures { λ r. ⌜ r ≡ rangeNumber (now (memory .entry)) (now (bodies .entry)) slots (now (table .entry)) (now (held .entry)) depth (range .first) (range .count) ⌝ }
+    requires { ⌜ Comparable (now memory) (now bodies) slots (now table) top (now held) (now list) depth part ⌝ }
+    ensures { λ r. ⌜ r ≡ rangeNumber (now (memory .entry)) (now (bodies .entry)) slots (now (table .entry)) depth
+        (freshTo (now (held .entry)) depth (rangesIn (part .seen) (now (list .entry)))) (part .first) (part .count) ⌝ }
 {
-    if range.count < NOTED_CELLS {
-        return number_plain(memory, bodies, table, slots, top, held, depth, range);
+    if part.count < NOTED_CELLS {
+        return number_plain(memory, bodies, table, slots, top, held, depth, list, part);
     }
     if top <= FEW_SLOTS {
-        return number_few(memory, bodies, table, slots, top, held, depth, range);
+        return number_few(memory, bodies, table, slots, top, held, depth, list, part);
     }
-    number_many(memory, bodies, table, slots, top, held, depth, range)
+    number_many(memory, bodies, table, slots, top, held, depth, list, part)
 }
 
 // Questions 11, 12 and 19, which are put for via parent.
@@ -403,43 +461,55 @@ fn parent_check(
     table: &[u32],
     top: usize,
     held: &[u8],
-    range: Range,
+    list: &[u32],
+    part: Part,
 ) -> u32
-    requires { ⌜ (storeCheck (lent (length (now memory)) (length (now bodies)) (now table)) ≡ 0) × (1 ≤ live (now table))
-        × (range .first + range .count ≤ cellsOf (length (now memory))) × EndsAt (slotsOf (length (now table))) (now table) top ⌝ }
-    requires { ⌜ (range .first + range .count ≤ cellsIn (now held))
-        × Marked (slotsOf (length (now table))) (now table) (slotsOf (length (now table))) (now held) ⌝ }
+    requires { ⌜ Asking (now memory) (now bodies) (now table) top (now held) (now list) (part .seen) × (part .first + part .count ≤ cellsOf (length (now memory))) ⌝ }
     ensures { λ r. ⌜ r ≡ parentCheck (now (memory .entry)) (now (bodies .entry)) (slotsOf (length (now (table .entry)))) (now (table .entry))
-        (range .first) (range .count) ⌝ }
+        (freshTo (now (held .entry)) (live (now (table .entry))) (rangesIn (part .seen) (now (list .entry)))) (part .first) (part .count) ⌝ }
 {
     let depth = table[LIVE_AT];
-    if !parent_holds(held, depth, range) {
+    if !parent_holds(held, depth, list, part) {
         return 11;
     }
     let slots = slots_of(table.len());
-    range_number(memory, bodies, table, slots, top, held, depth, range)
+    range_number(memory, bodies, table, slots, top, held, depth, list, part)
 }
 
 // Has memory these 64 bytes in a cell? Of one that is not new this is not asked.
-fn cell_follows(memory: &[u8], bytes: &[u8], held: &[u8], depth: u32, cell: usize) -> bool
-    requires { ⌜ (length (now bytes) ≡ cellSize) × (cellAt cell + cellSize ≤ length (now memory)) × (cell < cellsIn (now held)) × (depth ≤ maxLive) ⌝ }
-    ensures { λ r. ⌜ r ≡ follows (now (memory .entry)) (now (bytes .entry)) (now (held .entry)) depth cell ⌝ }
+fn cell_follows(
+    memory: &[u8],
+    bytes: &[u8],
+    held: &[u8],
+    depth: u32,
+    list: &[u32],
+    seen: usize,
+    cell: usize,
+) -> bool
+    requires { ⌜ (length (now bytes) ≡ cellSize) × (cellAt cell + cellSize ≤ length (now memory)) × (cell < cellsIn (now held)) × (depth ≤ maxLive) × Listed seen (now list) ⌝ }
+    ensures { λ r. ⌜ r ≡ follows (now (memory .entry)) (now (bytes .entry)) (freshTo (now (held .entry)) depth (rangesIn seen (now (list .entry)))) cell ⌝ }
 {
-    if !is_new(held, depth, cell) {
+    if !is_new(held, depth, list, seen, cell) {
         return true;
     }
     same_cell(bytes, 0, memory, cell)
 }
 
 // The same of every new cell of the range.
-fn range_follows(memory: &[u8], bytes: &[u8], held: &[u8], depth: u32, range: Range) -> bool
-    requires { ⌜ (length (now bytes) ≡ cellSize) × (cellAt (range .first + range .count) ≤ length (now memory))
-        × (range .first + range .count ≤ cellsIn (now held)) × (depth ≤ maxLive) × (range .first + range .count ≤ maxCells) ⌝ }
-    ensures { λ r. ⌜ r ≡ all (range .count) (λ j. follows (now (memory .entry)) (now (bytes .entry)) (now (held .entry)) depth (range .first + j)) ⌝ }
+fn range_follows(
+    memory: &[u8],
+    bytes: &[u8],
+    held: &[u8],
+    depth: u32,
+    list: &[u32],
+    part: Part,
+) -> bool
+    requires { ⌜ (length (now bytes) ≡ cellSize) × Askable (now memory) (now held) (now list) depth part ⌝ }
+    ensures { λ r. ⌜ r ≡ all (part .count) (λ j. follows (now (memory .entry)) (now (bytes .entry)) (freshTo (now (held .entry)) depth (rangesIn (part .seen) (now (list .entry)))) (part .first + j)) ⌝ }
 {
     let mut j: usize = 0;
-    while j < range.count {
-        if !cell_follows(memory, bytes, held, depth, range.first + j) {
+    while j < part.count {
+        if !cell_follows(memory, bytes, held, depth, list, part.seen, part.first + j) {
             return false;
         }
         j += 1;
@@ -448,18 +518,23 @@ fn range_follows(memory: &[u8], bytes: &[u8], held: &[u8], depth: u32, range: Ra
 }
 
 // Question 18, which is put for a rule: is there such a rule, and has memory its bytes in every new cell? The bytes are made once.
-fn rule_check(memory: &[u8], bodies: &[u8], table: &[u32], held: &[u8], range: Range) -> u32
-    requires { ⌜ (storeCheck (lent (length (now memory)) (length (now bodies)) (now table)) ≡ 0) × (1 ≤ live (now table))
-        × (range .first + range .count ≤ cellsOf (length (now memory))) ⌝ }
-    requires { ⌜ (range .first + range .count ≤ cellsIn (now held))
-        × Marked (slotsOf (length (now table))) (now table) (slotsOf (length (now table))) (now held) ⌝ }
-    ensures { λ r. ⌜ r ≡ ruleCheck (now (memory .entry)) (slotsOf (length (now (table .entry)))) (now (table .entry)) (range .first) (range .count) (range .rule) ⌝ }
+fn rule_check(
+    memory: &[u8],
+    bodies: &[u8],
+    table: &[u32],
+    top: usize,
+    held: &[u8],
+    list: &[u32],
+    part: Part,
+) -> u32
+    requires { ⌜ Asking (now memory) (now bodies) (now table) top (now held) (now list) (part .seen) × (part .first + part .count ≤ cellsOf (length (now memory))) ⌝ }
+    ensures { λ r. ⌜ r ≡ ruleCheck (now (memory .entry)) (freshTo (now (held .entry)) (live (now (table .entry))) (rangesIn (part .seen) (now (list .entry)))) (part .first) (part .count) (part .rule) ⌝ }
 {
-    if MAX_RULE < range.rule {
+    if MAX_RULE < part.rule {
         return 18;
     }
-    let bytes = pattern_bytes(range.rule);
-    if !range_follows(memory, &bytes, held, table[LIVE_AT], range) {
+    let bytes = pattern_bytes(part.rule);
+    if !range_follows(memory, &bytes, held, table[LIVE_AT], list, part) {
         return 18;
     }
     0
@@ -472,69 +547,158 @@ fn value_check(
     table: &[u32],
     top: usize,
     held: &[u8],
-    range: Range,
+    list: &[u32],
+    part: Part,
 ) -> u32
-    requires { ⌜ (storeCheck (lent (length (now memory)) (length (now bodies)) (now table)) ≡ 0) × (1 ≤ live (now table))
-        × (range .first + range .count ≤ cellsOf (length (now memory))) × EndsAt (slotsOf (length (now table))) (now table) top ⌝ }
-    requires { ⌜ (range .first + range .count ≤ cellsIn (now held))
-        × Marked (slotsOf (length (now table))) (now table) (slotsOf (length (now table))) (now held) ⌝ }
+    requires { ⌜ Asking (now memory) (now bodies) (now table) top (now held) (now list) (part .seen) × (part .first + part .count ≤ cellsOf (length (now memory))) ⌝ }
     ensures { λ r. ⌜ r ≡ valueCheck (now (memory .entry)) (now (bodies .entry)) (slotsOf (length (now (table .entry)))) (now (table .entry))
-        (range .first) (range .count) (range .kind) (range .rule) ⌝ }
+        (freshTo (now (held .entry)) (live (now (table .entry))) (rangesIn (part .seen) (now (list .entry)))) (part .first) (part .count) (part .kind) (part .rule) ⌝ }
 {
-    let kind = range.kind;
+    let kind = part.kind;
     match kind {
         0 => 0,
-        1 => parent_check(memory, bodies, table, top, held, range),
-        _ => rule_check(memory, bodies, table, held, range),
+        1 => parent_check(memory, bodies, table, top, held, list, part),
+        _ => rule_check(memory, bodies, table, top, held, list, part),
     }
 }
 
-// Questions 16 and 17, for so many new cells.
-fn room_check(table: &[u32], slots: usize, top: usize, bodies: usize, new: usize, kind: u32) -> u32
-    requires { ⌜ (slots ≤ maxSlots) × (pairsAt slots ≤ length (now table)) × (new ≤ maxCells) × EndsAt slots (now table) top ⌝ }
-    ensures { λ r. ⌜ r ≡ roomCheck slots (now (table .entry)) bodies new kind ⌝ }
-{
-    let in_use = count_used(table, slots, top);
-    if slots < in_use.entries + new {
-        return 16;
-    }
-    if kind != 0 {
-        return 0;
-    }
-    if bodies < in_use.copies + new {
-        return 17;
-    }
-    0
-}
-
-// Questions 11, 12, 18, 19, 16 and 17: those that ask which cells are new.
-fn held_check(
+// All the questions on a range: 7, 8, 11, 12, 18 and 19.
+fn part_check(
     memory: &[u8],
     bodies: &[u8],
     table: &[u32],
     top: usize,
     held: &[u8],
-    range: Range,
+    list: &[u32],
+    part: Part,
 ) -> u32
-    requires { ⌜ (storeCheck (lent (length (now memory)) (length (now bodies)) (now table)) ≡ 0) × (1 ≤ live (now table))
-        × (range .first + range .count ≤ cellsOf (length (now memory))) × EndsAt (slotsOf (length (now table))) (now table) top ⌝ }
-    requires { ⌜ (range .first + range .count ≤ cellsIn (now held))
-        × Marked (slotsOf (length (now table))) (now table) (slotsOf (length (now table))) (now held) ⌝ }
-    ensures { λ r. ⌜ r ≡ heldCheck (now (memory .entry)) (now (bodies .entry)) (now (table .entry)) (range .first) (range .count) (range .kind) (range .rule) ⌝ }
+    requires { ⌜ Asking (now memory) (now bodies) (now table) top (now held) (now list) (part .seen) ⌝ }
+    ensures { λ r. ⌜ r ≡ partCheck (now (memory .entry)) (now (bodies .entry)) (slotsOf (length (now (table .entry)))) (now (table .entry))
+        (freshTo (now (held .entry)) (live (now (table .entry))) (rangesIn (part .seen) (now (list .entry)))) (part .first) (part .count) (part .kind) (part .rule) (part .label) ⌝ }
 {
-    let no = value_check(memory, bodies, table, top, held, range);
-    if no != 0 {
-        return no;
+    if !((part.kind <= 2) & (part.label <= 1)) {
+        return 7;
     }
-    let new = count_new(held, table[LIVE_AT], range);
-    room_check(
+    if !range_ok(cells_of(memory.len()), part.first, part.count) {
+        return 8;
+    }
+    value_check(memory, bodies, table, top, held, list, part)
+}
+
+// How many of so many new cells of one kind are copies.
+fn copies_of(kind: u32, new: usize) -> usize
+    ensures { λ r. ⌜ r ≡ copiesOf kind new ⌝ }
+{
+    if kind == 0 { new } else { 0 }
+}
+
+// The questions on each range of the list, in its order, and how many cells are newly held.
+fn ranges_check(
+    memory: &[u8],
+    bodies: &[u8],
+    table: &[u32],
+    top: usize,
+    held: &[u8],
+    list: &[u32],
+    n: usize,
+) -> Tally
+    requires { ⌜ Asking (now memory) (now bodies) (now table) top (now held) (now list) n ⌝ }
+    ensures no { λ r. ⌜ r .no ≡ listChecks (cellsOf (length (now (memory .entry)))) (now (memory .entry)) (rangesIn n (now (list .entry)))
+        (stateIn (slotsOf (length (now (table .entry)))) (now (table .entry)) (now (bodies .entry))) 0 ⌝ }
+    ensures counted { λ r. ⌜ (r .no ≡ 0 → Counted (cellsOf (length (now (memory .entry)))) (slotsOf (length (now (table .entry)))) (now (table .entry))
+        (rangesIn n (now (list .entry))) (r .new) (r .copies)) ⌝ }
+{
+    let depth = table[LIVE_AT];
+    let mut new: usize = 0;
+    let mut copies: usize = 0;
+    let mut i: usize = 0;
+    while i < n {
+        let part = part_at(list, i);
+        let no = part_check(memory, bodies, table, top, held, list, part);
+        if no != 0 {
+            return Tally {
+                no,
+                new: 0,
+                copies: 0,
+            };
+        }
+        let more = count_new(held, depth, list, part);
+        new += more;
+        copies += copies_of(part.kind, more);
+        i += 1;
+    }
+    Tally { no: 0, new, copies }
+}
+
+// Questions 16 and 17, for so many new cells and copies among them.
+fn room_check(
+    table: &[u32],
+    slots: usize,
+    top: usize,
+    bodies: usize,
+    new: usize,
+    copies: usize,
+) -> u32
+    requires { ⌜ (slots ≤ maxSlots) × (pairsAt slots ≤ length (now table)) × (new ≤ maxCells) × (copies ≤ maxCells) × EndsAt slots (now table) top ⌝ }
+    ensures { λ r. ⌜ r ≡ roomCheck slots (now (table .entry)) bodies new copies ⌝ }
+{
+    let in_use = count_used(table, slots, top);
+    if slots < in_use.entries + new {
+        return 16;
+    }
+    if bodies < in_use.copies + copies {
+        return 17;
+    }
+    0
+}
+
+// The questions on each range, and then those on room, once for the whole list.
+fn list_check(
+    memory: &[u8],
+    bodies: &[u8],
+    table: &[u32],
+    top: usize,
+    held: &[u8],
+    list: &[u32],
+    n: usize,
+) -> Tally
+    requires { ⌜ Asking (now memory) (now bodies) (now table) top (now held) (now list) n ⌝ }
+    ensures no { λ r. ⌜ r .no ≡ listChecks (cellsOf (length (now (memory .entry)))) (now (memory .entry)) (rangesIn n (now (list .entry)))
+        (stateIn (slotsOf (length (now (table .entry)))) (now (table .entry)) (now (bodies .entry)))
+        (roomCheck (slotsOf (length (now (table .entry)))) (now (table .entry)) (bodiesOf (length (now (bodies .entry))))
+        (count (cellsOf (length (now (memory .entry)))) (isNew (slotsOf (length (now (table .entry)))) (now (table .entry)) (rangesIn n (now (list .entry)))))
+        (count (cellsOf (length (now (memory .entry)))) (isNewCopy (slotsOf (length (now (table .entry)))) (now (table .entry)) (rangesIn n (now (list .entry)))))) ⌝ }
+    ensures counted { λ r. ⌜ (r .no ≡ 0 → Counted (cellsOf (length (now (memory .entry)))) (slotsOf (length (now (table .entry)))) (now (table .entry))
+        (rangesIn n (now (list .entry))) (r .new) (r .copies)) ⌝ }
+{
+    let tally = ranges_check(memory, bodies, table, top, held, list, n);
+    if tally.no != 0 {
+        return tally;
+    }
+    let no = room_check(
         table,
         slots_of(table.len()),
         top,
-        cells_of(bodies.len()),
-        new,
-        range.kind,
-    )
+        bodies_of(bodies.len()),
+        tally.new,
+        tally.copies,
+    );
+    Tally {
+        no,
+        new: tally.new,
+        copies: tally.copies,
+    }
+}
+
+// A list with this number of the first no.
+fn refused(no: u32) -> Tally
+    ensures { λ r. ⌜ r .no ≡ no ⌝ }
+{
+    Tally {
+        no,
+        new: 0,
+        copies: 0,
+    }
 }
 
 // All the questions put to add; the entries from `top` on are free. Where no question refuses it, the marks are those of all entries.
@@ -546,236 +710,46 @@ fn add_check(
     seen: &mut [u8],
     used: &mut [u8],
     handle: u32,
-    range: Range,
-) -> u32
-    requires { ⌜ RoomForMarks (now table) (cellsOf (length (now memory))) top (now seen) (now used) ⌝ }
-    ensures no { λ r. ⌜ r ≡ addCheck (buffers (now (memory .entry)) (now (bodies .entry)) (now (table .entry))) handle
-        (range .first) (range .count) (range .kind) (range .rule) (range .label) ⌝ }
-    ensures marks { λ r. ⌜ (r ≡ 0 → AllMarked (slotsOf (length (now (table .entry)))) (now (table .entry)) (now (seen .exit)) (now (used .exit))) ⌝ }
+    list: &[u32],
+    n: usize,
+) -> Tally
+    requires { ⌜ RoomForMarks (now table) (cellsOf (length (now memory))) top (now seen) (now used) × Given n (now list) ⌝ }
+    ensures no { λ r. ⌜ r .no ≡ addCheck (buffers (now (memory .entry)) (now (bodies .entry)) (now (table .entry))) handle (rangesIn n (now (list .entry))) ⌝ }
+    ensures marks { λ r. ⌜ (r .no ≡ 0 → AllMarked (slotsOf (length (now (table .entry)))) (now (table .entry)) (now (seen .exit)) (now (used .exit))) ⌝ }
+    ensures counted { λ r. ⌜ (r .no ≡ 0 → Counted (cellsOf (length (now (memory .entry)))) (slotsOf (length (now (table .entry)))) (now (table .entry))
+        (rangesIn n (now (list .entry))) (r .new) (r .copies)) ⌝ }
 {
     let no = store_check(memory.len(), bodies.len(), table, top, seen, used);
     if no != 0 {
-        return no;
+        return refused(no);
     }
-    let out = range_check(table, cells_of(memory.len()), handle, range);
+    let out = innermost_check(table, handle);
     if out != 0 {
-        return out;
+        return refused(out);
     }
-    held_check(memory, bodies, table, top, seen, range)
+    if (n < 1) | (MAX_RANGES < n) {
+        return refused(20);
+    }
+    list_check(memory, bodies, table, top, seen, list, n)
 }
 
-// ---- the bytes
+// ---- the bytes and words
 
-// One cell: where it is new it is copied into the lowest body from `from` on that has no mark. Returns where to look for the next.
-fn copy_one(
-    memory: &[u8],
-    cell: usize,
-    bodies: &mut [u8],
-    held: &[u8],
-    depth: u32,
-    used: &[u8],
-    from: usize,
-    budget: usize,
-) -> usize
-    requires { ⌜ (cell < cellsIn (now held)) × (depth ≤ maxLive) × (cellAt cell + cellSize ≤ length (now memory))
-        × (from ≤ bodiesOf (length (now bodies))) × (bodiesOf (length (now bodies)) ≤ length (now used)) ⌝ }
-    requires { ⌜ (lacks (now held) depth cell ≡ true → unmarkedFrom (bodiesOf (length (now bodies))) (now used) from < bodiesOf (length (now bodies))) ⌝ }
-    ensures bytes { λ _. ⌜ now (bodies .exit) ≡ stores (take budget (cond (lacks (now (held .entry)) depth cell)
-        (cellPlan (now (memory .entry)) cell (unmarkedFrom (bodiesOf (length (now (bodies .entry)))) (now (used .entry)) from)) [])) (now (bodies .entry)) ⌝ }
-    ensures next { λ r. ⌜ r ≡ cond (lacks (now (held .entry)) depth cell)
-        (unmarkedFrom (bodiesOf (length (now (bodies .entry)))) (now (used .entry)) from + 1) from ⌝ }
-{
-    if !is_new(held, depth, cell) {
-        return from;
-    }
-    let body = next_free_body(used, cells_of(bodies.len()), from);
-    copy_cell(memory, cell, bodies, body, budget);
-    body + 1
-}
-
-// The bytes of the new copies, rising by cell, into the free bodies from `start` on; none for other kinds. Returns how many they are, uncut.
-fn copy_new(
-    memory: &[u8],
-    bodies: &mut [u8],
-    held: &[u8],
-    depth: u32,
-    used: &[u8],
-    range: Range,
-    start: usize,
-    budget: usize,
-) -> usize
-    requires { ⌜ (range .first + range .count ≤ cellsIn (now held)) × (depth ≤ maxLive) × (range .first + range .count ≤ maxCells)
-        × (cellAt (range .first + range .count) ≤ length (now memory)) × (bodiesOf (length (now bodies)) ≤ length (now used)) ⌝ }
-    requires { ⌜ (range .kind ≡ 0 → newIn (now held) depth range ≤ count (bodiesOf (length (now bodies))) (unmarked (now used))) ⌝ }
-    requires { ⌜ (range .kind ≡ 0 → NoneBelow (now used) (bodiesOf (length (now bodies))) start) ⌝ }
-    ensures bytes { λ _. ⌜ now (bodies .exit) ≡ stores (take budget (copyBytes (bodiesOf (length (now (bodies .entry)))) (now (memory .entry))
-        (now (held .entry)) (now (used .entry)) depth (range .first) (range .count) (range .kind))) (now (bodies .entry)) ⌝ }
-    ensures steps { λ r. ⌜ (r ≡ length (copyBytes (bodiesOf (length (now (bodies .entry)))) (now (memory .entry))
-        (now (held .entry)) (now (used .entry)) depth (range .first) (range .count) (range .kind))) × (r ≤ cellSize * range .count) ⌝ }
-{
-    if range.kind != 0 {
-        return 0;
-    }
-    let mut made: usize = 0;
-    let mut from = start;
-    let mut j: usize = 0;
-    while j < range.count {
-        let cell = range.first + j;
-        from = copy_one(
-            memory,
-            cell,
-            bodies,
-            held,
-            depth,
-            used,
-            from,
-            remaining(budget, made),
-        );
-        made += CELL_SIZE * new_here(held, depth, cell);
-        j += 1;
-    }
-    made
-}
-
-// ---- the words
-
-// Where the walk over the entries stands: the cell of the range and the body to go on from.
+// Where taking stands: the cell, of a rising list how many ranges lie before it, the entry slot and the body to go on from, and how many bytes
+// there were.
 pub struct Cursors {
     pub at: usize,
-    pub from: usize,
+    pub next: usize,
+    pub slot: usize,
+    pub body: usize,
+    pub made: usize,
 }
 
-// The lowest new cell of the range, from its `at`-th on, or their number.
-fn next_new(held: &[u8], depth: u32, range: Range, at: usize) -> usize
-    requires { ⌜ (range .first + range .count ≤ cellsIn (now held)) × (depth ≤ maxLive) × (at ≤ range .count) ⌝ }
-    ensures { λ r. ⌜ r ≡ nextUnheld (now (held .entry)) depth (range .first) (range .count) at ⌝ }
+// The lowest free entry slot from `from` on, or `slots`.
+fn next_free_slot(table: &[u32], slots: usize, from: usize) -> usize
+    requires { ⌜ (slots ≤ maxSlots) × (pairsAt slots ≤ length (now table)) × (from ≤ slots) ⌝ }
+    ensures { λ r. ⌜ r ≡ freeFrom slots (now (table .entry)) from ⌝ }
 {
-    let mut j = at;
-    while j < range.count {
-        if is_new(held, depth, range.first + j) {
-            return j;
-        }
-        j += 1;
-    }
-    j
-}
-
-// The body of a new entry: the lowest without a mark from `from` on; other kinds have none, which is 0.
-fn take_body(used: &[u8], bodies: usize, kind: u32, from: usize) -> usize
-    requires { ⌜ (kind ≡ 0 → (bodies ≤ length (now used)) × (from ≤ bodies)) ⌝ }
-    ensures { λ r. ⌜ r ≡ bodyBeyond (now (used .entry)) bodies kind from ⌝ }
-{
-    if kind != 0 {
-        return 0;
-    }
-    next_free_body(used, bodies, from)
-}
-
-// Does the label of an entry with this first word rise: of the innermost domain, in the range, and read-only under a read-write label?
-fn is_raised(word: u32, depth: u32, range: Range) -> bool
-    requires { ⌜ range .first + range .count ≤ maxCells ⌝ }
-    ensures { λ r. ⌜ r ≡ rises depth (range .first) (range .count) (range .label) word ⌝ }
-{
-    let cell = cell_of(word);
-    (depth_of(word) == depth)
-        & (((range.first <= cell) & (cell < range.first + range.count))
-            & ((range.label == 1) & (writable_of(word) == 0)))
-}
-
-// An entry in use becomes read-write where its label rises.
-fn raise_entry(
-    table: &[u32],
-    slots: usize,
-    i: usize,
-    depth: u32,
-    range: Range,
-    words: &mut [u32],
-    changed: &mut [u64],
-)
-    requires { ⌜ (i < slots) × (slots ≤ maxSlots) × (pairsAt slots ≤ length (now table)) × (range .first + range .count ≤ maxCells) ⌝ }
-    requires { ⌜ RoomFor (i + 1) (now words) (now changed) ⌝ }
-    ensures { λ _. ⌜ StagesOn i (raiseChange depth (range .first) (range .count) (range .label) (word1 slots (now (table .entry)) i) (word2 slots (now (table .entry)) i))
-        (now (words .entry)) (now (changed .entry)) (now (words .exit)) (now (changed .exit)) ⌝ }
-{
-    let word = first_word(table, slots, i);
-    if !is_raised(word, depth, range) {
-        return;
-    }
-    let raised = raise(word);
-    let body = second_word(table, slots, i);
-    stage_entry(words, changed, i, raised, body);
-}
-
-// One entry of the walk: an entry in use, or a free slot, which takes the next new cell while there is one.
-fn pass_entry(
-    table: &[u32],
-    slots: usize,
-    i: usize,
-    held: &[u8],
-    used: &[u8],
-    bodies: usize,
-    range: Range,
-    walk: Cursors,
-    words: &mut [u32],
-    changed: &mut [u64],
-) -> Cursors
-    requires { ⌜ (i < slots) × RoomFor (i + 1) (now words) (now changed) ⌝ }
-    requires { ⌜ Walkable (now held) (now used) slots bodies (now table) range ⌝ }
-    requires { ⌜ Walked (now held) (now used) slots bodies (now table) range i walk (now words) (now changed) ⌝ }
-    ensures { λ r. ⌜ Walked (now (held .entry)) (now (used .entry)) slots bodies (now (table .entry)) range (i + 1) r
-        (now (words .exit)) (now (changed .exit)) ⌝ }
-{
-    let depth = table[LIVE_AT];
-    if first_word(table, slots, i) != 0 {
-        raise_entry(table, slots, i, depth, range, words, changed);
-        return walk;
-    }
-    let at = next_new(held, depth, range, walk.at);
-    if range.count <= at {
-        return Cursors {
-            at: range.count,
-            from: walk.from,
-        };
-    }
-    let body = take_body(used, bodies, range.kind, walk.from);
-    let cell = (range.first + at) as u32;
-    let word = entry_word(depth, range.kind, range.label, cell);
-    let second = second_of(range.kind, range.rule, body as u32);
-    stage_entry(words, changed, i, word, second);
-    Cursors {
-        at: at + 1,
-        from: body + 1,
-    }
-}
-
-// Can no label rise: is the label read-only, or every cell of the range new?
-fn none_rises(held: &[u8], depth: u32, range: Range) -> bool
-    requires { ⌜ (range .first + range .count ≤ cellsIn (now held)) × (depth ≤ maxLive) ⌝ }
-    ensures { λ r. ⌜ r ≡ (eqb (range .label) 0 || eqb (newIn (now (held .entry)) depth range) (range .count)) ⌝ }
-{
-    (range.label == 0) | (count_new(held, depth, range) == range.count)
-}
-
-// The first entry from `from` on that may change, or `slots`: where no label rises these are the free slots. Once every new cell is taken none of
-// these changes any more, nor any from `top` on, where all are free.
-fn next_change(
-    table: &[u32],
-    slots: usize,
-    top: usize,
-    from: usize,
-    still: bool,
-    taken: bool,
-) -> usize
-    requires { ⌜ (slots ≤ maxSlots) × (pairsAt slots ≤ length (now table)) × (from ≤ slots) × EndsAt slots (now table) top ⌝ }
-    ensures skips { λ r. ⌜ Skips slots (now (table .entry)) still taken from r ⌝ }
-    ensures ends { λ r. ⌜ (taken ≡ true → r < slots → r < top) ⌝ }
-{
-    if taken & (still | (top <= from)) {
-        return slots;
-    }
-    if !still {
-        return from;
-    }
     let mut i = from;
     while i < slots {
         if first_word(table, slots, i) == 0 {
@@ -786,108 +760,449 @@ fn next_change(
     i
 }
 
-// Stages every entry that a range takes or raises. The bodies are looked for from `start` on.
-fn stage_range(
+// The body of a new entry: the lowest without a mark from `from` on; for other kinds than copies the place stays.
+fn take_body(used: &[u8], bodies: usize, kind: u32, from: usize) -> usize
+    requires { ⌜ (bodies ≤ length (now used)) × (from ≤ bodies) ⌝ }
+    ensures { λ r. ⌜ r ≡ bodyBeyond (now (used .entry)) bodies kind from ⌝ }
+{
+    if kind != 0 {
+        return from;
+    }
+    next_free_body(used, bodies, from)
+}
+
+// The bytes of a new copy go into its body; of other kinds there are none.
+fn copy_taken(memory: &[u8], cell: usize, bodies: &mut [u8], body: usize, kind: u32, budget: usize)
+    requires { ⌜ (cellAt cell + cellSize ≤ length (now memory)) × (kind ≡ 0 → cellAt body + cellSize ≤ length (now bodies)) ⌝ }
+    ensures { λ _. ⌜ now (bodies .exit) ≡ stores (take budget (cond (eqb kind 0) (cellPlan (now (memory .entry)) cell body) [])) (now (bodies .entry)) ⌝ }
+{
+    if kind == 0 {
+        copy_cell(memory, cell, bodies, body, budget);
+    }
+}
+
+// Where taking stands behind a new cell of this kind, which has this slot and body.
+fn beyond(walk: Cursors, kind: u32, slot: usize, body: usize) -> Cursors
+    requires { ⌜ (walk .at < maxCells) × (slot ≤ maxSlots) × (body ≤ maxBodies) × (walk .made ≤ cellSize * (walk .at)) ⌝ }
+    ensures { λ r. ⌜ (r .at ≡ walk .at + 1) × (r .next ≡ walk .next) × (r .slot ≡ slot + 1)
+        × (r .body ≡ cond (eqb kind 0) (body + 1) body) × (r .made ≡ walk .made + cond (eqb kind 0) cellSize 0) ⌝ }
+{
+    if kind == 0 {
+        return Cursors {
+            at: walk.at + 1,
+            next: walk.next,
+            slot: slot + 1,
+            body: body + 1,
+            made: walk.made + CELL_SIZE,
+        };
+    }
+    Cursors {
+        at: walk.at + 1,
+        next: walk.next,
+        slot: slot + 1,
+        body,
+        made: walk.made,
+    }
+}
+
+// A new cell of a part of the list takes the next free slot and, as a copy, the next free body, into which its bytes go.
+fn take_new(
+    memory: &[u8],
+    bodies: &mut [u8],
+    table: &[u32],
+    slots: usize,
+    used: &[u8],
+    asked: Segment,
+    walk: Cursors,
+    words: &mut [u32],
+    changed: &mut [u64],
+    budget: usize,
+) -> Cursors
+    requires small { ⌜ (slots ≤ maxSlots) × (pairsAt slots ≤ length (now table)) × (live (now table) ≤ maxLive) × (asked .label ≤ 1) ⌝ }
+    requires cell { ⌜ (walk .at < maxCells) × (cellAt (walk .at) + cellSize ≤ length (now memory)) × (walk .made ≤ cellSize * (walk .at)) ⌝ }
+    requires places { ⌜ (walk .slot ≤ slots) × (walk .body ≤ bodiesOf (length (now bodies))) × (bodiesOf (length (now bodies)) ≤ maxBodies)
+        × (length (now used) ≡ maxBodies) ⌝ }
+    requires room { ⌜ RoomForCell slots (bodiesOf (length (now bodies))) (now table) (now used) (asked .kind) walk (now words) (now changed) ⌝ }
+    ensures next { λ r. ⌜ r ≡ tookCell slots (bodiesOf (length (now (bodies .entry)))) (now (table .entry)) (now (used .entry)) (asked .kind) walk ⌝ }
+    ensures bytes { λ _. ⌜ now (bodies .exit) ≡ stores (take (budget - walk .made)
+        (cellBytesOf (bodiesOf (length (now (bodies .entry)))) (now (memory .entry)) (now (used .entry)) (asked .kind) walk)) (now (bodies .entry)) ⌝ }
+    ensures staged { λ _. ⌜ TookEntry true slots (bodiesOf (length (now (bodies .entry)))) (now (table .entry)) (now (used .entry)) asked walk
+        (now (words .entry)) (now (changed .entry)) (now (words .exit)) (now (changed .exit)) ⌝ }
+{
+    let slot = next_free_slot(table, slots, walk.slot);
+    let body = take_body(used, bodies_of(bodies.len()), asked.kind, walk.body);
+    copy_taken(
+        memory,
+        walk.at,
+        bodies,
+        body,
+        asked.kind,
+        remaining(budget, walk.made),
+    );
+    let word = entry_word(table[LIVE_AT], asked.kind, asked.label, walk.at as u32);
+    let second = second_of(asked.kind, asked.rule, body as u32);
+    stage_entry(words, changed, slot, word, second);
+    beyond(walk, asked.kind, slot, body)
+}
+
+// One cell of a part of the list; one that is held is passed over.
+fn take_cell(
+    memory: &[u8],
+    bodies: &mut [u8],
+    table: &[u32],
+    slots: usize,
+    held: &[u8],
+    used: &[u8],
+    asked: Segment,
+    walk: Cursors,
+    words: &mut [u32],
+    changed: &mut [u64],
+    budget: usize,
+) -> Cursors
+    requires small { ⌜ (slots ≤ maxSlots) × (pairsAt slots ≤ length (now table)) × (live (now table) ≤ maxLive) × (asked .label ≤ 1) ⌝ }
+    requires cell { ⌜ (walk .at < maxCells) × (cellAt (walk .at) + cellSize ≤ length (now memory)) × (walk .made ≤ cellSize * (walk .at)) ⌝ }
+    requires places { ⌜ (walk .slot ≤ slots) × (walk .body ≤ bodiesOf (length (now bodies))) × (bodiesOf (length (now bodies)) ≤ maxBodies)
+        × (length (now used) ≡ maxBodies) ⌝ }
+    requires marks { ⌜ maxCells ≤ cellsIn (now held) ⌝ }
+    requires room { ⌜ (lacks (now held) (live (now table)) (walk .at) ≡ true
+        → RoomForCell slots (bodiesOf (length (now bodies))) (now table) (now used) (asked .kind) walk (now words) (now changed)) ⌝ }
+    ensures next { λ r. ⌜ r ≡ cond (lacks (now (held .entry)) (live (now (table .entry))) (walk .at))
+        (tookCell slots (bodiesOf (length (now (bodies .entry)))) (now (table .entry)) (now (used .entry)) (asked .kind) walk) (passedCell walk) ⌝ }
+    ensures bytes { λ _. ⌜ now (bodies .exit) ≡ stores (take (budget - walk .made) (cond (lacks (now (held .entry)) (live (now (table .entry))) (walk .at))
+        (cellBytesOf (bodiesOf (length (now (bodies .entry)))) (now (memory .entry)) (now (used .entry)) (asked .kind) walk) [])) (now (bodies .entry)) ⌝ }
+    ensures staged { λ _. ⌜ TookEntry (lacks (now (held .entry)) (live (now (table .entry))) (walk .at)) slots (bodiesOf (length (now (bodies .entry))))
+        (now (table .entry)) (now (used .entry)) asked walk (now (words .entry)) (now (changed .entry)) (now (words .exit)) (now (changed .exit)) ⌝ }
+{
+    if !is_lacking(held, table[LIVE_AT], walk.at) {
+        return Cursors {
+            at: walk.at + 1,
+            next: walk.next,
+            slot: walk.slot,
+            body: walk.body,
+            made: walk.made,
+        };
+    }
+    take_new(
+        memory,
+        bodies,
+        table,
+        slots,
+        used,
+        asked,
+        walk,
+        words,
+        changed,
+        budget,
+    )
+}
+
+// The next part of the list, in the order of the cells.
+fn take_part(
+    memory: &[u8],
+    bodies: &mut [u8],
+    table: &[u32],
+    slots: usize,
+    held: &[u8],
+    used: &[u8],
+    list: &[u32],
+    n: usize,
+    rising: bool,
+    walk: Cursors,
+    words: &mut [u32],
+    changed: &mut [u64],
+    budget: usize,
+) -> Cursors
+    requires able { ⌜ Takeable (now memory) (now bodies) (now table) (now held) (now used) (rangesIn n (now list)) ⌝ }
+    requires room { ⌜ RoomToTake (now memory) (now table) (rangesIn n (now list)) (now words) (now changed) ⌝ }
+    requires stands { ⌜ Standing (now memory) (now bodies) (now table) (rangesIn n (now list)) walk (now words) (now changed) ⌝ }
+    requires list { ⌜ (slots ≡ slotsOf (length (now table))) × (walk .at < cellsOf (length (now memory))) × Listed n (now list)
+        × Within (cellsOf (length (now memory))) n (now list) × NoneEmpty n (now list) × (rising ≡ true → Rising n (now list)) × Passed n (now list) rising (walk .next) (walk .at) ⌝ }
+    ensures stands { λ r. ⌜ Standing (now (memory .entry)) (now (bodies .entry)) (now (table .entry)) (rangesIn n (now (list .entry))) r (now (words .exit)) (now (changed .exit)) ⌝ }
+    ensures copied { λ r. ⌜ Copied (now (memory .entry)) (now (table .entry)) (rangesIn n (now (list .entry))) budget walk r (now (bodies .entry)) (now (bodies .exit)) ⌝ }
+    ensures moved { λ r. ⌜ (walk .at < r .at) × (r .at < cellsOf (length (now (memory .entry))) → Passed n (now (list .entry)) rising (r .next) (r .at)) ⌝ }
+{
+    let part = next_segment(list, n, rising, walk.next, walk.at, cells_of(memory.len()));
+    let mut w = Cursors {
+        at: part.at,
+        next: part.next,
+        slot: walk.slot,
+        body: walk.body,
+        made: walk.made,
+    };
+    while w.at < part.end {
+        w = take_cell(
+            memory,
+            bodies,
+            table,
+            slots,
+            held,
+            used,
+            part,
+            w,
+            words,
+            changed,
+            budget,
+        );
+    }
+    w
+}
+
+// All the new cells of the list. Returns how many bytes there are, uncut.
+fn take_cells(
+    memory: &[u8],
+    bodies: &mut [u8],
+    table: &[u32],
+    slots: usize,
+    held: &[u8],
+    used: &[u8],
+    list: &[u32],
+    n: usize,
+    words: &mut [u32],
+    changed: &mut [u64],
+    budget: usize,
+) -> usize
+    requires able { ⌜ Takeable (now memory) (now bodies) (now table) (now held) (now used) (rangesIn n (now list)) ⌝ }
+    requires room { ⌜ RoomToTake (now memory) (now table) (rangesIn n (now list)) (now words) (now changed) ⌝ }
+    requires list { ⌜ (slots ≡ slotsOf (length (now table))) × Listed n (now list) × Within (cellsOf (length (now memory))) n (now list) × NoneEmpty n (now list) ⌝ }
+    requires blank { ⌜ ((f : ℕ → Change) → Stages 0 f (now words) (now changed)) ⌝ }
+    ensures staged { λ _. ⌜ Stages slots (listChange (cellsOf (length (now (memory .entry)))) slots (bodiesOf (length (now (bodies .entry)))) (now (table .entry))
+        (rangesIn n (now (list .entry))) 0) (now (words .exit)) (now (changed .exit)) ⌝ }
+    ensures bytes { λ _. ⌜ now (bodies .exit)
+        ≡ stores (take budget (bytesOf (now (memory .entry)) (now (bodies .entry)) (now (table .entry)) (rangesIn n (now (list .entry))))) (now (bodies .entry)) ⌝ }
+    ensures steps { λ r. ⌜ (r ≡ length (bytesOf (now (memory .entry)) (now (bodies .entry)) (now (table .entry)) (rangesIn n (now (list .entry)))))
+        × (r ≤ cellSize * cellsOf (length (now (memory .entry)))) ⌝ }
+{
+    let rising = is_rising(list, n);
+    let cells = cells_of(memory.len());
+    let mut walk = Cursors {
+        at: 0,
+        next: 0,
+        slot: 0,
+        body: 0,
+        made: 0,
+    };
+    while walk.at < cells {
+        walk = take_part(
+            memory,
+            bodies,
+            table,
+            slots,
+            held,
+            used,
+            list,
+            n,
+            rising,
+            walk,
+            words,
+            changed,
+            budget,
+        );
+    }
+    walk.made
+}
+
+// ---- the labels
+
+// Is none of these cells held at this depth?
+fn range_lacks(held: &[u8], depth: u32, first: usize, count: usize) -> bool
+    requires { ⌜ (first + count ≤ cellsIn (now held)) × (depth ≤ maxLive) ⌝ }
+    ensures { λ r. ⌜ r ≡ all count (λ j. lacks (now (held .entry)) depth (first + j)) ⌝ }
+{
+    let mut j: usize = 0;
+    while j < count {
+        if !is_lacking(held, depth, first + j) {
+            return false;
+        }
+        j += 1;
+    }
+    true
+}
+
+// Is the i-th range read-only, or none of its cells held?
+fn is_still(held: &[u8], depth: u32, list: &[u32], i: usize) -> bool
+    requires { ⌜ (depth ≤ maxLive) × Listed (i + 1) (now list) × (rangeAt (now list) i .first + rangeAt (now list) i .count ≤ cellsIn (now held)) ⌝ }
+    ensures { λ r. ⌜ r ≡ (not (eqb (rangeAt (now (list .entry)) i .label) 1)
+        || all (rangeAt (now (list .entry)) i .count) (λ j. lacks (now (held .entry)) depth (rangeAt (now (list .entry)) i .first + j))) ⌝ }
+{
+    if label_at(list, i) != 1 {
+        return true;
+    }
+    range_lacks(held, depth, first_at(list, i), count_at(list, i))
+}
+
+// Is no cell held of any read-write range? Then no label rises.
+fn none_rises(held: &[u8], depth: u32, list: &[u32], n: usize) -> bool
+    requires { ⌜ (maxCells ≤ cellsIn (now held)) × (depth ≤ maxLive) × Listed n (now list) × Within maxCells n (now list) ⌝ }
+    ensures { λ r. ⌜ (r ≡ true → (c : ℕ) → labelFor (rangesIn n (now (list .entry))) c ≡ 1 → lacks (now (held .entry)) depth c ≡ true) ⌝ }
+{
+    let mut i: usize = 0;
+    while i < n {
+        if !is_still(held, depth, list, i) {
+            return false;
+        }
+        i += 1;
+    }
+    true
+}
+
+// Does the label of an entry with this first word rise: of the innermost domain, read-only, and named by a read-write range?
+fn is_raised(word: u32, depth: u32, list: &[u32], n: usize) -> bool
+    requires { ⌜ Listed n (now list) ⌝ }
+    ensures { λ r. ⌜ r ≡ rises depth (rangesIn n (now (list .entry))) word ⌝ }
+{
+    if depth_of(word) != depth {
+        return false;
+    }
+    if writable_of(word) != 0 {
+        return false;
+    }
+    label_for(list, n, cell_of(word)) == 1
+}
+
+// An entry in use becomes read-write where its label rises.
+fn raise_entry(
+    table: &[u32],
+    slots: usize,
+    i: usize,
+    depth: u32,
+    list: &[u32],
+    n: usize,
+    words: &mut [u32],
+    changed: &mut [u64],
+)
+    requires { ⌜ (i < slots) × (slots ≤ maxSlots) × (pairsAt slots ≤ length (now table)) × Listed n (now list) × RoomFor (i + 1) (now words) (now changed) ⌝ }
+    ensures { λ _. ⌜ Restages i (raiseChange depth (rangesIn n (now (list .entry))) (word1 slots (now (table .entry)) i) (word2 slots (now (table .entry)) i))
+        (now (words .entry)) (now (changed .entry)) (now (words .exit)) (now (changed .exit)) ⌝ }
+{
+    let word = first_word(table, slots, i);
+    if !is_raised(word, depth, list, n) {
+        return;
+    }
+    let raised = raise(word);
+    let body = second_word(table, slots, i);
+    stage_entry(words, changed, i, raised, body);
+}
+
+// Stages the entries whose label rises, behind the new ones. A free entry's does not.
+fn raise_entries(
     table: &[u32],
     slots: usize,
     top: usize,
     held: &[u8],
-    used: &[u8],
-    bodies: usize,
-    range: Range,
-    start: usize,
+    list: &[u32],
+    n: usize,
     words: &mut [u32],
     changed: &mut [u64],
 )
-    requires room { ⌜ RoomFor (endOf slots range top) (now words) (now changed) ⌝ }
-    requires able { ⌜ Stageable (now held) (now used) slots bodies (now table) range start top ⌝ }
-    requires blank { ⌜ Stages 0 (listChange (now held) (now used) slots bodies (now table) range) (now words) (now changed) ⌝ }
-    ensures { λ _. ⌜ Stages slots (listChange (now (held .entry)) (now (used .entry)) slots bodies (now (table .entry)) range)
-        (now (words .exit)) (now (changed .exit)) ⌝ }
+    requires table { ⌜ (slots ≤ maxSlots) × (pairsAt slots ≤ length (now table)) × (1 ≤ live (now table)) × (live (now table) ≤ maxLive) × EndsAt slots (now table) top ⌝ }
+    requires marks { ⌜ (maxCells ≤ cellsIn (now held)) × Marked slots (now table) slots (now held) ⌝ }
+    requires list { ⌜ Listed n (now list) × Within maxCells n (now list) × RoomFor top (now words) (now changed) ⌝ }
+    ensures { λ _. ⌜ Lifts slots (now (table .entry)) (rangesIn n (now (list .entry))) (now (words .entry)) (now (changed .entry)) (now (words .exit)) (now (changed .exit)) ⌝ }
 {
     let depth = table[LIVE_AT];
-    let still = none_rises(held, depth, range);
-    let mut walk = Cursors { at: 0, from: start };
-    let mut i = next_change(table, slots, top, 0, still, false);
-    while i < slots {
-        walk = pass_entry(
-            table,
-            slots,
-            i,
-            held,
-            used,
-            bodies,
-            range,
-            walk,
-            words,
-            changed,
-        );
-        i = next_change(table, slots, top, i + 1, still, range.count <= walk.at);
+    if none_rises(held, depth, list, n) {
+        return;
+    }
+    let mut i: usize = 0;
+    while i < top {
+        raise_entry(table, slots, i, depth, list, n, words, changed);
+        i += 1;
     }
 }
 
-// Stages a range in arrays lent for it in which nothing is staged yet, and writes what is staged. Gives the steps uncut.
-fn write_range(
+// ---- the call
+
+// Takes the new cells of the list and raises labels in arrays lent for it, in which nothing is staged yet, and writes what is staged. Returns the
+// steps, uncut.
+fn write_list(
+    memory: &[u8],
+    bodies: &mut [u8],
     table: &mut [u32],
-    slots: usize,
     top: usize,
     held: &[u8],
     used: &[u8],
-    bodies: usize,
-    range: Range,
-    start: usize,
+    list: &[u32],
+    n: usize,
     words: &mut [u32],
     changed: &mut [u64],
     budget: usize,
 ) -> usize
-    requires room { ⌜ RoomFor (endOf slots range top) (now words) (now changed) ⌝ }
-    requires able { ⌜ Stageable (now held) (now used) slots bodies (now table) range start top ⌝ }
-    requires blank { ⌜ Stages 0 (listChange (now held) (now used) slots bodies (now table) range) (now words) (now changed) ⌝ }
-    ensures { λ r. ⌜ Journaled slots (rangeWords (now (held .entry)) (now (used .entry)) slots bodies (now (table .entry)) range) budget
-        (now (table .entry)) r (now (table .exit)) ⌝ }
+    requires able { ⌜ Takeable (now memory) (now bodies) (now table) (now held) (now used) (rangesIn n (now list)) ⌝ }
+    requires list { ⌜ Listed n (now list) × Within (cellsOf (length (now memory))) n (now list) × NoneEmpty n (now list) ⌝ }
+    requires room { ⌜ EndsAt (slotsOf (length (now table))) (now table) top × RoomFor (endOf (slotsOf (length (now table)))
+        (count (cellsOf (length (now memory))) (isNew (slotsOf (length (now table))) (now table) (rangesIn n (now list)))) top) (now words) (now changed) ⌝ }
+    requires blank { ⌜ ((f : ℕ → Change) → Stages 0 f (now words) (now changed)) ⌝ }
+    ensures steps { λ r. ⌜ r ≡ stepsOf (length (bytesOf (now (memory .entry)) (now (bodies .entry)) (now (table .entry)) (rangesIn n (now (list .entry)))))
+        (length (wordsOf (now (memory .entry)) (now (bodies .entry)) (now (table .entry)) (rangesIn n (now (list .entry))))) ⌝ }
+    ensures bytes { λ _. ⌜ now (bodies .exit)
+        ≡ stores (take budget (bytesOf (now (memory .entry)) (now (bodies .entry)) (now (table .entry)) (rangesIn n (now (list .entry))))) (now (bodies .entry)) ⌝ }
+    ensures words { λ _. ⌜ now (table .exit)
+        ≡ stores (take (budget - length (bytesOf (now (memory .entry)) (now (bodies .entry)) (now (table .entry)) (rangesIn n (now (list .entry)))))
+        (journal (pairsAt (slotsOf (length (now (table .entry)))))
+        (wordsOf (now (memory .entry)) (now (bodies .entry)) (now (table .entry)) (rangesIn n (now (list .entry)))))) (now (table .entry)) ⌝ }
 {
-    stage_range(
+    let slots = slots_of(table.len());
+    let bytes = take_cells(
+        memory,
+        bodies,
         table,
         slots,
-        top,
         held,
         used,
-        bodies,
-        range,
-        start,
+        list,
+        n,
         words,
         changed,
+        budget,
     );
-    write_staged(table, slots, no_head(), words, changed, budget)
+    raise_entries(table, slots, top, held, list, n, words, changed);
+    bytes
+        + write_staged(
+            table,
+            slots,
+            no_head(),
+            words,
+            changed,
+            remaining(budget, bytes),
+        )
 }
 
 // The same with arrays for few entries, where none behind them may change.
 fn write_few(
+    memory: &[u8],
+    bodies: &mut [u8],
     table: &mut [u32],
-    slots: usize,
     top: usize,
     held: &[u8],
     used: &[u8],
-    bodies: usize,
-    range: Range,
-    start: usize,
+    list: &[u32],
+    n: usize,
     budget: usize,
 ) -> usize
-    requires { ⌜ (endOf slots range top ≤ 256) × Stageable (now held) (now used) slots bodies (now table) range start top ⌝ }
-    ensures { λ r. ⌜ Journaled slots (rangeWords (now (held .entry)) (now (used .entry)) slots bodies (now (table .entry)) range) budget
-        (now (table .entry)) r (now (table .exit)) ⌝ }
+    requires able { ⌜ Takeable (now memory) (now bodies) (now table) (now held) (now used) (rangesIn n (now list)) ⌝ }
+    requires list { ⌜ Listed n (now list) × Within (cellsOf (length (now memory))) n (now list) × NoneEmpty n (now list) ⌝ }
+    requires room { ⌜ EndsAt (slotsOf (length (now table))) (now table) top × (endOf (slotsOf (length (now table)))
+        (count (cellsOf (length (now memory))) (isNew (slotsOf (length (now table))) (now table) (rangesIn n (now list)))) top ≤ 256) ⌝ }
+    ensures steps { λ r. ⌜ r ≡ stepsOf (length (bytesOf (now (memory .entry)) (now (bodies .entry)) (now (table .entry)) (rangesIn n (now (list .entry)))))
+        (length (wordsOf (now (memory .entry)) (now (bodies .entry)) (now (table .entry)) (rangesIn n (now (list .entry))))) ⌝ }
+    ensures bytes { λ _. ⌜ now (bodies .exit)
+        ≡ stores (take budget (bytesOf (now (memory .entry)) (now (bodies .entry)) (now (table .entry)) (rangesIn n (now (list .entry))))) (now (bodies .entry)) ⌝ }
+    ensures words { λ _. ⌜ now (table .exit)
+        ≡ stores (take (budget - length (bytesOf (now (memory .entry)) (now (bodies .entry)) (now (table .entry)) (rangesIn n (now (list .entry)))))
+        (journal (pairsAt (slotsOf (length (now (table .entry)))))
+        (wordsOf (now (memory .entry)) (now (bodies .entry)) (now (table .entry)) (rangesIn n (now (list .entry)))))) (now (table .entry)) ⌝ }
 {
     let mut words = few_words();
     let mut changed = few_bits();
-    write_range(
+    write_list(
+        memory,
+        bodies,
         table,
-        slots,
         top,
         held,
         used,
-        bodies,
-        range,
-        start,
+        list,
+        n,
         &mut words,
         &mut changed,
         budget,
@@ -896,63 +1211,46 @@ fn write_few(
 
 // The same with arrays for any table.
 fn write_many(
+    memory: &[u8],
+    bodies: &mut [u8],
     table: &mut [u32],
-    slots: usize,
     top: usize,
     held: &[u8],
     used: &[u8],
-    bodies: usize,
-    range: Range,
-    start: usize,
+    list: &[u32],
+    n: usize,
     budget: usize,
 ) -> usize
-    requires { ⌜ Stageable (now held) (now used) slots bodies (now table) range start top ⌝ }
-    ensures { λ r. ⌜ Journaled slots (rangeWords (now (held .entry)) (now (used .entry)) slots bodies (now (table .entry)) range) budget
-        (now (table .entry)) r (now (table .exit)) ⌝ }
+    requires able { ⌜ Takeable (now memory) (now bodies) (now table) (now held) (now used) (rangesIn n (now list)) ⌝ }
+    requires list { ⌜ Listed n (now list) × Within (cellsOf (length (now memory))) n (now list) × NoneEmpty n (now list) ⌝ }
+    requires room { ⌜ EndsAt (slotsOf (length (now table))) (now table) top ⌝ }
+    ensures steps { λ r. ⌜ r ≡ stepsOf (length (bytesOf (now (memory .entry)) (now (bodies .entry)) (now (table .entry)) (rangesIn n (now (list .entry)))))
+        (length (wordsOf (now (memory .entry)) (now (bodies .entry)) (now (table .entry)) (rangesIn n (now (list .entry))))) ⌝ }
+    ensures bytes { λ _. ⌜ now (bodies .exit)
+        ≡ stores (take budget (bytesOf (now (memory .entry)) (now (bodies .entry)) (now (table .entry)) (rangesIn n (now (list .entry))))) (now (bodies .entry)) ⌝ }
+    ensures words { λ _. ⌜ now (table .exit)
+        ≡ stores (take (budget - length (bytesOf (now (memory .entry)) (now (bodies .entry)) (now (table .entry)) (rangesIn n (now (list .entry)))))
+        (journal (pairsAt (slotsOf (length (now (table .entry)))))
+        (wordsOf (now (memory .entry)) (now (bodies .entry)) (now (table .entry)) (rangesIn n (now (list .entry)))))) (now (table .entry)) ⌝ }
 {
     let mut words = many_words();
     let mut changed = many_bits();
-    write_range(
+    write_list(
+        memory,
+        bodies,
         table,
-        slots,
         top,
         held,
         used,
-        bodies,
-        range,
-        start,
+        list,
+        n,
         &mut words,
         &mut changed,
         budget,
     )
 }
 
-// Add's words, by the marks of all entries. Returns their steps, uncut.
-fn add_words(
-    table: &mut [u32],
-    top: usize,
-    held: &[u8],
-    used: &[u8],
-    places: usize,
-    range: Range,
-    start: usize,
-    budget: usize,
-) -> usize
-    requires { ⌜ Stageable (now held) (now used) (slotsOf (length (now table))) places (now table) range start top ⌝ }
-    ensures { λ r. ⌜ Journaled (slotsOf (length (now (table .entry))))
-        (rangeWords (now (held .entry)) (now (used .entry)) (slotsOf (length (now (table .entry)))) places (now (table .entry)) range) budget
-        (now (table .entry)) r (now (table .exit)) ⌝ }
-{
-    let slots = slots_of(table.len());
-    // No entry from here on changes: those from `top` on are free, and the range takes the lowest free slots, at most one for each cell.
-    let end = least(slots, top + range.count);
-    if end <= FEW_SLOTS {
-        return write_few(table, slots, top, held, used, places, range, start, budget);
-    }
-    write_many(table, slots, top, held, used, places, range, start, budget)
-}
-
-// All of add's stores, once no question refuses it. Returns their number, uncut.
+// All of add's stores, once no question refuses it, for so many new cells. Returns their number, uncut.
 fn add_stores(
     memory: &[u8],
     bodies: &mut [u8],
@@ -960,27 +1258,30 @@ fn add_stores(
     top: usize,
     held: &[u8],
     used: &[u8],
-    range: Range,
+    list: &[u32],
+    n: usize,
+    new: usize,
     budget: usize,
 ) -> usize
-    requires ready { ⌜ Ready (now memory) (now bodies) (now table) (range .first) (range .count) (range .kind) (range .rule) (range .label) ⌝ }
-    requires marks { ⌜ (range .first + range .count ≤ cellsIn (now held)) × (length (now used) ≡ maxBodies)
-        × AllMarked (slotsOf (length (now table))) (now table) (now held) (now used) × EndsAt (slotsOf (length (now table))) (now table) top ⌝ }
-    ensures steps { λ r. ⌜ r ≡ stepsOf (length (bytesOfRange (now (memory .entry)) (now (bodies .entry)) (now (table .entry)) range))
-        (length (wordsOf (now (bodies .entry)) (now (table .entry)) range)) ⌝ }
+    requires able { ⌜ Takeable (now memory) (now bodies) (now table) (now held) (now used) (rangesIn n (now list)) ⌝ }
+    requires list { ⌜ Listed n (now list) × Within (cellsOf (length (now memory))) n (now list) × NoneEmpty n (now list) ⌝ }
+    requires new { ⌜ EndsAt (slotsOf (length (now table))) (now table) top
+        × (new ≡ count (cellsOf (length (now memory))) (isNew (slotsOf (length (now table))) (now table) (rangesIn n (now list)))) ⌝ }
+    ensures steps { λ r. ⌜ r ≡ stepsOf (length (bytesOf (now (memory .entry)) (now (bodies .entry)) (now (table .entry)) (rangesIn n (now (list .entry)))))
+        (length (wordsOf (now (memory .entry)) (now (bodies .entry)) (now (table .entry)) (rangesIn n (now (list .entry))))) ⌝ }
     ensures bytes { λ _. ⌜ now (bodies .exit)
-        ≡ stores (take budget (bytesOfRange (now (memory .entry)) (now (bodies .entry)) (now (table .entry)) range)) (now (bodies .entry)) ⌝ }
+        ≡ stores (take budget (bytesOf (now (memory .entry)) (now (bodies .entry)) (now (table .entry)) (rangesIn n (now (list .entry))))) (now (bodies .entry)) ⌝ }
     ensures words { λ _. ⌜ now (table .exit)
-        ≡ stores (take (budget - length (bytesOfRange (now (memory .entry)) (now (bodies .entry)) (now (table .entry)) range))
-        (journal (pairsAt (slotsOf (length (now (table .entry))))) (wordsOf (now (bodies .entry)) (now (table .entry)) range))) (now (table .entry)) ⌝ }
+        ≡ stores (take (budget - length (bytesOf (now (memory .entry)) (now (bodies .entry)) (now (table .entry)) (rangesIn n (now (list .entry)))))
+        (journal (pairsAt (slotsOf (length (now (table .entry)))))
+        (wordsOf (now (memory .entry)) (now (bodies .entry)) (now (table .entry)) (rangesIn n (now (list .entry)))))) (now (table .entry)) ⌝ }
 {
-    let depth = table[LIVE_AT];
-    let places = cells_of(bodies.len());
-    // Both walks begin at the first free body, so that those in use in front of it are passed once.
-    let start = take_body(used, places, range.kind, 0);
-    let bytes = copy_new(memory, bodies, held, depth, used, range, start, budget);
-    let left = remaining(budget, bytes);
-    bytes + add_words(table, top, held, used, places, range, start, left)
+    // No entry from here on changes: those from `top` on are free, and the list takes the lowest free slots, one for each new cell.
+    let end = least(slots_of(table.len()), top + new);
+    if end <= FEW_SLOTS {
+        return write_few(memory, bodies, table, top, held, used, list, n, budget);
+    }
+    write_many(memory, bodies, table, top, held, used, list, n, budget)
 }
 
 // The call with room for marks, none made yet.
@@ -992,18 +1293,30 @@ fn add_marked(
     seen: &mut [u8],
     used: &mut [u8],
     handle: u32,
-    range: Range,
+    list: &[u32],
+    n: usize,
     budget: usize,
 ) -> Answer
-    requires { ⌜ RoomForMarks (now table) (cellsOf (length (now memory))) top (now seen) (now used) ⌝ }
-    ensures made { λ r. ⌜ Makes (callOf handle range) budget (buffers (now (memory .entry)) (now (bodies .entry)) (now (table .entry)))
+    requires { ⌜ RoomForMarks (now table) (cellsOf (length (now memory))) top (now seen) (now used) × Given n (now list) ⌝ }
+    ensures made { λ r. ⌜ Makes (addCall handle (rangesIn n (now (list .entry)))) budget (buffers (now (memory .entry)) (now (bodies .entry)) (now (table .entry)))
         (report r) (buffers (now (memory .entry)) (now (bodies .exit)) (now (table .exit))) ⌝ }
 {
-    let no = add_check(memory, bodies, table, top, seen, used, handle, range);
-    if no != 0 {
-        return Answer::Refused(no);
+    let tally = add_check(memory, bodies, table, top, seen, used, handle, list, n);
+    if tally.no != 0 {
+        return Answer::Refused(tally.no);
     }
-    let steps = add_stores(memory, bodies, table, top, seen, used, range, budget);
+    let steps = add_stores(
+        memory,
+        bodies,
+        table,
+        top,
+        seen,
+        used,
+        list,
+        n,
+        tally.new,
+        budget,
+    );
     answer_of(steps, 0, budget)
 }
 
@@ -1014,11 +1327,12 @@ fn add_few(
     table: &mut [u32],
     top: usize,
     handle: u32,
-    range: Range,
+    list: &[u32],
+    n: usize,
     budget: usize,
 ) -> Answer
-    requires { ⌜ Enough 64 top (cellsOf (length (now memory))) × Reached (now table) top ⌝ }
-    ensures made { λ r. ⌜ Makes (callOf handle range) budget (buffers (now (memory .entry)) (now (bodies .entry)) (now (table .entry)))
+    requires { ⌜ Enough 64 top (cellsOf (length (now memory))) × Reached (now table) top × Given n (now list) ⌝ }
+    ensures made { λ r. ⌜ Makes (addCall handle (rangesIn n (now (list .entry)))) budget (buffers (now (memory .entry)) (now (bodies .entry)) (now (table .entry)))
         (report r) (buffers (now (memory .entry)) (now (bodies .exit)) (now (table .exit))) ⌝ }
 {
     let mut seen = few_marks();
@@ -1031,7 +1345,8 @@ fn add_few(
         &mut seen,
         &mut used,
         handle,
-        range,
+        list,
+        n,
         budget,
     )
 }
@@ -1043,11 +1358,12 @@ fn add_some(
     table: &mut [u32],
     top: usize,
     handle: u32,
-    range: Range,
+    list: &[u32],
+    n: usize,
     budget: usize,
 ) -> Answer
-    requires { ⌜ Enough 256 top (cellsOf (length (now memory))) × Reached (now table) top ⌝ }
-    ensures made { λ r. ⌜ Makes (callOf handle range) budget (buffers (now (memory .entry)) (now (bodies .entry)) (now (table .entry)))
+    requires { ⌜ Enough 256 top (cellsOf (length (now memory))) × Reached (now table) top × Given n (now list) ⌝ }
+    ensures made { λ r. ⌜ Makes (addCall handle (rangesIn n (now (list .entry)))) budget (buffers (now (memory .entry)) (now (bodies .entry)) (now (table .entry)))
         (report r) (buffers (now (memory .entry)) (now (bodies .exit)) (now (table .exit))) ⌝ }
 {
     let mut seen = some_marks();
@@ -1060,7 +1376,8 @@ fn add_some(
         &mut seen,
         &mut used,
         handle,
-        range,
+        list,
+        n,
         budget,
     )
 }
@@ -1072,11 +1389,12 @@ fn add_many(
     table: &mut [u32],
     top: usize,
     handle: u32,
-    range: Range,
+    list: &[u32],
+    n: usize,
     budget: usize,
 ) -> Answer
-    requires { ⌜ Reached (now table) top ⌝ }
-    ensures made { λ r. ⌜ Makes (callOf handle range) budget (buffers (now (memory .entry)) (now (bodies .entry)) (now (table .entry)))
+    requires { ⌜ Reached (now table) top × Given n (now list) ⌝ }
+    ensures made { λ r. ⌜ Makes (addCall handle (rangesIn n (now (list .entry)))) budget (buffers (now (memory .entry)) (now (bodies .entry)) (now (table .entry)))
         (report r) (buffers (now (memory .entry)) (now (bodies .exit)) (now (table .exit))) ⌝ }
 {
     let mut seen = many_marks();
@@ -1089,13 +1407,57 @@ fn add_many(
         &mut seen,
         &mut used,
         handle,
-        range,
+        list,
+        n,
         budget,
     )
 }
 
+// The call on the numbers of a list: of as many ranges as it has, but for one with more than it may have.
+fn add_list(
+    memory: &[u8],
+    bodies: &mut [u8],
+    table: &mut [u32],
+    handle: u32,
+    list: &[u32],
+    n: usize,
+    budget: usize,
+) -> Answer
+    requires { ⌜ Given n (now list) ⌝ }
+    ensures made { λ r. ⌜ Makes (addCall handle (rangesIn n (now (list .entry)))) budget (buffers (now (memory .entry)) (now (bodies .entry)) (now (table .entry)))
+        (report r) (buffers (now (memory .entry)) (now (bodies .exit)) (now (table .exit))) ⌝ }
+{
+    let top = reach_of(table);
+    let blocks = blocks_wanted(top, cells_of(memory.len()));
+    if blocks <= FEW_BLOCKS {
+        return add_few(memory, bodies, table, top, handle, list, n, budget);
+    }
+    if blocks <= SOME_BLOCKS {
+        return add_some(memory, bodies, table, top, handle, list, n, budget);
+    }
+    add_many(memory, bodies, table, top, handle, list, n, budget)
+}
+
+// Adds the ranges of a batch to the innermost domain: all of them, or none.
+pub fn add_batch(
+    memory: &[u8],
+    bodies: &mut [u8],
+    table: &mut [u32],
+    handle: u32,
+    batch: Batch,
+    budget: usize,
+) -> Answer
+    ensures made { λ r. ⌜ Makes (addCall handle (batchRanges batch)) budget (buffers (now (memory .entry)) (now (bodies .entry)) (now (table .entry)))
+        (report r) (buffers (now (memory .entry)) (now (bodies .exit)) (now (table .exit))) ⌝ }
+    ensures means { λ r. ⌜ Shows (addMeans handle (batchRanges batch)) budget (buffers (now (memory .entry)) (now (bodies .entry)) (now (table .entry)))
+        (report r) (buffers (now (memory .entry)) (now (bodies .exit)) (now (table .exit))) ⌝ }
+{
+    let numbers = batch.numbers;
+    add_list(memory, bodies, table, handle, &numbers, batch.count, budget)
+}
+
 // Adds `count` cells from `first` on to the innermost domain, as copies (kind 0), via parent (kind 1) or by a rule (kind 2), read-only (label 0)
-// or read-write (label 1): all of them, or none.
+// or read-write (label 1): all of them, or none. It is the list of this one range.
 pub fn add(
     memory: &[u8],
     bodies: &mut [u8],
@@ -1108,25 +1470,35 @@ pub fn add(
     label: u32,
     budget: usize,
 ) -> Answer
-    ensures made { λ r. ⌜ Makes (addCall handle first count kind rule label) budget (buffers (now (memory .entry)) (now (bodies .entry)) (now (table .entry)))
+    ensures made { λ r. ⌜ Makes (addCall handle (oneRange first count kind rule label)) budget (buffers (now (memory .entry)) (now (bodies .entry)) (now (table .entry)))
         (report r) (buffers (now (memory .entry)) (now (bodies .exit)) (now (table .exit))) ⌝ }
-    ensures means { λ r. ⌜ Shows (addMeans handle first count kind rule label) budget (buffers (now (memory .entry)) (now (bodies .entry)) (now (table .entry)))
+    ensures means { λ r. ⌜ Shows (addMeans handle (oneRange first count kind rule label)) budget (buffers (now (memory .entry)) (now (bodies .entry)) (now (table .entry)))
         (report r) (buffers (now (memory .entry)) (now (bodies .exit)) (now (table .exit))) ⌝ }
 {
-    let range = Range {
-        first: wide(first),
-        count: wide(count),
-        kind,
-        rule,
-        label,
-    };
-    let top = reach_of(table);
-    let blocks = blocks_wanted(top, cells_of(memory.len()));
-    if blocks <= FEW_BLOCKS {
-        return add_few(memory, bodies, table, top, handle, range, budget);
-    }
-    if blocks <= SOME_BLOCKS {
-        return add_some(memory, bodies, table, top, handle, range, budget);
-    }
-    add_many(memory, bodies, table, top, handle, range, budget)
+    let mut list = [0u32; 5];
+    list[0] = first;
+    list[1] = count;
+    list[2] = kind;
+    list[3] = rule;
+    list[4] = label;
+    add_list(memory, bodies, table, handle, &list, 1, budget)
+}
+
+// Adds the ranges of a lent list to the innermost domain: all of them, or none. A walk proved by hand, since the borrow checker covers no slice of
+// structs: it does no more than gather the list and hand it on.
+pub fn add_ranges(
+    memory: &[u8],
+    bodies: &mut [u8],
+    table: &mut [u32],
+    handle: u32,
+    ranges: &[Range],
+    budget: usize,
+) -> Answer
+    ensures made { λ r. ⌜ Makes (addCall handle (now (ranges .entry))) budget (buffers (now (memory .entry)) (now (bodies .entry)) (now (table .entry)))
+        (report r) (buffers (now (memory .entry)) (now (bodies .exit)) (now (table .exit))) ⌝ }
+    ensures means { λ r. ⌜ Shows (addMeans handle (now (ranges .entry))) budget (buffers (now (memory .entry)) (now (bodies .entry)) (now (table .entry)))
+        (report r) (buffers (now (memory .entry)) (now (bodies .exit)) (now (table .exit))) ⌝ }
+{
+    let batch = gather(ranges);
+    add_batch(memory, bodies, table, handle, batch, budget)
 }

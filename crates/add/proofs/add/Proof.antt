@@ -1,28 +1,34 @@
 -- `add::add` meets its contract. Assumes nothing.
 use mathlib.Core.Path.{ap, _∙_}
-use Rattle.store.proofs.Means.{visibleOf}
+use Rattle.ranges.specs.Ranges.{oneRange}
+use Rattle.ranges.specs.Batch.{rangesIn}
+use Rattle.store.specs.Means.{visibleOf}
 use Rattle.add.proofs.Added.{add-means}
 use borrow.Author.Needs.{needs}
 use Rattle.add.proofs.add.Statement.{statement}
 use Rattle.add.proofs.add.Tie as tie
+use Rattle.add.proofs.add_list.Reads as add-list-reads
 
-wide-requires : tie.Need-wide-requires
-wide-requires c κs = search needs
+array-write-list : tie.Need-array-write-list
+array-write-list c = search needs
 
-wide-requires-2 : tie.Need-wide-requires-2
-wide-requires-2 c κs = search needs
+array-write-list-2 : tie.Need-array-write-list-2
+array-write-list-2 c = search needs
 
-reach-of-requires : tie.Need-reach-of-requires
-reach-of-requires c κs = search needs
+array-write-list-3 : tie.Need-array-write-list-3
+array-write-list-3 c = search needs
 
-cells-of-requires : tie.Need-cells-of-requires
-cells-of-requires c κs = search needs
+array-write-list-4 : tie.Need-array-write-list-4
+array-write-list-4 c = search needs
 
-blocks-wanted-requires : tie.Need-blocks-wanted-requires
-blocks-wanted-requires c κs = search needs
+array-write-list-5 : tie.Need-array-write-list-5
+array-write-list-5 c = search needs
 
-add-few-requires : tie.Need-add-few-requires
-add-few-requires c κs = search needs
+slice-aggregate-add-list : tie.Need-slice-aggregate-add-list
+slice-aggregate-add-list c = search needs
+
+add-list-requires : tie.Need-add-list-requires
+add-list-requires c κs = search needs
 
 same-length : tie.Need-same-length
 same-length c = search needs
@@ -31,56 +37,23 @@ same-length-2 : tie.Need-same-length-2
 same-length-2 c = search needs
 
 returns : tie.Need-returns
-returns c = let a = c .before .before .before .before .before .before .before .before .before .before .before .before .before .before .before .before .before .args in
-    let r = rw (c .before .before .before .before .before .before .before .before .before .before .before .before .before .wide .ensures, c .before .before .before .before .before .before .before .before .before .before .before .before .wide2 .ensures) at (c .before .before .before .before .add-few .ensures) in
-    (r, ap visibleOf r ∙ add-means (a .handle) (a .first) (a .count) (a .kind) (a .rule) (a .label) _ _)
-
-add-some-requires : tie.Need-add-some-requires
-add-some-requires c κs = search needs
-
-same-length-3 : tie.Need-same-length-3
-same-length-3 c = search needs
-
-same-length-4 : tie.Need-same-length-4
-same-length-4 c = search needs
-
-returns-2 : tie.Need-returns-2
-returns-2 c = let a = c .before .before .before .before .before .before .before .before .before .before .before .before .before .before .before .before .before .before .args in
-    let r = rw (c .before .before .before .before .before .before .before .before .before .before .before .before .before .before .wide .ensures, c .before .before .before .before .before .before .before .before .before .before .before .before .before .wide2 .ensures) at (c .before .before .before .before .add-some .ensures) in
-    (r, ap visibleOf r ∙ add-means (a .handle) (a .first) (a .count) (a .kind) (a .rule) (a .label) _ _)
-
-add-many-requires : tie.Need-add-many-requires
-add-many-requires c κs = search needs
-
-same-length-5 : tie.Need-same-length-5
-same-length-5 c = search needs
-
-same-length-6 : tie.Need-same-length-6
-same-length-6 c = search needs
-
-returns-3 : tie.Need-returns-3
-returns-3 c = let a = c .before .before .before .before .before .before .before .before .before .before .before .before .before .before .before .before .before .before .args in
-    let r = rw (c .before .before .before .before .before .before .before .before .before .before .before .before .before .before .wide .ensures, c .before .before .before .before .before .before .before .before .before .before .before .before .before .wide2 .ensures) at (c .before .before .before .before .add-many .ensures) in
-    (r, ap visibleOf r ∙ add-means (a .handle) (a .first) (a .count) (a .kind) (a .rule) (a .label) _ _)
+unfolding rangesIn
+returns c =
+    let a = c .before .before .before .before .before .before .before .before .before .before .before .args in
+    let r = c .before .before .before .before .add-list .ensures in
+    (r, ap visibleOf r ∙ add-means (a .handle) (oneRange (a .first) (a .count) (a .kind) (a .rule) (a .label)) _ _)
 
 pub add-spec : {M : Type 1} → statement M
 add-spec =
     tie.close
     (tie.spec
-    wide-requires
-    wide-requires-2
-    reach-of-requires
-    cells-of-requires
-    blocks-wanted-requires
-    add-few-requires
+    array-write-list
+    array-write-list-2
+    array-write-list-3
+    array-write-list-4
+    array-write-list-5
+    slice-aggregate-add-list
+    add-list-requires
     same-length
     same-length-2
-    returns
-    add-some-requires
-    same-length-3
-    same-length-4
-    returns-2
-    add-many-requires
-    same-length-5
-    same-length-6
-    returns-3)
+    returns)

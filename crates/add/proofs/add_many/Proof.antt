@@ -3,6 +3,9 @@ use Rattle.table.proofs.Marks.{room-many}
 use borrow.Author.Needs.{needs}
 use Rattle.add.proofs.add_many.Statement.{statement}
 use Rattle.add.proofs.add_many.Tie as tie
+use Rattle.add.proofs.add_marked.Reads as add-marked-reads
+use Rattle.marks.proofs.many_marks.Reads as many-marks-reads
+use Rattle.table.proofs.no_bodies.Reads as no-bodies-reads
 
 many-marks-requires : tie.Need-many-marks-requires
 many-marks-requires c κs = search needs
@@ -17,7 +20,7 @@ slice-aggregate-add-marked-2 : tie.Need-slice-aggregate-add-marked-2
 slice-aggregate-add-marked-2 c = search needs
 
 add-marked-requires : tie.Need-add-marked-requires
-add-marked-requires c κs = rw (c .before .before .before .before .before .many-marks .ensures, c .before .before .before .before .no-bodies .ensures) (room-many _ _ _ (c .before .before .before .before .before .before .before .before .before .pre))
+add-marked-requires c κs = (rw (c .before .before .before .before .before .many-marks .ensures, c .before .before .before .before .no-bodies .ensures) (room-many _ _ _ (c .before .before .before .before .before .before .before .before .before .before .pre .0)), c .before .before .before .before .before .before .before .before .before .before .pre .1)
 
 same-length : tie.Need-same-length
 same-length c = search needs

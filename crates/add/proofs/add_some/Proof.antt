@@ -3,6 +3,9 @@ use Rattle.table.proofs.Marks.{room-some}
 use borrow.Author.Needs.{needs}
 use Rattle.add.proofs.add_some.Statement.{statement}
 use Rattle.add.proofs.add_some.Tie as tie
+use Rattle.add.proofs.add_marked.Reads as add-marked-reads
+use Rattle.marks.proofs.some_marks.Reads as some-marks-reads
+use Rattle.table.proofs.no_bodies.Reads as no-bodies-reads
 
 some-marks-requires : tie.Need-some-marks-requires
 some-marks-requires c κs = search needs
@@ -17,7 +20,7 @@ slice-aggregate-add-marked-2 : tie.Need-slice-aggregate-add-marked-2
 slice-aggregate-add-marked-2 c = search needs
 
 add-marked-requires : tie.Need-add-marked-requires
-add-marked-requires c κs = rw (c .before .before .before .before .before .some-marks .ensures, c .before .before .before .before .no-bodies .ensures) (room-some _ _ _ (c .before .before .before .before .before .before .before .before .before .pre .1) (c .before .before .before .before .before .before .before .before .before .pre .0))
+add-marked-requires c κs = (rw (c .before .before .before .before .before .some-marks .ensures, c .before .before .before .before .no-bodies .ensures) (room-some _ _ _ (c .before .before .before .before .before .before .before .before .before .before .pre .1) (c .before .before .before .before .before .before .before .before .before .before .pre .0)), c .before .before .before .before .before .before .before .before .before .before .pre .2)
 
 same-length : tie.Need-same-length
 same-length c = search needs

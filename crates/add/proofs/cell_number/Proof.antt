@@ -2,6 +2,8 @@
 use mathlib.Core.Path.{sym, _∙_}
 use native.Mathlib.Omega.{arith}
 use borrow.Author.Tests.{not-true, not-false}
+use Rattle.ranges.specs.Batch.{rangesIn}
+use Rattle.add.specs.Walking.{freshTo}
 use Rattle.add.proofs.Asking.{number-held, number-new}
 use borrow.Author.Needs.{needs}
 use Rattle.add.proofs.cell_number.Statement.{statement}
@@ -11,16 +13,26 @@ is-new-requires : tie.Need-is-new-requires
 is-new-requires c κs = search needs
 
 returns : tie.Need-returns
-returns c = number-held _ _ _ _ _ _ _ (sym (c .before .is-new .ensures) ∙ not-true _ (c .if1 .taken))
+returns c =
+    let a = c .before .before .before .before .before .before .before .before .before .args in
+    number-held (a .memory .now) (a .bodies .now) (a .slots) (a .table .now) (a .depth) (freshTo (a .held .now) (a .depth) (rangesIn (a .seen) (a .list .now))) (a .cell)
+    (sym (c .before .is-new .ensures) ∙ not-true _ (c .if1 .taken))
 
 parent-of-requires : tie.Need-parent-of-requires
 parent-of-requires c κs = search needs
 
 value-number-requires : tie.Need-value-number-requires
-value-number-requires c κs = ((c .before .before .before .before .before .before .before .before .before .pre .0 .0, c .before .before .before .before .before .before .before .before .before .pre .0 .1, omega (arith, c .parent-of .ensures, c .before .before .before .before .before .before .before .before .before .pre .0 .3), c .before .before .before .before .before .before .before .before .before .pre .0 .4, c .before .before .before .before .before .before .before .before .before .pre .0 .5, c .before .before .before .before .before .before .before .before .before .pre .0 .6), (c .before .before .before .before .before .before .before .before .before .pre .1 .0 .0, c .before .before .before .before .before .before .before .before .before .pre .1 .0 .1, rw (c .parent-of .ensures) (c .before .before .before .before .before .before .before .before .before .pre .1 .1 (sym (c .before .before .is-new .ensures) ∙ not-false _ (c .before .if1 .left)))))
+value-number-requires c κs =
+    let p = c .before .before .before .before .before .before .before .before .before .before .pre in (
+      (p .0 .0, p .0 .1, omega (arith, c .parent-of .ensures, p .0 .3), p .0 .4, p .0 .5, p .0 .6),
+      (p .1 .0 .0, p .1 .0 .1, rw (c .parent-of .ensures) (p .1 .1 (sym (c .before .before .is-new .ensures) ∙ not-false _ (c .before .if1 .left)))),
+    )
 
 returns-2 : tie.Need-returns-2
-returns-2 c = number-new _ _ _ _ _ _ _ (sym (c .before .before .before .is-new .ensures) ∙ not-false _ (c .before .before .if1 .left)) _ (rw (c .before .parent-of .ensures) at (c .value-number .ensures))
+returns-2 c =
+    let a = c .before .before .before .before .before .before .before .before .before .before .before .args in
+    number-new (a .memory .now) (a .bodies .now) (a .slots) (a .table .now) (a .depth) (freshTo (a .held .now) (a .depth) (rangesIn (a .seen) (a .list .now))) (a .cell)
+    (sym (c .before .before .before .is-new .ensures) ∙ not-false _ (c .before .before .if1 .left)) _ (rw (c .before .parent-of .ensures) at (c .value-number .ensures))
 
 pub cell-number-spec : {M : Type 1} → statement M
 cell-number-spec =

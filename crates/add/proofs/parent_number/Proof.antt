@@ -1,28 +1,33 @@
 -- `add::parent_number` meets its contract. Assumes nothing.
-use borrow.Author.Needs.{needs}
 use Prim.Native.Nat.{ℕ, _-_, _≤_}
+use mathlib.Core.Bool.{Bool}
 use mathlib.Core.Path.{_≡_, subst}
 use native.Mathlib.Omega.{arith}
+use Rattle.ranges.specs.Batch.{rangesIn}
+use Rattle.add.specs.Walking.{freshTo}
 use Rattle.add.proofs.Asking.{Numbered, numbered-none, numbered-stop, numbered-more, numbered-all}
+use borrow.Author.Needs.{needs}
 use Rattle.add.proofs.parent_number.Statement.{statement}
 use Rattle.add.proofs.parent_number.Tie as tie
 
 abbrev Inv-loop : tie.InvT-loop
-Inv-loop memory bodies table slots top last before held depth range ruled₀ j₀ ruled j = (j ≤ range .count) × Numbered memory bodies slots table held depth (range .first) (range .count) j ruled
+Inv-loop memory bodies table slots top last before held depth list part ruled₀ j₀ ruled j = (j ≤ part .count) × Numbered memory bodies slots table depth (freshTo held depth (rangesIn (part .seen) list)) (part .first) (part .count) j ruled
 
 abbrev μ-loop : tie.MeasureT-loop
-μ-loop memory bodies table slots top last before held depth range ruled₀ j₀ ruled j = range .count - j
+μ-loop memory bodies table slots top last before held depth list part ruled₀ j₀ ruled j = part .count - j
 
 loop-holds : tie.Need-loop-holds Inv-loop μ-loop
 loop-holds c = (search needs, numbered-none _ _ _ _ _ _ _ _)
 
-add-cell : tie.Need-add-cell Inv-loop μ-loop
-add-cell c = search needs
+add-cell-number : tie.Need-add-cell-number Inv-loop μ-loop
+add-cell-number c = search needs
 
 cell-number-requires : tie.Need-cell-number-requires Inv-loop μ-loop
 cell-number-requires c κs =
-    let p = c .before .before .before .before .before .before .before .before .before .before .pre in
-    ((p .slots, p .long, p .inner, p .among, p .deep, p .once, p .ends), ((search needs, search needs, search needs), p .sources (c .before .before .before .loop .j) (c .before .if1 .taken)))
+    let p = c .before .before .before .before .before .before .before .before .before .before .before .pre in (
+      (p .slots, p .long, p .inner, p .among, p .deep, p .once, p .ends),
+      ((search needs, search needs, search needs, (p .asks .seen, p .asks .listed)), p .sources (c .before .before .before .loop .j) (c .before .if1 .taken)),
+    )
 
 returns : tie.Need-returns Inv-loop μ-loop
 returns c = numbered-stop _ _ _ _ _ _ _ _ _ _ _ (c .before .before .before .before .before .loop .inv .1) (c .before .cell-number .ensures) (c .if2 .taken) (c .before .before .before .if1 .taken)
@@ -41,9 +46,11 @@ loop-again c = (search needs, numbered-more _ _ _ _ _ _ _ _ _ _ _ (c .before .be
 
 returns-2 : tie.Need-returns-2 Inv-loop μ-loop
 returns-2 c =
-    let a = c .before .before .before .before .before .before .before .before .before .args in
-    let last : c .before .before .loop .j ≡ a .range .count = omega arith in
-    numbered-all (a .memory .now) (a .bodies .now) (a .slots) (a .table .now) (a .held .now) (a .depth) (a .range .first) (a .range .count) (c .before .before .loop .ruled) (subst (λ (k : ℕ). Numbered (a .memory .now) (a .bodies .now) (a .slots) (a .table .now) (a .held .now) (a .depth) (a .range .first) (a .range .count) k (c .before .before .loop .ruled)) last (c .before .before .loop .inv .1))
+    let a = c .before .before .before .before .before .before .before .before .before .before .args in
+    let last : c .before .before .loop .j ≡ a .part .count = omega arith in
+    let new : ℕ → Bool = freshTo (a .held .now) (a .depth) (rangesIn (a .part .seen) (a .list .now)) in
+    numbered-all (a .memory .now) (a .bodies .now) (a .slots) (a .table .now) (a .depth) new (a .part .first) (a .part .count) (c .before .before .loop .ruled)
+    (subst (λ (k : ℕ). Numbered (a .memory .now) (a .bodies .now) (a .slots) (a .table .now) (a .depth) new (a .part .first) (a .part .count) k (c .before .before .loop .ruled)) last (c .before .before .loop .inv .1))
 
 pub parent-number-spec : {M : Type 1} → statement M
 parent-number-spec =
@@ -52,7 +59,7 @@ parent-number-spec =
     Inv-loop
     μ-loop
     loop-holds
-    add-cell
+    add-cell-number
     cell-number-requires
     returns
     first-no-requires

@@ -1,18 +1,28 @@
 -- `add::raise_entry` meets its contract. Assumes nothing.
 use Prim.Native.Nat.{ℕ}
-use mathlib.Core.Path.{_≡_, sym, ap, _∙_}
+use mathlib.Core.Path.{_≡_, refl, sym, ap, _∙_, subst}
+use native.Mathlib.Omega.{arith}
 use borrow.Author.Tests.{not-true, not-false}
+use Rattle.ranges.specs.Batch.{rangesIn}
 use Rattle.table.specs.Entry.{writable}
-use Rattle.table.specs.Changes.{put}
-use Rattle.changes.proofs.Staging.{stages-kept, stages-put}
+use Rattle.table.specs.Changes.{Change, put, keep}
+use Rattle.changes.specs.Staged.{Restaged}
 use Rattle.add.specs.Add.{raiseChange}
 use Rattle.add.proofs.Choices.{rises-facts}
 use borrow.Author.Needs.{needs}
 use Rattle.add.proofs.raise_entry.Statement.{statement}
 use Rattle.add.proofs.raise_entry.Tie as tie
+use Rattle.add.proofs.is_raised.Reads as is-raised-reads
+use Rattle.changes.proofs.stage_entry.Reads as stage-entry-reads
+use Rattle.table.proofs.fields.raise.Reads as raise-reads
+use Rattle.table.proofs.first_word.Reads as first-word-reads
+use Rattle.table.proofs.second_word.Reads as second-word-reads
 
 same-words : {w v x y : ℕ} → x ≡ w → y ≡ v → put w v ≡ put x y
 same-words p q = cc
+
+never : {w v : ℕ} → put w v ≡ keep → ⊥
+never q = let z : _≡_ {A = ℕ} 0 1 = cc in omega arith
 
 first-word-requires : tie.Need-first-word-requires
 first-word-requires c κs = search needs
@@ -24,12 +34,10 @@ returns : tie.Need-returns
 unfolding raiseChange
 returns c =
     let still = rw (c .before .before .first-word .ensures) at (sym (c .before .is-raised .ensures) ∙ not-true _ (c .if1 .taken)) in
-    record { of = λ f q s. stages-kept s (q ∙ rw still) }
+    rw still (record { put = λ w v q. absurd (never (sym q)); kept = λ q. (refl, refl) })
 
 raise-requires : tie.Need-raise-requires
-raise-requires c κs =
-    let a = c .before .before .before .before .before .before .args in
-    rises-facts (a .depth) (a .range .first) (a .range .count) (a .range .label) (c .before .before .first-word .result) (sym (c .before .is-raised .ensures) ∙ not-false _ (c .if1 .left)) .old
+raise-requires c κs = rises-facts (c .before .before .before .before .before .before .before .args .depth) (rangesIn (c .before .before .before .before .before .before .before .args .n) (c .before .before .before .before .before .before .before .args .list .now)) (c .before .before .first-word .result) (sym (c .before .is-raised .ensures) ∙ not-false _ (c .if1 .left)) .old
 
 second-word-requires : tie.Need-second-word-requires
 second-word-requires c κs = search needs
@@ -47,7 +55,13 @@ returns-2 : tie.Need-returns-2
 unfolding raiseChange
 returns-2 c =
     let up = rw (c .before .before .before .before .before .before .before .before .before .before .before .first-word .ensures) at (sym (c .before .before .before .before .before .before .before .before .before .before .is-raised .ensures) ∙ not-false _ (c .before .before .before .before .before .before .before .before .before .if1 .left)) in
-    record { of = λ f q s. stages-put s (q ∙ rw up (same-words (c .before .before .before .before .before .before .before .before .raise .ensures ∙ ap writable (c .before .before .before .before .before .before .before .before .before .before .before .first-word .ensures)) (c .before .before .before .before .before .before .before .second-word .ensures))) (c .before .before .before .before .stage-entry .ensures) }
+    let a = c .before .before .before .before .before .before .before .before .before .before .before .before .before .before .before .before .args in
+    let same = same-words (c .before .before .before .before .before .before .before .before .raise .ensures ∙ ap writable (c .before .before .before .before .before .before .before .before .before .before .before .first-word .ensures)) (c .before .before .before .before .before .before .before .second-word .ensures) in
+    rw up
+    (record {
+      put = λ w v q. rw (sym same ∙ q) at (c .before .before .before .before .stage-entry .ensures);
+      kept = λ q. absurd (never q);
+    })
 
 pub raise-entry-spec : {M : Type 1} → statement M
 raise-entry-spec =

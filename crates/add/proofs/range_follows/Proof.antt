@@ -1,5 +1,4 @@
 -- `add::range_follows` meets its contract. Assumes nothing.
-use borrow.Author.Needs.{needs}
 use Prim.Native.Nat.{ℕ, _+_, _-_, _≤_}
 use mathlib.Core.Path.{_≡_, sym, ap, _∙_}
 use mathlib.Core.Bool.{true}
@@ -8,15 +7,17 @@ use borrow.Author.Count.{below-none}
 use borrow.Author.Tests.{not-true, not-false}
 use Rattle.words.specs.Scan.{all}
 use Rattle.words.proofs.Scan.{all-make, all-next, all-not}
-use Rattle.add.specs.Walking.{follows}
+use Rattle.ranges.specs.Batch.{rangesIn}
+use Rattle.add.specs.Walking.{freshTo, follows}
+use borrow.Author.Needs.{needs}
 use Rattle.add.proofs.range_follows.Statement.{statement}
 use Rattle.add.proofs.range_follows.Tie as tie
 
 abbrev Inv-loop : tie.InvT-loop
-Inv-loop memory bytes held depth range j₀ j = (j ≤ range .count) × (all j (λ k. follows memory bytes held depth (range .first + k)) ≡ true)
+Inv-loop memory bytes held depth list part j₀ j = (j ≤ part .count) × (all j (λ k. follows memory bytes (freshTo held depth (rangesIn (part .seen) list)) (part .first + k)) ≡ true)
 
 abbrev μ-loop : tie.MeasureT-loop
-μ-loop memory bytes held depth range j₀ j = range .count - j
+μ-loop memory bytes held depth list part j₀ j = part .count - j
 
 loop-holds : tie.Need-loop-holds Inv-loop μ-loop
 loop-holds c = (search needs, all-make 0 _ (below-none _))
@@ -25,7 +26,9 @@ add-cell-follows : tie.Need-add-cell-follows Inv-loop μ-loop
 add-cell-follows c = search needs
 
 cell-follows-requires : tie.Need-cell-follows-requires Inv-loop μ-loop
-cell-follows-requires c κs = (c .before .before .before .before .before .before .before .pre .0, omega (arith, c .before .before .before .before .before .before .before .pre .1, c .before .if1 .taken), omega (arith, c .before .before .before .before .before .before .before .pre .2, c .before .if1 .taken), c .before .before .before .before .before .before .before .pre .3)
+cell-follows-requires c κs =
+    let p = c .before .before .before .before .before .before .before .before .pre .1 in
+    (c .before .before .before .before .before .before .before .before .pre .0, omega (arith, p .fits, c .before .if1 .taken), omega (arith, p .cells, c .before .if1 .taken), p .deep, (p .seen, p .listed))
 
 returns : tie.Need-returns Inv-loop μ-loop
 returns c = sym (all-not _ _ (c .before .before .before .before .before .loop .j) (c .before .before .before .if1 .taken) (sym (c .before .cell-follows .ensures) ∙ not-true _ (c .if2 .taken)))
@@ -40,7 +43,10 @@ loop-again : tie.Need-loop-again Inv-loop μ-loop
 loop-again c = (omega arith, sym (all-next (c .before .before .before .before .before .loop .j) _) ∙ rw (c .before .before .before .before .before .loop .inv .1, sym (c .before .cell-follows .ensures) ∙ not-false _ (c .if2 .left)))
 
 returns-2 : tie.Need-returns-2 Inv-loop μ-loop
-returns-2 c = let e : c .before .before .loop .j ≡ c .before .before .before .before .before .before .args .range .count = omega arith in sym (c .before .before .loop .inv .1) ∙ ap (λ (k : ℕ). all k (λ i. follows (c .before .before .before .before .before .before .args .memory .now) (c .before .before .before .before .before .before .args .bytes .now) (c .before .before .before .before .before .before .args .held .now) (c .before .before .before .before .before .before .args .depth) (c .before .before .before .before .before .before .args .range .first + i))) e
+returns-2 c =
+    let a = c .before .before .before .before .before .before .before .args in
+    let last : c .before .before .loop .j ≡ a .part .count = omega arith in
+    sym (c .before .before .loop .inv .1) ∙ ap (λ (k : ℕ). all k (λ i. follows (a .memory .now) (a .bytes .now) (freshTo (a .held .now) (a .depth) (rangesIn (a .part .seen) (a .list .now))) (a .part .first + i))) last
 
 pub range-follows-spec : {M : Type 1} → statement M
 range-follows-spec =

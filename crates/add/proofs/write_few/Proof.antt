@@ -1,8 +1,11 @@
--- `add::write_few` meets its contract: the arrays are long enough, and nothing is staged in them. Assumes nothing.
+-- `add::write_few` meets its contract. Assumes nothing.
 use Rattle.changes.proofs.Staging.{stages-start}
 use borrow.Author.Needs.{needs}
 use Rattle.add.proofs.write_few.Statement.{statement}
 use Rattle.add.proofs.write_few.Tie as tie
+use Rattle.add.proofs.write_list.Reads as write-list-reads
+use Rattle.changes.proofs.few_bits.Reads as few-bits-reads
+use Rattle.changes.proofs.few_words.Reads as few-words-reads
 
 few-words-requires : tie.Need-few-words-requires
 few-words-requires c κs = search needs
@@ -10,17 +13,22 @@ few-words-requires c κs = search needs
 few-bits-requires : tie.Need-few-bits-requires
 few-bits-requires c κs = search needs
 
-slice-aggregate-write-range : tie.Need-slice-aggregate-write-range
-slice-aggregate-write-range c = search needs
+slice-aggregate-write-list : tie.Need-slice-aggregate-write-list
+slice-aggregate-write-list c = search needs
 
-slice-aggregate-write-range-2 : tie.Need-slice-aggregate-write-range-2
-slice-aggregate-write-range-2 c = search needs
+slice-aggregate-write-list-2 : tie.Need-slice-aggregate-write-list-2
+slice-aggregate-write-list-2 c = search needs
 
-write-range-requires : tie.Need-write-range-requires
-write-range-requires c κs = ((search needs, search needs), (c .before .before .before .before .before .before .before .before .pre .1, stages-start 4 (c .before .before .before .few-bits .ensures)))
+write-list-requires : tie.Need-write-list-requires
+write-list-requires c κs =
+    let p = c .before .before .before .before .before .before .before .before .before .before .before .before .pre in
+    (p .0, (p .1 .0, ((p .1 .1 .0, (search needs, search needs)), λ f. stages-start 4 (c .before .before .before .before .few-bits .ensures))))
 
 same-length : tie.Need-same-length
 same-length c = search needs
+
+same-length-2 : tie.Need-same-length-2
+same-length-2 c = search needs
 
 returns : tie.Need-returns
 returns c = search needs
@@ -31,8 +39,9 @@ write-few-spec =
     (tie.spec
     few-words-requires
     few-bits-requires
-    slice-aggregate-write-range
-    slice-aggregate-write-range-2
-    write-range-requires
+    slice-aggregate-write-list
+    slice-aggregate-write-list-2
+    write-list-requires
     same-length
+    same-length-2
     returns)

@@ -1,9 +1,13 @@
--- `add::write_many` meets its contract: the arrays are long enough, and nothing is staged in them. Assumes nothing.
+-- `add::write_many` meets its contract. Assumes nothing.
 use native.Mathlib.Omega.{arith}
+use Rattle.store.proofs.Checks.{store-lengths}
 use Rattle.changes.proofs.Staging.{stages-start}
 use borrow.Author.Needs.{needs}
 use Rattle.add.proofs.write_many.Statement.{statement}
 use Rattle.add.proofs.write_many.Tie as tie
+use Rattle.add.proofs.write_list.Reads as write-list-reads
+use Rattle.changes.proofs.many_bits.Reads as many-bits-reads
+use Rattle.changes.proofs.many_words.Reads as many-words-reads
 
 many-words-requires : tie.Need-many-words-requires
 many-words-requires c κs = search needs
@@ -11,17 +15,24 @@ many-words-requires c κs = search needs
 many-bits-requires : tie.Need-many-bits-requires
 many-bits-requires c κs = search needs
 
-slice-aggregate-write-range : tie.Need-slice-aggregate-write-range
-slice-aggregate-write-range c = search needs
+slice-aggregate-write-list : tie.Need-slice-aggregate-write-list
+slice-aggregate-write-list c = search needs
 
-slice-aggregate-write-range-2 : tie.Need-slice-aggregate-write-range-2
-slice-aggregate-write-range-2 c = search needs
+slice-aggregate-write-list-2 : tie.Need-slice-aggregate-write-list-2
+slice-aggregate-write-list-2 c = search needs
 
-write-range-requires : tie.Need-write-range-requires
-write-range-requires c κs = ((omega (arith, c .before .before .before .before .before .before .before .before .pre .walk .slots), omega (arith, c .before .before .before .before .before .before .before .before .pre .walk .slots)), (c .before .before .before .before .before .before .before .before .pre, stages-start 64 (c .before .before .before .many-bits .ensures)))
+write-list-requires : tie.Need-write-list-requires
+write-list-requires c κs =
+    let p = c .before .before .before .before .before .before .before .before .before .before .before .before .pre in
+    let f = store-lengths _ _ (c .before .before .before .before .before .before .before .before .before .before .before .before .args .table .now) (p .0 .ready .store) in
+    let high = f .slots-high in
+    (p .0, (p .1 .0, ((p .1 .1, (search needs, search needs)), λ f. stages-start 64 (c .before .before .before .before .many-bits .ensures))))
 
 same-length : tie.Need-same-length
 same-length c = search needs
+
+same-length-2 : tie.Need-same-length-2
+same-length-2 c = search needs
 
 returns : tie.Need-returns
 returns c = search needs
@@ -32,8 +43,9 @@ write-many-spec =
     (tie.spec
     many-words-requires
     many-bits-requires
-    slice-aggregate-write-range
-    slice-aggregate-write-range-2
-    write-range-requires
+    slice-aggregate-write-list
+    slice-aggregate-write-list-2
+    write-list-requires
     same-length
+    same-length-2
     returns)
