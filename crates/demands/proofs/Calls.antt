@@ -141,11 +141,11 @@ facts (changes create) b = record {
   fine = fine-refuse (createChecks (stateOf b)) _ _ _ _ (create-fine (roomOf b) (b .memory) (stateOf b));
   dead = λ h e d. absurd (subst None e tt);
 }
-facts (changes (add h first n i u l)) b = record {
-  shows = λ k. add-means h first n i u l k b ∙ plain _ k b;
-  pends = λ k good. add-pending h first n i u l k b good;
-  planned = add-planned b h first n i u l;
-  fine = fine-refuse (addChecks (roomOf b) (b .memory) h first n i u l (stateOf b)) _ _ _ _ (add-fine (roomOf b) (b .memory) (stateOf b) h first n i u l);
+facts (changes (add h rs)) b = record {
+  shows = λ k. add-means h rs k b ∙ plain _ k b;
+  pends = λ k good. add-pending h rs k b good;
+  planned = add-planned b h rs;
+  fine = fine-refuse (addChecks (roomOf b) (b .memory) h rs (stateOf b)) _ _ _ _ (add-fine (roomOf b) (b .memory) (stateOf b) h rs);
   dead = λ a e d. rw (not-live h a (stateOf b) e d);
 }
 facts (changes (delete h first n)) b = record {

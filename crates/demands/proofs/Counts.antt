@@ -13,6 +13,7 @@ use Rattle.search.specs.Free.{bodyUsed, usedSlots, copies, lowestFree, takerOf}
 use Rattle.model.specs.Answer.{ended}
 use Rattle.store.specs.Outcome.{outcome}
 use Rattle.store.specs.Checks.{shapeCheck, tableCheck, makeCheck, openCheck, storeCheck, createCheck}
+use Rattle.store.specs.State.{heldIn, stateIn, stateOf}
 use Rattle.store.specs.Calls.{freshWord, makePlan, makeCall, openCall, createWords, createCall}
 use Rattle.add.specs.Add.{addCheck, raiseChange, changeWith, addWords, addBytes, addCall}
 use Rattle.delete.specs.Delete.{deleteCheck, deleteChange, deleteWords, deleteCall}
@@ -23,7 +24,7 @@ use Rattle.demands.specs.Counted.{LinesHold, countedLines}
 pub lines-hold : LinesHold countedLines
 unfolding all first count nth pairs nameOk namesOk effective journaled applyPlan openPlan sameCell cellPlan findIn holdsIn lengthsOk
     headerOk handleOk headOk entryOk parentOk apart ruleOk pairsOk tableOk stepsIn sourceIn valueIn depthNamed bodyUsed usedSlots
-    copies lowestFree takerOf ended outcome shapeCheck tableCheck makeCheck openCheck storeCheck createCheck freshWord makePlan makeCall openCall createWords
+    copies lowestFree takerOf ended outcome shapeCheck tableCheck makeCheck openCheck storeCheck createCheck heldIn stateIn stateOf freshWord makePlan makeCall openCall createWords
     createCall addCheck raiseChange changeWith addWords addBytes addCall deleteCheck deleteChange deleteWords deleteCall advanceCheck
     advanceWords advanceBytes advanceCall restoreCheck restoreBytes restoreChange restoreWords restoreCall
-lines-hold = ((refl, refl), ((refl, refl), ((refl, refl), ((refl, refl), ((refl, refl), ((refl, refl), ((refl, refl), tt)))))))
+lines-hold = ((refl, refl), ((refl, refl), ((refl, refl), ((refl, refl), ((refl, refl), ((refl, refl), ((refl, refl), ((refl, refl), tt))))))))

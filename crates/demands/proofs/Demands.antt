@@ -4,6 +4,7 @@ use Rattle.begin.proofs.open.Met as open-proof
 use Rattle.begin.proofs.create.Met as create-proof
 use Rattle.begin.proofs.list.Met as list-proof
 use Rattle.add.proofs.add.Met as add-proof
+use Rattle.add.proofs.add_ranges.Met as add-ranges-proof
 use Rattle.delete.proofs.delete.Met as delete-proof
 use Rattle.commit.proofs.commit.Met as commit-proof
 use Rattle.advance.proofs.advance.Met as advance-proof
@@ -15,6 +16,7 @@ use Rattle.domain_store.proofs.ds_make.Met as ds-make-proof
 use Rattle.domain_store.proofs.ds_open.Met as ds-open-proof
 use Rattle.domain_store.proofs.ds_create.Met as ds-create-proof
 use Rattle.domain_store.proofs.ds_add.Met as ds-add-proof
+use Rattle.domain_store.proofs.ds_add_ranges.Met as ds-add-ranges-proof
 use Rattle.domain_store.proofs.ds_delete.Met as ds-delete-proof
 use Rattle.domain_store.proofs.ds_commit.Met as ds-commit-proof
 use Rattle.domain_store.proofs.ds_advance.Met as ds-advance-proof
@@ -32,6 +34,7 @@ proved M = record {
   of-open = open-proof.met;
   of-create = create-proof.met;
   of-add = add-proof.met;
+  of-add-ranges = add-ranges-proof.met;
   of-delete = delete-proof.met;
   of-commit = commit-proof.met;
   of-advance = advance-proof.met;
@@ -44,6 +47,7 @@ proved M = record {
   of-ds-open = ds-open-proof.met;
   of-ds-create = ds-create-proof.met;
   of-ds-add = ds-add-proof.met;
+  of-ds-add-ranges = ds-add-ranges-proof.met;
   of-ds-delete = ds-delete-proof.met;
   of-ds-commit = ds-commit-proof.met;
   of-ds-advance = ds-advance-proof.met;

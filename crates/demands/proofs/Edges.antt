@@ -14,7 +14,7 @@ use Rattle.search.specs.Free.{bodyUsed, usedSlots, copies, lowestFree, takerOf}
 use Rattle.model.specs.Answer.{ended}
 use Rattle.store.specs.Outcome.{outcome}
 use Rattle.store.specs.Checks.{shapeCheck, tableCheck, makeCheck, storeCheck, createCheck}
-use Rattle.store.specs.State.{stateIn, stateOf}
+use Rattle.store.specs.State.{heldIn, stateIn, stateOf}
 use Rattle.store.specs.Calls.{freshWord, makePlan, makeCall, createWords, createCall}
 use Rattle.store.specs.Means.{listMeans}
 use Rattle.add.specs.Add.{addCheck, raiseChange, changeWith, addWords, addBytes, addCall}
@@ -27,7 +27,7 @@ use Rattle.demands.specs.Starred.{actsHold, scenarioHolds, allHold, edge
 pub edges-hold : allHold edgeHolds starred ≡ true
 unfolding all first count nth pairs namesOk effective journaled sameCell cellPlan findIn holdsIn lengthsOk headerOk handleOk headOk entryOk
     parentOk apart ruleOk pairsOk tableOk stepsIn sourceIn valueIn depthNamed bodyUsed usedSlots copies lowestFree takerOf ended outcome shapeCheck tableCheck
-    makeCheck storeCheck createCheck stateIn stateOf freshWord makePlan makeCall createWords createCall listMeans addCheck raiseChange changeWith addWords
+    makeCheck storeCheck createCheck heldIn stateIn stateOf freshWord makePlan makeCall createWords createCall listMeans addCheck raiseChange changeWith addWords
     addBytes addCall deleteCheck deleteChange deleteWords deleteCall commitCheck commitChange commitWords commitCall advanceCheck
     advanceWords advanceBytes advanceCall restoreCheck restoreBytes restoreChange restoreWords restoreCall actsHold scenarioHolds
 edges-hold = refl

@@ -11,6 +11,7 @@ use lib.ListN.{length}
 use Rattle.words.specs.Layout.{cellsOf, bodiesOf}
 use Rattle.words.specs.Journal.{pending}
 use Rattle.words.proofs.Scan.{by-bool}
+use Rattle.ranges.specs.Ranges.{oneRange}
 use Rattle.table.proofs.Checks.{lengths-facts}
 use Rattle.model.specs.State.{State}
 use Rattle.model.specs.Answer.{isDone, isStopped, isRefused, ended, View, stepsOf}
@@ -30,7 +31,7 @@ use Rattle.store.proofs.Making.{make-none}
 use Rattle.store.proofs.Means.{visibleOf, long, make-means, open-means}
 use Rattle.store.proofs.Pending.{afterPending}
 use Rattle.store.proofs.Standing.{stands-for, only-state}
-use Rattle.add.proofs.Added.{add-takes, add-is, add-with-means, add-with-reopens}
+use Rattle.add.proofs.Added.{add-means, add-takes, add-is, add-with-means, add-with-reopens}
 use Rattle.advance.proofs.Advanced.{advance-takes, advance-is, advance-steps, advance-with-means, advance-with-reopens}
 use Rattle.look.proofs.Placing.{look-means, look-within}
 use Rattle.look.proofs.Shown.{look-tells}
@@ -127,6 +128,7 @@ demand-2 = record {
   look-tells = look-tells;
   look-within = look-within;
   list-shows = list-shows;
+  plain-shows = λ h first n kind rule label k b. add-means h (oneRange first n kind rule label) k b;
   make-stepped = λ b. stepped (makeCall b) b;
   open-stepped = λ b. stepped (openCall b) b;
   call-stepped = call-stepped;
@@ -136,10 +138,7 @@ demand-2 = record {
   done-ready = done-ready;
   add-takes = add-takes;
   add-is = add-is;
-  add-any = λ h first n kind rule label b slot body may. record {
-    shown = add-with-means h first n kind rule label b slot body may;
-    reopens = add-with-reopens h first n kind rule label b slot body may;
-  };
+  add-any = λ h rs b slot body may. record { shown = add-with-means h rs b slot body may; reopens = add-with-reopens h rs b slot body may };
   advance-takes = advance-takes;
   advance-is = advance-is;
   advance-any = λ h b body may. record { shown = advance-with-means h b body may; reopens = advance-with-reopens h b body may };

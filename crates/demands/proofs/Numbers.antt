@@ -1,4 +1,4 @@
--- A refusal has the number of one of document 01's questions. Assumes nothing.
+-- A refusal has the number of one of the documents' questions. Assumes nothing.
 use Prim.Native.Nat.{ℕ, zero, suc}
 use mathlib.Core.Bool.{true}
 use mathlib.Core.List.{List}

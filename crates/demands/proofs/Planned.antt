@@ -8,6 +8,7 @@ use lib.ListN.{length, take}
 use lib.Seq.{take-nil}
 use Rattle.words.specs.Layout.{cellsOf, bodiesOf, pairsAt}
 use Rattle.words.specs.Stores.{Store, stores}
+use Rattle.ranges.specs.declared.Range.{Range}
 use Rattle.table.specs.Entry.{nextHandle}
 use Rattle.search.specs.Domain.{depthNamed}
 use Rattle.search.proofs.Domain.{depth-small}
@@ -23,7 +24,7 @@ use Rattle.store.proofs.Changes.{change-length}
 use Rattle.store.proofs.Created.{create-words}
 use Rattle.store.proofs.Reopened.{Shaped, whole-bytes, changes-shaped}
 use Rattle.add.specs.Add.{addCheck, addBytes, addWords, addCall}
-use Rattle.add.proofs.Asking.{add-ready}
+use Rattle.add.proofs.Readied.{add-ready}
 use Rattle.add.proofs.Added.{add-bound}
 use Rattle.delete.specs.Delete.{deleteCheck, deleteWords, deleteCall}
 use Rattle.delete.proofs.Deleted.{check-store as delete-store, check-passed as delete-passed, delete-steps, delete-bound}
@@ -81,15 +82,15 @@ module _ (b : Buffers) where
       change-planned _ b (createCheck (lentOf b)) [] (createWords (b .table)) (nextHandle (b .table)) (λ k. refl)
       (λ q. at-most (change-length (pairsAt (slots b)) [] (createWords (b .table)) ∙ ap (stepsOf 0) (create-words (b .table))) (change-bound 0 3 (slots b) (omega arith) (omega arith)))
 
-  pub add-planned : (h first n i u l : ℕ) → Planned (λ k. outcome (addCall h first n i u l b) k b) b
+  pub add-planned : (h : ℕ) (rs : List Range) → Planned (λ k. outcome (addCall h rs b) k b) b
   unfolding addCall
-  add-planned h first n i u l =
-      let bytes = addBytes (bodiesOf (length (b .bodies))) (b .memory) (b .table) first n i in
-      let ws = addWords (bodiesOf (length (b .bodies))) (b .table) first n i u l in
-      change-planned _ b (addCheck b h first n i u l) bytes ws 0 (λ k. refl)
+  add-planned h rs =
+      let bytes = addBytes (bodiesOf (length (b .bodies))) (b .memory) (b .table) rs in
+      let ws = addWords (cellsOf (length (b .memory))) (bodiesOf (length (b .bodies))) (b .table) rs in
+      change-planned _ b (addCheck b h rs) bytes ws 0 (λ k. refl)
       (λ q.
       at-most (change-length (pairsAt (slots b)) bytes ws)
-      (add-bound (b .memory) (b .bodies) (b .table) first n i u l (add-ready (b .memory) (b .bodies) (b .table) h first n i u l q)))
+      (add-bound (b .memory) (b .bodies) (b .table) rs (add-ready (b .memory) (b .bodies) (b .table) h rs q)))
 
   pub delete-planned : (h first n : ℕ) → Planned (λ k. outcome (deleteCall h first n b) k b) b
   unfolding deleteCall

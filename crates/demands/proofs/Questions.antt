@@ -1,17 +1,20 @@
--- The numbers by which the questions refuse are those of document 01's questions. Assumes nothing.
+-- The numbers by which the questions refuse are those of the documents' questions. Assumes nothing.
 use Prim.Native.Nat.{ℕ, zero, suc, _+_}
 use mathlib.Core.Bool.{Bool, true, false, not, _&&_, _||_}
-use mathlib.Core.List.{List}
+use mathlib.Core.List.{List, [], _∷_}
 use mathlib.Core.Path.{_≡_, refl, ap, subst}
 use native.Mathlib.Omega.{arith}
 use lib.Dec.{leb, ltb, eqb}
 use lib.ListN.{length}
 use Rattle.words.specs.Scan.{all}
 use Rattle.words.specs.Journal.{pending}
+use Rattle.ranges.specs.declared.Range.{Range}
+use Rattle.ranges.specs.Ranges.{listOk}
 use Rattle.model.specs.State.{State}
 use Rattle.model.specs.Answer.{ask, orElse}
 use Rattle.model.specs.Calls.{Effect, refuse, change, orRefuse, createChecks}
-use Rattle.model.specs.Holdings.{Room, named, holdingAt, isHeld, heldVia, isVia, isSome, ruleOf, hasBody, liveEntries, copiesInUse, isLive, isInnermost, rangeOk, kindNumbered, newlyHeld, parentHolds, parentSame, ruleFits, parentPlain, changedCells, parentCovers, addChecks, deleteChecks, advanceChecks, commitChecks}
+use Rattle.model.specs.Holdings.{Room, named, holdingAt, isHeld, heldVia, isVia, isSome, ruleOf, liveEntries, copiesInUse, isLive, isInnermost, rangeOk, kindNumbered, parentHolds, parentSame, ruleFits, parentPlain, changedCells, parentCovers}
+use Rattle.model.specs.Holdings.{addRange, addRanges, newlyHeld, newBodies, rangeChecks, listChecks, addChecks, deleteChecks, advanceChecks, commitChecks}
 use Rattle.model.specs.Restore.{restoreChecks, lookChecks}
 use Rattle.store.specs.Outcome.{Buffers}
 use Rattle.store.specs.Checks.{shapeCheck, tableCheck, makeCheck, openCheck, storeCheck, lentOf}
@@ -78,22 +81,33 @@ pub fine-refuse : (q x w h : ℕ) (new : State) → Fine q → FineEffect (orRef
 fine-refuse zero x w h new f = changes-fine x w h new
 fine-refuse (suc q) x w h new f = record { number = λ n e. subst (λ (k : ℕ). isQuestion k ≡ true) (ap (refusalOf 0) e) (f .number q refl) }
 
+-- ---- a range's questions, a list's, and each call's
+
+range-fine : (m : ℕ) (memory : List ℕ) (r : Range) (s : State) (rest : ℕ) → Fine rest → Fine (rangeChecks m memory r s rest)
+range-fine m memory r s rest f =
+    fine-ask (leb (r .kind) 2 && leb (r .label) 1) 7 _ refl
+    (fine-ask (rangeOk m (r .first) (r .count)) 8 _ refl
+    (fine-ask (not (isVia (kindNumbered (r .kind) (r .rule))) || parentHolds (r .first) (r .count) s) 11 _ refl
+    (fine-ask (not (isVia (kindNumbered (r .kind) (r .rule))) || parentSame memory (r .first) (r .count) s) 12 _ refl
+    (fine-ask (not (isSome (ruleOf (kindNumbered (r .kind) (r .rule)))) || ruleFits memory (r .rule) (r .first) (r .count) s) 18 _ refl
+    (fine-ask (not (isVia (kindNumbered (r .kind) (r .rule))) || parentPlain (r .first) (r .count) s) 19 _ refl f)))))
+
+list-fine : (m : ℕ) (memory : List ℕ) (rs : List Range) (s : State) (rest : ℕ) → Fine rest → Fine (listChecks m memory rs s rest)
+list-fine m memory [] s rest f = f
+list-fine m memory (r ∷ rs) s rest f = range-fine m memory r s _ (list-fine m memory rs (addRange memory r s) rest f)
+
 module _ (room : Room) (memory : List ℕ) (s : State) where
   pub create-fine : Fine (createChecks s)
   create-fine = fine-ask (ltb (length (s .domains)) 8) 9 _ refl (fine-ask (ltb (s .next) 4_294_967_295) 10 0 refl fine-none)
 
-  pub add-fine : (h first n k r l : ℕ) → Fine (addChecks room memory h first n k r l s)
-  add-fine h first n k r l =
+  pub add-fine : (h : ℕ) (rs : List Range) → Fine (addChecks room memory h rs s)
+  add-fine h rs =
       fine-ask (isLive h s) 5 _ refl
       (fine-ask (isInnermost h s) 6 _ refl
-      (fine-ask (leb k 2 && leb l 1) 7 _ refl
-      (fine-ask (rangeOk (room .cells) first n) 8 _ refl
-      (fine-ask (not (isVia (kindNumbered k r)) || parentHolds first n s) 11 _ refl
-      (fine-ask (not (isVia (kindNumbered k r)) || parentSame memory first n s) 12 _ refl
-      (fine-ask (not (isSome (ruleOf (kindNumbered k r))) || ruleFits memory r first n s) 18 _ refl
-      (fine-ask (not (isVia (kindNumbered k r)) || parentPlain first n s) 19 _ refl
-      (fine-ask (leb (liveEntries (room .cells) s + newlyHeld first n s) (room .slots)) 16 _ refl
-      (fine-ask (not (hasBody (kindNumbered k r)) || leb (copiesInUse (room .cells) s + newlyHeld first n s) (room .bodies)) 17 0 refl fine-none)))))))))
+      (fine-ask (listOk rs) 20 _ refl
+      (list-fine (room .cells) memory rs s _
+      (fine-ask (leb (liveEntries (room .cells) s + newlyHeld (room .cells) s (addRanges memory rs s)) (room .slots)) 16 _ refl
+      (fine-ask (leb (copiesInUse (room .cells) s + newBodies (room .cells) s (addRanges memory rs s)) (room .bodies)) 17 0 refl fine-none)))))
 
   pub delete-fine : (m h first n : ℕ) → Fine (deleteChecks m h first n s)
   delete-fine m h first n =

@@ -1,14 +1,22 @@
 -- Demand 1: what is refused, by which number, and that a refusal changes nothing. Assumes nothing.
 use Prim.Native.Nat.{ℕ, suc}
-use mathlib.Core.Bool.{true, false, false≢true}
+use mathlib.Core.Bool.{true, false, false≢true, _&&_}
+use mathlib.Core.List.{List, [], _∷_, _++_}
 use mathlib.Core.Path.{_≡_, ap, subst, _∙_}
-use borrow.Author.Tests.{ne-eqb, eq-eqb}
+use borrow.Author.Tests.{ne-eqb, eq-eqb, eqb-true}
+use lib.Dec.{leb}
+use lib.ListN.{length}
+use Rattle.words.specs.Layout.{cellsOf}
 use Rattle.words.specs.Journal.{pending}
+use Rattle.ranges.specs.declared.Range.{Range}
+use Rattle.model.specs.State.{State}
 use Rattle.model.specs.Answer.{isRefused, Report, refused, View}
 use Rattle.model.specs.Calls.{Effect, refuse, viewedWith}
+use Rattle.model.specs.Holdings.{rangeOk, addRange, listChecks}
 use Rattle.model.specs.History.{add, delete, look, Request, changes, reads}
 use Rattle.model.specs.Session.{Input, make, call, opening, write, effectOf, memoryAt, viewOf}
 use Rattle.model.proofs.Told.{Finished}
+use Rattle.model.proofs.Ranged.{range-asked}
 use Rattle.store.specs.Outcome.{Buffers, Outcome, outcome, leaves}
 use Rattle.store.specs.Checks.{shapeCheck, tableCheck, makeCheck, openCheck, storeCheck}
 use Rattle.store.specs.State.{stateOf}
@@ -91,6 +99,14 @@ state-refuses c k q b good e =
     let r : (callOn c k b) .report ≡ refused q = ap (λ (v : View). v .report) (call-means c k b good) ∙ v in
     refused-outcome _ q b r (call-kept c k b (ap (λ (x : Report). x .status) r))
 
+-- a list in which the first range that is not right lies past memory
+past-list : (m : ℕ) (memory : List ℕ) (before : List Range) (r : Range) (after : List Range) (s : State) (rest : ℕ) → listChecks m memory before s 0 ≡ 0
+    → (leb (r .kind) 2 && leb (r .label) 1) ≡ true → rangeOk m (r .first) (r .count) ≡ false → listChecks m memory (before ++ r ∷ after) s rest ≡ 8
+past-list m memory [] r after s rest q kinds range = rw (kinds, range)
+past-list m memory (p ∷ ps) r after s rest q kinds range =
+    let y = range-asked m memory p s _ q in
+    rw (y .numbers, y .lies, y .holds, y .same, y .rules, y .plain) (past-list m memory ps r after (addRange memory p s) rest (y .onward) kinds range)
+
 wrong-length : (i : Input) (b : Buffers) → isCall i ≡ true → lengthsRight b ≡ false → inputOn i b ≡ leaves (refused 1) b
 wrong-length (make k) b c e = make-refuses k b e
 wrong-length (call c k) b _ e = call-refuses c k 0 b (asked-1 b e)
@@ -113,7 +129,10 @@ demand-1 = record {
   wrong-table = λ c k b e f p t. call-refuses c k 3 b (asked-4 b e f p t);
   wrong-table-opening = λ k b e f t. open-refuses k 3 b (opens-4 b e f t);
   stale-handle = λ c h k b good e d. state-refuses c k 5 b good (facts c b .dead h e d);
-  past-add = λ h first n kind rule label k b good live inner kinds range. state-refuses (changes (add h first n kind rule label)) k 8 b good (rw (live, inner, kinds, range));
+  past-add = λ h k before r after b good live inner few right kinds range.
+      state-refuses (changes (add h (before ++ r ∷ after))) k 8 b good
+      (rw (live, inner, few, past-list (cellsOf (length (b .memory))) (b .memory) before r after (stateOf b) _ (eqb-true _ 0 right) kinds range));
   past-delete = λ h first n k b good live range. state-refuses (changes (delete h first n)) k 8 b good (rw (live, range));
   past-look = λ h c k b good live range. state-refuses (reads (look h c)) k 8 b good (rw (live, range));
+  wrong-list = λ h k rs b good live inner few. state-refuses (changes (add h rs)) k 20 b good (rw (live, inner, few));
 }

@@ -11,9 +11,9 @@ use Rattle.model.specs.Answer.{Status, isDone, isStopped, isRefused}
 use Rattle.model.specs.History.{create, add, delete, advance, changes, restore, Event, made, called, opened, written, Observation, observed, begun, counts}
 use Rattle.model.specs.Session.{Input, call, opening, write}
 use Rattle.store.specs.Outcome.{Buffers}
-use Rattle.demands.specs.Session.{session, openingRule}
+use Rattle.demands.specs.Session.{plainAdd, session, openingRule}
 use Rattle.demands.specs.Demands.{madeFrom}
-use Rattle.demands.specs.Starred.{scenario, initialBuffers, byCopy, noRule, readWrite}
+use Rattle.demands.specs.Starred.{scenario, initialBuffers, byCopy, noRule, readWrite, copied}
 
 -- a fresh store of two cells, three entry slots and three bodies; every byte of memory is 1
 abbrev pub start : Buffers
@@ -78,9 +78,9 @@ LinesHold (l ∷ ls) = LineHolds l × LinesHold ls
 abbrev pub creates : Input
 creates = call (changes create) 100
 
--- every add is by copy and read-write; add and delete name a handle, a first cell and a count
+-- every add is by copy and read-write; a plain add and delete name a handle, a first cell and a count
 abbrev pub adds : (h first n : ℕ) → Input
-adds h first n = call (changes (add h first n byCopy noRule readWrite)) 200
+adds h first n = call (changes (plainAdd h first n byCopy noRule readWrite)) 200
 
 abbrev pub deletes : (h first n : ℕ) → Input
 deletes h first n = call (changes (delete h first n)) 100
@@ -132,5 +132,11 @@ cutInside =
     ∷ call (restore 2) 100 ∷ call (restore 1) 100 ∷ [])
     (0 ∷ 0 ∷ []) (0 ∷ 64 ∷ []) (0 ∷ 64 ∷ [])
 
+-- one add of two ranges, cell 1 and cell 0, cut in its table part and carried out by opening: both cells are held, and count
+abbrev pub twoRanges : Line
+twoRanges =
+    line (creates ∷ call (changes (add 1 (copied 1 1 ∷ copied 0 1 ∷ []))) 138 ∷ opening 100 ∷ fills 0 9 ∷ fills 1 9 ∷ call (restore 1) 200 ∷ [])
+    (0 ∷ []) (64 ∷ []) (64 ∷ [])
+
 abbrev pub countedLines : List Line
-countedLines = wroteBoth ∷ twoRestores ∷ lateRestore ∷ deletedCell ∷ deletedAround ∷ deletedInside ∷ cutInside ∷ []
+countedLines = wroteBoth ∷ twoRestores ∷ lateRestore ∷ deletedCell ∷ deletedAround ∷ deletedInside ∷ cutInside ∷ twoRanges ∷ []

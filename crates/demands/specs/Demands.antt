@@ -13,19 +13,22 @@ use lib.ListN.{length, take}
 use Rattle.words.specs.Layout.{cellsOf, bodiesOf}
 use Rattle.words.specs.Scan.{count}
 use Rattle.words.specs.Journal.{pending}
+use Rattle.ranges.specs.declared.Range.{Range}
+use Rattle.ranges.specs.Ranges.{listOk}
 use Rattle.table.specs.Checks.{lengthsOk, headerOk}
 use Rattle.table.specs.Rule.{tableOk}
 use Rattle.model.specs.State.{State}
 use Rattle.model.specs.Answer.{Status, isDone, isStopped, isRefused, done, refused, ended, View}
 use Rattle.model.specs.Calls.{change, makeSteps, listed}
-use Rattle.model.specs.Holdings.{named, isLive, isInnermost, rangeOk}
+use Rattle.model.specs.Holdings.{named, isLive, isInnermost, rangeOk, listChecks}
 use Rattle.model.specs.History.{create, add, delete, advance, commit, list, look, Request, changes, restore, reads, History, Tracked, begun, finished, trackedAt, mismatches, counts, historyAfter}
 use Rattle.model.specs.Session.{Input, make, call, opening, write, effectOf, memoryAfter, viewOf, Mixed, AllZero, Agrees}
+use Rattle.model.proofs.Ranged.{plainEffect}
 use Rattle.store.specs.Outcome.{Buffers, Step, step, steps, Call, Outcome, outcome, leaves}
 use Rattle.store.specs.Checks.{openCheck, storeCheck, lentOf}
 use Rattle.store.specs.State.{StandsFor, slots, effectiveTable, stateOf, standing}
 use Rattle.store.specs.Calls.{makeCall, openCall, openingAfter}
-use Rattle.store.specs.Means.{visibleOf, orRefused, Reopens, makeMeans, openMeans, listMeans, roomOf}
+use Rattle.store.specs.Means.{visibleOf, orRefused, Reopens, makeMeans, openMeans, callMeans, listMeans, roomOf}
 use Rattle.add.specs.Add as add-calls
 use Rattle.add.specs.Add.{addCall, addMeans}
 use Rattle.add.specs.Choice as adding
@@ -37,6 +40,7 @@ use Rattle.begin.proofs.open.Statement as open-contract
 use Rattle.begin.proofs.create.Statement as create-contract
 use Rattle.begin.proofs.list.Statement as list-contract
 use Rattle.add.proofs.add.Statement as add-contract
+use Rattle.add.proofs.add_ranges.Statement as add-ranges-contract
 use Rattle.delete.proofs.delete.Statement as delete-contract
 use Rattle.commit.proofs.commit.Statement as commit-contract
 use Rattle.advance.proofs.advance.Statement as advance-contract
@@ -48,21 +52,23 @@ use Rattle.domain_store.proofs.ds_make.Statement as ds-make-contract
 use Rattle.domain_store.proofs.ds_open.Statement as ds-open-contract
 use Rattle.domain_store.proofs.ds_create.Statement as ds-create-contract
 use Rattle.domain_store.proofs.ds_add.Statement as ds-add-contract
+use Rattle.domain_store.proofs.ds_add_ranges.Statement as ds-add-ranges-contract
 use Rattle.domain_store.proofs.ds_delete.Statement as ds-delete-contract
 use Rattle.domain_store.proofs.ds_commit.Statement as ds-commit-contract
 use Rattle.domain_store.proofs.ds_advance.Statement as ds-advance-contract
 use Rattle.domain_store.proofs.ds_restore.Statement as ds-restore-contract
 use Rattle.domain_store.proofs.ds_list.Statement as ds-list-contract
 use Rattle.domain_store.proofs.ds_look.Statement as ds-look-contract
-use Rattle.demands.specs.Session.{callOn, inputOn, session, buffersAfter, wasStopped, openingRule}
+use Rattle.demands.specs.Session.{plainAdd, callOn, inputOn, session, buffersAfter, wasStopped, openingRule}
 
--- ---- the proved contract of each exported call, and of the ten functions of C
+-- ---- the proved contract of each exported call, and of the eleven functions of C
 
 pub record Proved (M : Type 1) : Type 2 where
   pub of-make : make-contract.statement M
   pub of-open : open-contract.statement M
   pub of-create : create-contract.statement M
   pub of-add : add-contract.statement M
+  pub of-add-ranges : add-ranges-contract.statement M
   pub of-delete : delete-contract.statement M
   pub of-commit : commit-contract.statement M
   pub of-advance : advance-contract.statement M
@@ -75,6 +81,7 @@ pub record Proved (M : Type 1) : Type 2 where
   pub of-ds-open : ds-open-contract.statement M
   pub of-ds-create : ds-create-contract.statement M
   pub of-ds-add : ds-add-contract.statement M
+  pub of-ds-add-ranges : ds-add-ranges-contract.statement M
   pub of-ds-delete : ds-delete-contract.statement M
   pub of-ds-commit : ds-commit-contract.statement M
   pub of-ds-advance : ds-advance-contract.statement M
@@ -117,7 +124,7 @@ isLater (write ws) = false
 -- the handle that a call names
 abbrev pub handleOf : Request → Option ℕ
 handleOf (changes create) = none
-handleOf (changes (add h first n kind rule label)) = some h
+handleOf (changes (add h rs)) = some h
 handleOf (changes (delete h first n)) = some h
 handleOf (changes (advance h)) = some h
 handleOf (changes (commit h)) = some h
@@ -125,9 +132,13 @@ handleOf (restore h) = some h
 handleOf (reads list) = none
 handleOf (reads (look h c)) = some h
 
--- "the number in document 01": that of one of its questions, 1 to 17, or of document 02's 18 and 19
+-- "the number in document 01": that of one of its questions, 1 to 17, or of document 02's 18, 19 and 20
 abbrev pub isQuestion : ℕ → Bool
-isQuestion n = leb 1 n && leb n 19
+isQuestion n = leb 1 n && leb n 20
+
+-- are the questions on these ranges, put range by range, all answered yes?
+abbrev pub rangesRight : List Range → Buffers → Bool
+rangesRight rs b = eqb (listChecks (cellsOf (length (b .memory))) (b .memory) rs (stateOf b) 0) 0
 
 pub record Demand1 : Type 0 where
   -- a refusal has the number of a question
@@ -147,14 +158,17 @@ pub record Demand1 : Type 0 where
   -- "a dead handle"
   pub stale-handle : (c : Request) (h k : ℕ) (b : Buffers) → asked b ≡ 0 → handleOf c ≡ some h → isLive h (stateOf b) ≡ false
       → callOn c k b ≡ leaves (refused 5) b
-  -- "or a range past the memory"
-  pub past-add : (h first n kind rule label k : ℕ) (b : Buffers) → asked b ≡ 0 → isLive h (stateOf b) ≡ true → isInnermost h (stateOf b) ≡ true
-      → (leb kind 2 && leb label 1) ≡ true → rangeOk (cellsOf (length (b .memory))) first n ≡ false
-      → callOn (changes (add h first n kind rule label)) k b ≡ leaves (refused 8) b
+  -- "or a range past the memory", of an add the first range in its list that is not right
+  pub past-add : (h k : ℕ) (before : List Range) (r : Range) (after : List Range) (b : Buffers) → asked b ≡ 0 → isLive h (stateOf b) ≡ true
+      → isInnermost h (stateOf b) ≡ true → listOk (before ++ r ∷ after) ≡ true → rangesRight before b ≡ true → (leb (r .kind) 2 && leb (r .label) 1) ≡ true
+      → rangeOk (cellsOf (length (b .memory))) (r .first) (r .count) ≡ false → callOn (changes (add h (before ++ r ∷ after))) k b ≡ leaves (refused 8) b
   pub past-delete : (h first n k : ℕ) (b : Buffers) → asked b ≡ 0 → isLive h (stateOf b) ≡ true → rangeOk (cellsOf (length (b .memory))) first n ≡ false
       → callOn (changes (delete h first n)) k b ≡ leaves (refused 8) b
   pub past-look : (h c k : ℕ) (b : Buffers) → asked b ≡ 0 → isLive h (stateOf b) ≡ true → rangeOk (cellsOf (length (b .memory))) c 1 ≡ false
       → callOn (reads (look h c)) k b ≡ leaves (refused 8) b
+  -- document 02: "20, after question 6: fewer than 1 or more than 64 records"
+  pub wrong-list : (h k : ℕ) (rs : List Range) (b : Buffers) → asked b ≡ 0 → isLive h (stateOf b) ≡ true → isInnermost h (stateOf b) ≡ true
+      → listOk rs ≡ false → callOn (changes (add h rs)) k b ≡ leaves (refused 20) b
 
 -- ---- demand 2: "Each call answers and leaves the holdings as the containment domain API of 2012 says, with the choices of document 01"
 
@@ -193,11 +207,11 @@ pub record Reopened (c : Request) (b left final : Buffers) : Type 0 where
 
 -- "Two things are left free: which entries and bodies a call takes, though each was free before the call": the lowest free ones, which
 -- the contracts name, and what it is for a call to mean this and to be found after every cut as wholly made or not made
-abbrev pub lowestSlot : (first : ℕ) → Buffers → (j : ℕ) → ℕ
-lowestSlot first b = add-calls.slotFor (slots b) (b .table) first
+abbrev pub lowestSlot : List Range → Buffers → (c : ℕ) → ℕ
+lowestSlot rs b = add-calls.slotFor (slots b) (b .table) rs
 
-abbrev pub lowestBody : (first : ℕ) → Buffers → (j : ℕ) → ℕ
-lowestBody first b = add-calls.bodyFor (slots b) (bodiesOf (length (b .bodies))) (b .table) first
+abbrev pub lowestBody : List Range → Buffers → (c : ℕ) → ℕ
+lowestBody rs b = add-calls.bodyFor (slots b) (bodiesOf (length (b .bodies))) (b .table) rs
 
 -- "With k such cells an advance takes at most 70k + 2 steps, and none when k is 0": of n cells that advance, exactly so many
 abbrev pub advanceSteps : (n : ℕ) → ℕ
@@ -250,6 +264,9 @@ pub record Demand2 : Type 0 where
   pub look-within : (h c : ℕ) (b : Buffers) → placeWithin (lookPlace h c b) b
   -- (`listMeans` is what list's contract is an equation with, `of-list`)
   pub list-shows : (b : Buffers) → asked b ≡ 0 → listMeans b ≡ listed (stateOf b)
+  -- the plain add, which is the list of its one range: put the questions on that range, then those on room, it adds that range
+  pub plain-shows : (h first n kind rule label k : ℕ) (b : Buffers)
+      → visibleOf (callOn (changes (plainAdd h first n kind rule label)) k b) ≡ callMeans (plainEffect (roomOf b) (b .memory) h first n kind rule label) k b
   -- one store a step, and no other
   pub make-stepped : (b : Buffers) → Stepped (λ k. outcome (makeCall b) k b) b
   pub open-stepped : (b : Buffers) → Stepped (λ k. outcome (openCall b) k b) b
@@ -262,10 +279,10 @@ pub record Demand2 : Type 0 where
   pub done-ready : (i : Input) (b : Buffers) → isCall i ≡ true → (inputOn i b) .report .status ≡ isDone → asked ((inputOn i b) .buffers) ≡ 0
   -- the slots and bodies that add takes, and the bodies that advance takes, were free before the call and differ; and with any such places each means
   -- the same
-  pub add-takes : (h first n kind rule label : ℕ) (b : Buffers) → adding.MayTake h first n kind rule label b (lowestSlot first b) (lowestBody first b)
-  pub add-is : (h first n kind rule label : ℕ) (b : Buffers) → addCall h first n kind rule label b ≡ adding.addWith (lowestSlot first b) (lowestBody first b) h first n kind rule label b
-  pub add-any : (h first n kind rule label : ℕ) (b : Buffers) (slot body : ℕ → ℕ) → adding.MayTake h first n kind rule label b slot body
-      → Means (adding.addWith slot body h first n kind rule label b) (λ k. addMeans h first n kind rule label k b) b
+  pub add-takes : (h : ℕ) (rs : List Range) (b : Buffers) → adding.MayTake h rs b (lowestSlot rs b) (lowestBody rs b)
+  pub add-is : (h : ℕ) (rs : List Range) (b : Buffers) → addCall h rs b ≡ adding.addWith (lowestSlot rs b) (lowestBody rs b) h rs b
+  pub add-any : (h : ℕ) (rs : List Range) (b : Buffers) (slot body : ℕ → ℕ) → adding.MayTake h rs b slot body
+      → Means (adding.addWith slot body h rs b) (λ k. addMeans h rs k b) b
   pub advance-takes : (h : ℕ) (b : Buffers) → advancing.MayTake h b (bodyFor b)
   pub advance-is : (h : ℕ) (b : Buffers) → advanceCall h b ≡ advancing.advanceWith (bodyFor b) h b
   pub advance-any : (h : ℕ) (b : Buffers) (body : ℕ → ℕ) → advancing.MayTake h b body → Means (advancing.advanceWith body h b) (λ k. advanceMeans h k b) b

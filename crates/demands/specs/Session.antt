@@ -4,6 +4,7 @@ use Prim.Native.Nat.{ℕ}
 use mathlib.Core.Bool.{Bool, true, false, not, _&&_, _||_}
 use mathlib.Core.List.{List, [], _∷_}
 use Rattle.words.specs.Stores.{stores}
+use Rattle.ranges.specs.Ranges.{oneRange}
 use Rattle.model.specs.Answer.{Status, isDone, isStopped, isRefused, Report, done}
 use Rattle.model.specs.History.{Changing, create, add, delete, advance, commit, Reading, list, look, Request, changes, restore, reads, Observation, observed}
 use Rattle.model.specs.Session.{Input, make, call, opening, write, shown}
@@ -17,10 +18,14 @@ use Rattle.commit.specs.Commit.{commitCall}
 use Rattle.restore.specs.Restore.{restoreCall}
 use Rattle.look.specs.Look.{lookPlace, placeReport}
 
+-- the plain add: the list of its one range
+abbrev pub plainAdd : (h first n kind rule label : ℕ) → Changing
+plainAdd h first n k u l = add h (oneRange first n k u l)
+
 -- a changing call as its contract has it
 abbrev pub changeCall : Changing → Buffers → Call
 changeCall create b = createCall b
-changeCall (add h first n kind rule label) b = addCall h first n kind rule label b
+changeCall (add h rs) b = addCall h rs b
 changeCall (delete h first n) b = deleteCall h first n b
 changeCall (advance h) b = advanceCall h b
 changeCall (commit h) b = commitCall h b

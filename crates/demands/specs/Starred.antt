@@ -1,4 +1,4 @@
--- Document 01, "Edges to run": the lines marked *, as data, and what it is for them to hold. The acts are played one
+-- Document 01, "Edges to run": the lines marked *, and edges of document 02's A.3, as data, and what it is for them to hold. The acts are played one
 -- after the other on the buffers by the step of a session, which is made of the definitions that the contracts cite.
 use Prim.Native.Nat.{ℕ, _+_}
 use mathlib.Core.Bool.{Bool, true, false, _&&_}
@@ -7,12 +7,13 @@ use lib.Dec.{eqb}
 use lib.ListN.{replicate}
 use Rattle.words.specs.Layout.{cellAt, tableWords}
 use Rattle.words.specs.Stores.{_≔_, tab}
+use Rattle.ranges.specs.declared.Range.{Range}
 use Rattle.model.specs.Answer.{Status, isDone, isStopped, isRefused, Report, done}
 use Rattle.model.specs.History.{Changing, create, add, delete, advance, commit, Request, changes, restore}
 use Rattle.model.specs.Session.{make, call, write}
 use Rattle.store.specs.Outcome.{Buffers, buffers, Outcome, leaves}
 use Rattle.store.specs.Means.{listMeans}
-use Rattle.demands.specs.Session.{inputOn}
+use Rattle.demands.specs.Session.{plainAdd, inputOn}
 
 -- ---- edges as data
 
@@ -46,7 +47,7 @@ pub record Scenario : Type 0 where
 abbrev pub scenario : (m e b : ℕ) → List Act → Scenario
 scenario m e b acts = record { cells = m; slots = e; bodies = b; acts = acts }
 
--- a line of document 01: one scenario, or one for each of the sizes that it names
+-- a line of a document: one scenario, or one for each of the sizes that it names
 abbrev pub Edge : Type 0
 Edge = List Scenario
 
@@ -71,45 +72,69 @@ readOnly = 0
 abbrev pub readWrite : ℕ
 readWrite = 1
 
--- ---- the twelve edges, in document 01's order. add names a handle, first cell, count, kind, rule and label; delete a handle, first cell and count.
+-- a record of an add's list: first cell, count, kind, rule and label
+abbrev pub range : (first n kind rule label : ℕ) → Range
+range first n k u l = record { first = first; count = n; kind = k; rule = u; label = l }
+
+-- one by copy and read-write
+abbrev pub copied : (first n : ℕ) → Range
+copied first n = range first n byCopy noRule readWrite
+
+-- ---- the twelve edges, in document 01's order, and five of document 02's A.3. plainAdd names a handle, first cell, count, kind, rule and label; add a
+-- handle and a list of ranges; delete a handle, first cell and count.
 
 abbrev pub starred : List Edge
 starred =
     -- "Domain 1 copies cell 0 = 7 read-write; write 9; restore 1: 7."
-    usual (fill 0 7 ∷ does create ∷ does (add 1 0 1 byCopy noRule readWrite) ∷ fill 0 9 ∷ restores 1 ∷ shows (7 ∷ 1 ∷ 1 ∷ 1 ∷ []) ∷ [])
+    usual (fill 0 7 ∷ does create ∷ does (plainAdd 1 0 1 byCopy noRule readWrite) ∷ fill 0 9 ∷ restores 1 ∷ shows (7 ∷ 1 ∷ 1 ∷ 1 ∷ []) ∷ [])
     -- "Cell 0 held read-write by 2 only; advance: 15."
-    ∷ usual (does create ∷ does create ∷ does (add 2 0 1 byCopy noRule readWrite) ∷ gives (advance 2) 15 ∷ [])
+    ∷ usual (does create ∷ does create ∷ does (plainAdd 2 0 1 byCopy noRule readWrite) ∷ gives (advance 2) 15 ∷ [])
     -- "1 holds 7 read-only, 2 copies it read-write, write 9, commit, advance 1, write 11, restore 1: 9."
-    ∷ usual (fill 0 7 ∷ does create ∷ does (add 1 0 1 byCopy noRule readOnly) ∷ does create ∷ does (add 2 0 1 byCopy noRule readWrite) ∷ fill 0 9
-    ∷ does (commit 2) ∷ does (advance 1) ∷ fill 0 11 ∷ restores 1 ∷ shows (9 ∷ 1 ∷ 1 ∷ 1 ∷ []) ∷ [])
+    ∷ usual (fill 0 7 ∷ does create ∷ does (plainAdd 1 0 1 byCopy noRule readOnly) ∷ does create ∷ does (plainAdd 2 0 1 byCopy noRule readWrite)
+    ∷ fill 0 9 ∷ does (commit 2) ∷ does (advance 1) ∷ fill 0 11 ∷ restores 1 ∷ shows (9 ∷ 1 ∷ 1 ∷ 1 ∷ []) ∷ [])
     -- "1 holds 7, write 9, create 2, add via parent: 12."
-    ∷ usual (fill 0 7 ∷ does create ∷ does (add 1 0 1 byCopy noRule readWrite) ∷ fill 0 9 ∷ does create ∷ gives (add 2 0 1 viaParent noRule readWrite) 12
-    ∷ [])
+    ∷ usual (fill 0 7 ∷ does create ∷ does (plainAdd 1 0 1 byCopy noRule readWrite) ∷ fill 0 9 ∷ does create
+    ∷ gives (plainAdd 2 0 1 viaParent noRule readWrite) 12 ∷ [])
     -- "1 holds 7 read-write, 2 holds it via parent read-write, write 9, add by copy to 2, restore 2: 7."
-    ∷ usual (fill 0 7 ∷ does create ∷ does (add 1 0 1 byCopy noRule readWrite) ∷ does create ∷ does (add 2 0 1 viaParent noRule readWrite) ∷ fill 0 9
-    ∷ does (add 2 0 1 byCopy noRule readWrite) ∷ restores 2 ∷ shows (7 ∷ 1 ∷ 1 ∷ 1 ∷ []) ∷ [])
+    ∷ usual (fill 0 7 ∷ does create ∷ does (plainAdd 1 0 1 byCopy noRule readWrite) ∷ does create ∷ does (plainAdd 2 0 1 viaParent noRule readWrite)
+    ∷ fill 0 9 ∷ does (plainAdd 2 0 1 byCopy noRule readWrite) ∷ restores 2 ∷ shows (7 ∷ 1 ∷ 1 ∷ 1 ∷ []) ∷ [])
     -- "1 holds 7, 2 holds 9, restore 1: 7, one domain live."
-    ∷ usual (fill 0 7 ∷ does create ∷ does (add 1 0 1 byCopy noRule readWrite) ∷ fill 0 9 ∷ does create ∷ does (add 2 0 1 byCopy noRule readWrite)
-    ∷ lists 2 ∷ restores 1 ∷ shows (7 ∷ 1 ∷ 1 ∷ 1 ∷ []) ∷ lists 1 ∷ [])
+    ∷ usual (fill 0 7 ∷ does create ∷ does (plainAdd 1 0 1 byCopy noRule readWrite) ∷ fill 0 9 ∷ does create
+    ∷ does (plainAdd 2 0 1 byCopy noRule readWrite) ∷ lists 2 ∷ restores 1 ∷ shows (7 ∷ 1 ∷ 1 ∷ 1 ∷ []) ∷ lists 1 ∷ [])
     -- "Delete cell 0 from 1 while 2 holds it via parent: 14."
-    ∷ usual (does create ∷ does (add 1 0 1 byCopy noRule readWrite) ∷ does create ∷ does (add 2 0 1 viaParent noRule readWrite) ∷ gives (delete 1 0 1) 14
-    ∷ [])
+    ∷ usual (does create ∷ does (plainAdd 1 0 1 byCopy noRule readWrite) ∷ does create ∷ does (plainAdd 2 0 1 viaParent noRule readWrite)
+    ∷ gives (delete 1 0 1) 14 ∷ [])
     -- "B = 1, one read-write copy, advance: 17. B = 2: done." By document 02 "The earlier case with B = 1 is refused only after a write that changes it"
-    ∷ (scenario 4 8 1 (does create ∷ does (add 1 0 1 byCopy noRule readWrite) ∷ fill 0 9 ∷ gives (advance 1) 17 ∷ [])
-    ∷ scenario 4 8 1 (does create ∷ does (add 1 0 1 byCopy noRule readWrite) ∷ takes (advance 1) 0 ∷ [])
-    ∷ scenario 4 8 2 (does create ∷ does (add 1 0 1 byCopy noRule readWrite) ∷ fill 0 9 ∷ takes (advance 1) 72 ∷ fill 0 11 ∷ restores 1
+    ∷ (scenario 4 8 1 (does create ∷ does (plainAdd 1 0 1 byCopy noRule readWrite) ∷ fill 0 9 ∷ gives (advance 1) 17 ∷ [])
+    ∷ scenario 4 8 1 (does create ∷ does (plainAdd 1 0 1 byCopy noRule readWrite) ∷ takes (advance 1) 0 ∷ [])
+    ∷ scenario 4 8 2 (does create ∷ does (plainAdd 1 0 1 byCopy noRule readWrite) ∷ fill 0 9 ∷ takes (advance 1) 72 ∷ fill 0 11 ∷ restores 1
     ∷ shows (9 ∷ 1 ∷ 1 ∷ 1 ∷ []) ∷ []) ∷ [])
     -- "E = 1, cell 0 held: add cells 0 and 1 gives 16; add cell 0 is done."
-    ∷ (scenario 4 1 8 (does create ∷ does (add 1 0 1 byCopy noRule readWrite) ∷ gives (add 1 0 2 byCopy noRule readWrite) 16
-    ∷ does (add 1 0 1 byCopy noRule readWrite) ∷ []) ∷ [])
+    ∷ (scenario 4 1 8 (does create ∷ does (plainAdd 1 0 1 byCopy noRule readWrite) ∷ gives (plainAdd 1 0 2 byCopy noRule readWrite) 16
+    ∷ does (plainAdd 1 0 1 byCopy noRule readWrite) ∷ []) ∷ [])
     -- "Eighth create done, ninth 9."
     ∷ usual (does create ∷ does create ∷ does create ∷ does create ∷ does create ∷ does create ∷ does create ∷ does create
     ∷ gives create 9 ∷ [])
     -- "First 3, count 1 done; first 4, count 1 gives 8; count 0 gives 8."
-    ∷ usual (does create ∷ does (add 1 3 1 byCopy noRule readWrite) ∷ gives (add 1 4 1 byCopy noRule readWrite) 8 ∷ gives (add 1 3 0 byCopy noRule readWrite) 8
-    ∷ gives (delete 1 4 1) 8 ∷ gives (delete 1 3 0) 8 ∷ does (delete 1 3 1) ∷ [])
+    ∷ usual (does create ∷ does (plainAdd 1 3 1 byCopy noRule readWrite) ∷ gives (plainAdd 1 4 1 byCopy noRule readWrite) 8
+    ∷ gives (plainAdd 1 3 0 byCopy noRule readWrite) 8 ∷ gives (delete 1 4 1) 8 ∷ gives (delete 1 3 0) 8 ∷ does (delete 1 3 1) ∷ [])
     -- "Commit the last domain, restore handle 0: 5."
-    ∷ usual (does create ∷ does (commit 1) ∷ calls (restore 0) 5 ∷ []) ∷ []
+    ∷ usual (does create ∷ does (commit 1) ∷ calls (restore 0) 5 ∷ [])
+    -- "Our tile code has nine ranges to keep together": two, of three cells, by one journal
+    ∷ usual (fill 0 7 ∷ fill 2 8 ∷ does create ∷ takes (add 1 (copied 0 1 ∷ copied 2 2 ∷ [])) 212 ∷ fill 0 9 ∷ fill 2 9 ∷ fill 3 9
+    ∷ restores 1 ∷ shows (7 ∷ 1 ∷ 8 ∷ 1 ∷ []) ∷ [])
+    -- "Ranges act in list order, so a later one finds cells that an earlier one has just taken": via parent, in a domain without one, before the copy, and
+    -- after it, where it makes the copy read-write
+    ∷ usual (does create ∷ gives (add 1 (range 0 1 viaParent noRule readWrite ∷ range 0 1 byCopy noRule readOnly ∷ [])) 11
+    ∷ takes (add 1 (range 0 1 byCopy noRule readOnly ∷ range 0 1 viaParent noRule readWrite ∷ [])) 72 ∷ fill 0 9 ∷ takes (advance 1) 72 ∷ [])
+    -- "Either all are held or none": cell 0 is not held
+    ∷ usual (does create ∷ gives (add 1 (copied 0 1 ∷ copied 4 1 ∷ [])) 8 ∷ gives (delete 1 0 1) 13 ∷ [])
+    -- "The questions on a range are put range by range, those on room once for the whole list": each range has room alone
+    ∷ (scenario 4 1 8 (does create ∷ gives (add 1 (copied 0 1 ∷ copied 1 1 ∷ [])) 16 ∷ gives (add 1 (copied 0 1 ∷ copied 1 1 ∷ copied 4 1 ∷ [])) 8 ∷ [])
+    ∷ scenario 4 8 1 (does create ∷ gives (add 1 (copied 0 1 ∷ copied 1 1 ∷ [])) 17 ∷ []) ∷ [])
+    -- "20, after question 6: fewer than 1 or more than 64 records": with 64 the first range is asked
+    ∷ usual (does create ∷ does create ∷ gives (add 3 []) 5 ∷ gives (add 1 []) 6 ∷ gives (add 2 []) 20
+    ∷ gives (add 2 (replicate 65 (copied 4 1))) 20 ∷ gives (add 2 (replicate 64 (copied 4 1))) 8 ∷ []) ∷ []
 
 -- ---- what it is for an edge to hold
 

@@ -9,17 +9,28 @@ use lib.ListN.{length, getD, set}
 use lib.Seq.{getD-set-same, getD-set-other}
 use Rattle.words.proofs.Scan.{by-bool}
 use Rattle.words.proofs.Plans.{tab-below}
+use Rattle.ranges.specs.declared.Range.{Range}
+use Rattle.ranges.specs.declared.Batch.{Batch}
+use Rattle.ranges.specs.Batch.{noBatch, gathered, batchRanges}
 use Rattle.model.specs.Answer.{Report}
 use Rattle.model.specs.Calls.{Listed}
-use Rattle.store.specs.Outcome.{Buffers, Outcome, leaves}
+use Rattle.store.specs.Outcome.{Buffers, Call, Outcome, outcome, leaves}
+use Rattle.add.specs.Add.{addCall}
+use Rattle.add.proofs.Lists.{same-call}
 use Rattle.look.specs.Look.{placeWithin}
 use Rattle.look.specs.declared.Place.{Place}
 use Rattle.look.specs.declared.Place.the-variants.{Refused, Memory, Bodies, Rule}
 use Rattle.look.proofs.Placing.{memory-within, bodies-within}
-use Rattle.domain_store.specs.Boundary.{numberOf, returned, returnedBy, eight, listedInC, listedBy, lookedInC, lookedBy, offsetWithin}
+use Rattle.domain_store.specs.Boundary.{numberOf, returned, returnedBy, Returns, eight, listedInC, listedBy, lookedInC, lookedBy, offsetWithin}
 
 pub told : (n s : ℕ) (r : Report) (b : Buffers) (o : Outcome) → n ≡ numberOf (r .status) (r .refusal) → s ≡ r .steps → leaves r b ≡ o → returned n s b ≡ returnedBy o
 told n s r b o e f g = (λ i. returned (e i) (f i) b) ∙ ap returnedBy g
+
+-- what is told over the batch d, which is that of the list rs, holds over rs
+pub told-over : (h k : ℕ) (rs : List Range) (d : Batch) → d ≡ gathered noBatch rs → (before after : Buffers) (n s : ℕ)
+    → Returns (addCall h (batchRanges d)) k before n s after → Returns (addCall h rs) k before n s after
+told-over h k rs d e before after n s t =
+    t ∙ ap (λ (x : Batch). returnedBy (outcome (addCall h (batchRanges x) before) k before)) e ∙ ap (λ (c : Call). returnedBy (outcome c k before)) (same-call h rs before)
 
 -- the handle that create names
 pub named : (h : ℕ) (r : Report) (b : Buffers) (o : Outcome) → h ≡ r .handle → leaves r b ≡ o → h ≡ o .report .handle

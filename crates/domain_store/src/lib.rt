@@ -2,9 +2,14 @@
 // case. The budget is a number of the run from the caller on down to the stores.
 use look::Place;
 use look::look_place;
+use ranges::Batch;
+use ranges::Range;
+use ranges::gather;
 use store::Answer;
 ghost use mathlib.Core.Path.{_≡_};
 ghost use lib.ListN.{length};
+ghost use Rattle.ranges.specs.Ranges.{oneRange};
+ghost use Rattle.ranges.specs.Batch.{batchRanges};
 ghost use Rattle.store.specs.Outcome.{buffers, outcome, report};
 ghost use Rattle.store.specs.Calls.{makeCall, openCall, createCall};
 ghost use Rattle.store.specs.Means.{listMeans};
@@ -133,7 +138,7 @@ pub extern "C" fn ds_add(
     budget: u64,
     steps: &mut u64,
 ) -> u32
-    ensures { λ r. ⌜ Returns (addCall handle first count kind rule label) budget (buffers (now (memory .entry)) (now (bodies .entry)) (now (table .entry)))
+    ensures { λ r. ⌜ Returns (addCall handle (oneRange first count kind rule label)) budget (buffers (now (memory .entry)) (now (bodies .entry)) (now (table .entry)))
         r (now (steps .exit)) (buffers (now (memory .entry)) (now (bodies .exit)) (now (table .exit))) ⌝ }
 {
     let answer = add::add(
@@ -149,6 +154,42 @@ pub extern "C" fn ds_add(
         budget as usize,
     );
     tell(answer, steps)
+}
+
+// The same for the ranges of a batch, all of them or none.
+fn ds_add_batch(
+    memory: &[u8],
+    bodies: &mut [u8],
+    table: &mut [u32],
+    handle: u32,
+    batch: Batch,
+    budget: u64,
+    steps: &mut u64,
+) -> u32
+    ensures { λ r. ⌜ Returns (addCall handle (batchRanges batch)) budget (buffers (now (memory .entry)) (now (bodies .entry)) (now (table .entry)))
+        r (now (steps .exit)) (buffers (now (memory .entry)) (now (bodies .exit)) (now (table .exit))) ⌝ }
+{
+    let answer = add::add_batch(memory, bodies, table, handle, batch, budget as usize);
+    tell(answer, steps)
+}
+
+// The same for the ranges of a lent list. A walk proved by hand, since the borrow checker covers no slice of structs: it does no more than gather
+// the list and hand it on.
+#[no_mangle]
+pub extern "C" fn ds_add_ranges(
+    memory: &[u8],
+    bodies: &mut [u8],
+    table: &mut [u32],
+    handle: u32,
+    ranges: &[Range],
+    budget: u64,
+    steps: &mut u64,
+) -> u32
+    ensures { λ r. ⌜ Returns (addCall handle (now (ranges .entry))) budget (buffers (now (memory .entry)) (now (bodies .entry)) (now (table .entry)))
+        r (now (steps .exit)) (buffers (now (memory .entry)) (now (bodies .exit)) (now (table .exit))) ⌝ }
+{
+    let batch = gather(ranges);
+    ds_add_batch(memory, bodies, table, handle, batch, budget, steps)
 }
 
 // Frees cells of a domain.
