@@ -15,7 +15,7 @@ fn say_next(p: Play, bytes: &[u8], n: usize) -> Play {
 fn say_memory(p: Play, memory: &[u8]) -> Play {
     let mut said = p;
     let mut cell: usize = 0;
-    while cell < 8 {
+    while cell < 16 {
         said = say_next(said, memory, cell);
         cell += 1;
     }
@@ -95,18 +95,18 @@ pub fn say_same(p: Play, bodies: &[u8], table: &[u32], words: usize) -> Play {
     say(p, b"neither as before nor as the whole call leaves it")
 }
 
-// Has memory so many bytes of the whole call's, and else those that were kept?
-pub fn say_prefix(p: Play, memory: &[u8], bytes: usize) -> Play {
-    if SET_MEMORY < bytes {
+// Has memory, or have the bodies, of which a set has as many bytes, the first n of the whole call's, and else those that were kept?
+pub fn say_prefix(p: Play, bytes: &[u8], n: usize, done: &[u8]) -> Play {
+    if SET_MEMORY < n {
         return p;
     }
-    let rest = SET_MEMORY - bytes;
-    if same_bytes(memory, 0, SET_MEMORY * LEFT, bytes)
-        & same_bytes(memory, bytes, SET_MEMORY * KEPT + bytes, rest)
+    let rest = SET_MEMORY - n;
+    if same_bytes(bytes, 0, SET_MEMORY * LEFT, n)
+        & same_bytes(bytes, n, SET_MEMORY * KEPT + n, rest)
     {
-        return say(p, b"as many bytes put back as steps");
+        return say(say(say(p, b"as many bytes "), done), b" as steps");
     }
-    say(p, b"memory astray")
+    say(p, b"bytes astray")
 }
 
 // Is every byte and word of the store as it was before the call?

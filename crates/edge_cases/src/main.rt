@@ -1,6 +1,6 @@
 // Plays document 01's edges, the use cases of the containment domain API of 2012, the sequencer's accident, refusals, calls stopped at every
-// budget, cells that follow a pattern, and advances that copy only what changed, and prints what they give. A section has a table of acts and their
-// text; `ops` says what an act is, and `play` performs it.
+// budget, cells that follow a pattern, advances that copy only what changed, and several ranges in one add, and prints what they give. A section
+// has a table of acts and their text; `ops` says what an act is, and `play` performs it.
 //
 // Each number of steps and each refusal is a call's answer. Memory is read byte by byte; what a domain holds is read from the table and the bodies.
 mod advances;
@@ -9,11 +9,13 @@ mod calls;
 mod cuts;
 mod edges;
 mod holdings;
+mod lists;
 mod ops;
 mod play;
 mod refusals;
 mod rules;
 mod sets;
+mod several;
 mod text;
 
 ghost use mathlib.Core.Path.{_≡_};
@@ -43,4 +45,5 @@ fn main() {
     refusals::show(&mut m, &mut b, &mut t);
     rules::show(&mut m, &mut b, &mut t);
     advances::show(&mut m, &mut b, &mut t);
+    several::show(&mut m, &mut b, &mut t);
 }

@@ -2,7 +2,8 @@
 // is 0. What a row gives is not in the table: it is printed, and the file `stdout` has what it should be. A line of a table has five rows, of which
 // those that are 0 are nothing.
 
-// ---- calls: H is the handle; add and delete have C, the first cell, and N, the count; add has K, the kind, P, the rule, and L, the label; look has C
+// ---- calls: H is the handle; add and delete have C, the first cell, and N, the count; add has K, the kind, P, the rule, and L, the label; look has
+// C. ADDS, the add of several ranges, has C, a line of `lists`: there each range is an ADD, and stands TIMES times, or once if that is 0
 
 pub const MAKE: u64 = 1;
 
@@ -23,6 +24,8 @@ pub const RESTORE: u64 = 8;
 // Nine calls in a row, all but make.
 pub const PROBE: u64 = 9;
 
+pub const ADDS: u64 = 28;
+
 // ---- what a program does: it fills cell C with a byte, Y, or with a number of 32 bits, V, 16 times; or with 0 to 63; or byte N of the cell becomes Y;
 // damage is a word, W, that becomes V
 
@@ -35,7 +38,7 @@ pub const RISE: u64 = 26;
 pub const BYTE: u64 = 27;
 
 // ---- what is read: list and look; memory and what each live domain holds; whether the store is the one that was kept or the one that the whole
-// call left; whether memory has as many bytes of the whole call as there were steps, up to N, and else those that were kept
+// call left; whether memory, or the bodies, have as many bytes of the whole call as there were steps, up to N, and else those that were kept
 
 pub const LIST: u64 = 12;
 
@@ -47,8 +50,11 @@ pub const SAME: u64 = 15;
 
 pub const PREFIX: u64 = 16;
 
-// ---- stores: a fresh one with m = 4, or 8 where E is above 8, E entries and B bodies, in which cell 0 has V's lowest byte and cell 3 its highest; a
-// copy of a set of buffers, by which the store is kept, or kept as what the whole call leaves, or the one that was kept comes back
+pub const STORED: u64 = 29;
+
+// ---- stores: a fresh one with m = 4, or 8 where E is above 8, or 16 where it is 16, E entries and B bodies, in which cell 0 has V's lowest byte and
+// cell 3 its highest, and the others as these four in turn; a copy of a set of buffers, by which the store is kept, or kept as what the whole call
+// leaves, or the one that was kept comes back
 
 pub const FRESH: u64 = 17;
 
@@ -82,9 +88,11 @@ pub const HARM: u64 = 24;
 
 pub const SWEEP: u64 = 25;
 
-// ---- columns. In those of one byte 255 stands for 4,294,967,295
+// ---- columns. In those of one byte 255 stands for 4,294,967,295; S of a sweep has two
 
 pub const H: u64 = 0x100;
+
+pub const TIMES: u64 = 0x100;
 
 pub const C: u64 = 0x1_0000;
 
@@ -117,7 +125,7 @@ pub const S: u64 = 0x100;
 // A sweep's own budget.
 pub const SWEPT: u64 = 255 * S;
 
-pub const R: u64 = 0x1_0000;
+pub const R: u64 = 0x100_0000;
 
 pub const T: u64 = 0x100_0000;
 

@@ -1,10 +1,12 @@
 // The interpreter of the acts: it performs a row on the buffers, and says what the row gives. The buffers of memory, bodies and tables are m, b and t.
 use crate::holdings::*;
+use crate::lists::LISTS;
 use crate::ops::*;
 use crate::sets::*;
 use crate::text::*;
 use look::LookAnswer;
 use look::Place;
+use ranges::Batch;
 use store::Answer;
 ghost use Prim.Native.Nat.{_<_};
 
@@ -109,11 +111,63 @@ fn call_add(m: &[u8], b: &mut [u8], t: &mut [u32], row: u64, n: usize) -> Answer
     )
 }
 
+// Place i of a list: a range, or 0 behind the last.
+fn range_of(list: u32, i: usize) -> u64
+    requires { ⌜ i < 10 ⌝ }
+{
+    row_at(&LISTS, 5 * list as usize + i)
+}
+
+fn keep_range(batch: Batch, row: u64) -> Batch {
+    let first = field(row, C);
+    let count = field(row, N);
+    ranges::keep(
+        batch,
+        first,
+        count,
+        field(row, K),
+        field(row, P),
+        field(row, L),
+    )
+}
+
+// As often as it stands in its list.
+fn keep_times(batch: Batch, row: u64) -> Batch {
+    let times = field(row, TIMES);
+    let mut next = keep_range(batch, row);
+    let mut i: u32 = 1;
+    while i < times {
+        next = keep_range(next, row);
+        i += 1;
+    }
+    next
+}
+
+fn batch_of(list: u32) -> Batch {
+    let mut batch = ranges::no_batch();
+    let mut i: usize = 0;
+    while i < 10 {
+        let row = range_of(list, i);
+        if row == 0 {
+            return batch;
+        }
+        batch = keep_times(batch, row);
+        i += 1;
+    }
+    batch
+}
+
+fn call_adds(m: &[u8], b: &mut [u8], t: &mut [u32], row: u64, n: usize) -> Answer {
+    let batch = batch_of(field(row, C));
+    add::add_batch(m, b, t, field(row, H), batch, n)
+}
+
 fn call(m: &mut [u8], b: &mut [u8], t: &mut [u32], row: u64, budget: usize) -> Answer {
     let op = row % 0x100;
     let h = field(row, H);
     match op {
         ADD => call_add(m, b, t, row, budget),
+        ADDS => call_adds(m, b, t, row, budget),
         DELETE => delete::delete(m, b, t, h, field(row, C), field(row, N), budget),
         ADVANCE => advance::advance(m, b, t, h, budget),
         COMMIT => commit::commit(m, b, t, h, budget),
@@ -126,7 +180,7 @@ fn call(m: &mut [u8], b: &mut [u8], t: &mut [u32], row: u64, budget: usize) -> A
 
 // The range of an add or a delete, and an add's kind, rule and label.
 fn say_range(p: Play, row: u64) -> Play {
-    let first = say_field(p, b", first ", field(row, C));
+    let first = say_field(p, b"first ", field(row, C));
     let ranged = say_field(first, b", count ", field(row, N));
     if row % 0x100 == DELETE {
         return ranged;
@@ -157,6 +211,31 @@ fn say_choice(p: Play, words: u32, name: &[u8], n: u32) -> Play
     say_field(p, name, n)
 }
 
+// A range of a list, with how often it stands there, if that is told.
+fn say_member(p: Play, row: u64) -> Play {
+    let times = field(row, TIMES);
+    let said = say(p, b" (");
+    if times == 0 {
+        return say(say_range(said, row), b")");
+    }
+    let told = say(say_field(said, b"", times), b" times ");
+    say(say_range(told, row), b")")
+}
+
+fn say_members(p: Play, list: u32) -> Play {
+    let mut said = p;
+    let mut i: usize = 0;
+    while i < 10 {
+        let row = range_of(list, i);
+        if row == 0 {
+            return said;
+        }
+        said = say_member(said, row);
+        i += 1;
+    }
+    said
+}
+
 // A call with its numbers: make, open and create have none.
 fn say_call(p: Play, row: u64) -> Play {
     let op = row % 0x100;
@@ -166,7 +245,8 @@ fn say_call(p: Play, row: u64) -> Play {
     }
     let said = say_field(named, b", handle ", field(row, H));
     match op {
-        ADD | DELETE => say_range(said, row),
+        ADD | DELETE => say_range(say(said, b", "), row),
+        ADDS => say_members(said, field(row, C)),
         LOOK => say_field(said, b", cell ", field(row, C)),
         _ => said,
     }
@@ -307,7 +387,8 @@ fn copy_set(m: &mut [u8], b: &mut [u8], t: &mut [u32], from: u32, to: u32) {
 // one that is lent longer than a set would not stay as it is.
 fn show(m: &mut [u8], b: &mut [u8], t: &mut [u32], p: Play, row: u64) -> Play {
     let op = row % 0x100;
-    if (op != PROBE) & ((op > RESTORE) | (p.style != LINES)) {
+    let call = (op <= RESTORE) | (op == ADDS);
+    if (op != PROBE) & (!call | (p.style != LINES)) {
         return lent(m, b, t, p, row);
     }
     copy_set(m, b, t, 0, 3);
@@ -359,7 +440,8 @@ fn told(m: &mut [u8], b: &mut [u8], t: &mut [u32], p: Play, row: u64) -> Play {
     let op = row % 0x100;
     match op {
         SAME => say_same(p, b, t, words_of(p.fresh)),
-        PREFIX => say_prefix(p, m, least(p.cut, field(row, N))),
+        PREFIX => say_prefix(p, m, least(p.cut, field(row, N)), b"put back"),
+        STORED => say_prefix(p, b, least(p.cut, field(row, N)), b"copied"),
         WRITE | RISE | BYTE => write(m, p, row),
         SET => {
             set_word(t, field(row, W) as usize, value(row));
@@ -433,9 +515,10 @@ fn with_budget(mut p: Play, steps: u32) -> Play {
 
 // ---- stores
 
-// The store's lengths are lent: four cells, and eight with more than eight entries.
+// The store's lengths are lent: four cells, eight with more than eight entries, and 16 with 16.
 fn lent_whole(mut p: Play, fresh: u64) -> Play {
-    let cells = 4 + field(fresh, E) as u64 / 9 % 2 * 4;
+    let entries = field(fresh, E) as u64;
+    let cells = 4 + entries / 9 % 2 * 4 + entries / 16 % 2 * 8;
     let bodies = 64 * field(fresh, B) as u64 % 0x1_0000;
     let words = words_of(fresh) as u64 % 0x1_0000;
     p.lent = 64 * cells * MB + bodies * BB + words * TW;
@@ -443,11 +526,13 @@ fn lent_whole(mut p: Play, fresh: u64) -> Play {
     p
 }
 
+// Each four as the first four.
 fn fill_cells(m: &mut [u8], cells: [u8; 4]) {
     fill(m, 0, 64, [cells[0]; 4]);
     fill(m, 64, 64, [cells[1]; 4]);
     fill(m, 128, 64, [cells[2]; 4]);
     fill(m, 192, 64, [cells[3]; 4]);
+    copy_bytes(m, 0, 256, SET_MEMORY - 256);
 }
 
 // Bodies are filled with a byte that no scene writes, so that a body that was never taken shows.
@@ -583,7 +668,7 @@ fn play_lines(
 ) -> Play {
     let row = row_at(x, 0);
     if row % 0x100 == SWEEP {
-        sweep(m, b, t, p, x, field(row, S));
+        sweep(m, b, t, p, x, (row / S % 0x1_0000) as u32);
         return p;
     }
     play_rows(m, b, t, text, p, x)

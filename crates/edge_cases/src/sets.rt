@@ -11,8 +11,8 @@ pub const LEFT: usize = 2;
 
 pub const BEFORE: usize = 3;
 
-// The bytes of a set's memory and bodies, and the words of its table: m = 8 and E = B = 16, which the largest store needs.
-pub const SET_MEMORY: usize = 512;
+// The bytes of a set's memory and bodies, and the words of its table: m = E = B = 16, which the largest store needs.
+pub const SET_MEMORY: usize = 1024;
 
 pub const SET_BODIES: usize = 1024;
 

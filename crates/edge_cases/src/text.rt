@@ -125,6 +125,7 @@ pub fn say_word(p: Play, n: u32) -> Play {
 013look
 020read-only
 021read-write
+028add ranges
 030copy
 031via parent
 ";

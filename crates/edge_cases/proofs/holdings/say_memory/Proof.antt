@@ -1,4 +1,4 @@
--- `edge_cases::holdings::say_memory` meets its contract: the loop counts to 8.
+-- `edge_cases::holdings::say_memory` meets its contract: the loop counts to 16.
 use borrow.Author.Needs.{needs}
 use Prim.Native.Nat.{_-_}
 use Rattle.edge_cases.proofs.holdings.say_memory.Statement.{statement}
@@ -8,7 +8,7 @@ abbrev Inv-loop : tie.InvT-loop
 Inv-loop memory said₀ cell₀ said cell = Unit {0}
 
 abbrev μ-loop : tie.MeasureT-loop
-μ-loop memory said₀ cell₀ said cell = 8 - cell
+μ-loop memory said₀ cell₀ said cell = 16 - cell
 
 loop-holds : tie.Need-loop-holds Inv-loop μ-loop
 loop-holds c = search needs
