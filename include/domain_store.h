@@ -16,15 +16,18 @@
  * leave no store; and a restore that was cut and is found not made may leave memory mixed in the cells that it was putting back. After ds_open restore
  * the same domain again, or one around it: going back to a domain inside it promises nothing until then.
  *
- * Stack of a call at the largest sizes: ds_make 5 KB; ds_create, ds_list, ds_look, ds_delete 74 KB; ds_open 107 KB; ds_commit 108 KB;
- * ds_add, ds_restore 116 KB; ds_advance 127 KB.
+ * Stack of a call at the largest sizes: ds_make 5 KB; ds_create, ds_list, ds_look, ds_delete 74 KB;
+ * ds_open 107 KB; ds_commit 108 KB; ds_add, ds_add_ranges, ds_restore 116 KB; ds_advance 127 KB.
  *
  * What the caller owes, and no proof can see:
  *
  * - Each pointer points to so many elements (lengths are in elements, table_len in words), aligned for its type.
  * - No pointer is NULL, with one exception: a buffer of length 0 may be, and the call is then refused with DS_REFUSED_LENGTHS without looking at it.
+ *   So may a list of ranges of length 0: the call is refused without looking at it, with
+ *   DS_REFUSED_NUMBER_OF_RANGES where no earlier question refuses it.
  *   Out parameters (steps, handle, handles, count, place, offset, rule) are stored to by every call, refused ones too, so none of them is ever NULL.
- * - Buffers and out parameters do not overlap. A pointer is to const where the call never stores into that buffer.
+ * - Buffers, out parameters and the list of ranges do not overlap. A pointer is to const where the call
+ *   never stores into what it points to.
  * - One call at a time is made on a store, with nothing else storing into its buffers meanwhile.
  */
 #ifndef DOMAIN_STORE_H
@@ -43,7 +46,9 @@ extern "C" {
 /* A call that was stopped by its budget: ds_open comes next. */
 #define DS_STOPPED 255u
 
-/* Why a call was refused: the first of these that holds, in this order (18 and 19 are asked after 12). */
+/* Why a call was refused: the first of these that holds, in this order (20 is asked after 6, 18 and 19
+ * after 12). ds_add_ranges asks 7, 8, 11, 12, 18 and 19 of one range after the other, each as those
+ * before it left the store, and then 16 and 17 once for all of them. */
 
 /* A buffer's length is not allowed. */
 #define DS_REFUSED_LENGTHS 1u
@@ -59,6 +64,8 @@ extern "C" {
 #define DS_REFUSED_NO_SUCH_DOMAIN 5u
 /* The domain is not the innermost. */
 #define DS_REFUSED_NOT_INNERMOST 6u
+/* A list of no ranges, or of more than 64. */
+#define DS_REFUSED_NUMBER_OF_RANGES 20u
 /* Kind is not 0 to 2, or label is not 0 or 1. */
 #define DS_REFUSED_KIND_OR_LABEL 7u
 /* The range of cells is empty or ends past memory. */
@@ -86,7 +93,7 @@ extern "C" {
 /* Too few free bodies for the new copies: in an advance one for each read-write cell that changed. */
 #define DS_REFUSED_NO_FREE_BODY 17u
 
-/* Kinds and labels of ds_add. */
+/* Kinds and labels of ds_add, and of a range. */
 #define DS_COPY 0u
 #define DS_VIA_PARENT 1u
 #define DS_PATTERN 2u
@@ -102,6 +109,15 @@ extern "C" {
 #define DS_RULE_INDEX 2u
 /* 0, 0, 128, 63 over and over: sixteen little-endian floats of 1, a scale of one. */
 #define DS_RULE_SCALE 3u
+
+/* A range of cells for ds_add_ranges: five numbers, each as ds_add takes the one of this name. */
+struct ds_range {
+    uint32_t first;
+    uint32_t count;
+    uint32_t kind;
+    uint32_t rule;
+    uint32_t label;
+};
 
 /* Places of ds_look. */
 #define DS_IN_MEMORY 1u
@@ -127,6 +143,16 @@ uint32_t ds_create(const uint8_t *memory, size_t memory_len, const uint8_t *bodi
 uint32_t ds_add(const uint8_t *memory, size_t memory_len, uint8_t *bodies, size_t bodies_len, uint32_t *table, size_t table_len,
                 uint32_t handle, uint32_t first, uint32_t count, uint32_t kind, uint32_t rule, uint32_t label, uint64_t budget,
                 uint64_t *steps);
+
+/* Holds several ranges of cells, `ranges_len` of them (1 to 64) from `ranges` on, each as ds_add does, and
+ * all of them or none, also where the call was cut. They act in their order, so a later one finds the cells
+ * that an earlier one has just taken: these keep kind and value of the first range that names them, and
+ * become read-write if a later one is. Where one range is refused nothing is held. Ranges may touch,
+ * overlap and stand in any order. Takes 64 steps for each new copy, 6 for each entry taken or made
+ * read-write, and 2 for the call; none where there is no such entry. */
+uint32_t ds_add_ranges(const uint8_t *memory, size_t memory_len, uint8_t *bodies, size_t bodies_len,
+                       uint32_t *table, size_t table_len, uint32_t handle, const struct ds_range *ranges,
+                       size_t ranges_len, uint64_t budget, uint64_t *steps);
 
 /* Frees `count` cells from `first` on of the named domain, and of no other. */
 uint32_t ds_delete(const uint8_t *memory, size_t memory_len, const uint8_t *bodies, size_t bodies_len, uint32_t *table, size_t table_len,

@@ -1,5 +1,5 @@
 /* The header as a C or C++ program uses it: every function once, preserve, write, restore, a cut and its opening, an advance of changed and of
- * unchanged cells, cells that follow a rule, refusals, and buffers that are not the store's or not there at all. */
+ * unchanged cells, cells that follow a rule, several ranges in one add, refusals, and buffers that are not the store's or not there at all. */
 
 #include "domain_store.h"
 
@@ -26,7 +26,7 @@ static void expect(const char *what, uint64_t found, uint64_t wanted) {
 /* Every function with these buffers is refused for their lengths, and sets its out parameters all the same. */
 #define EXPECT_NO_BUFFERS(...)                                                                                    \
     do {                                                                                                          \
-        uint64_t s[8], o = 77;                                                                                    \
+        uint64_t s[9], o = 77;                                                                                    \
         uint32_t h = 77, c = 77, p = 77, r = 77, hs[8];                                                           \
         int i;                                                                                                    \
         memset(s, 77, sizeof s);                                                                                  \
@@ -35,6 +35,8 @@ static void expect(const char *what, uint64_t found, uint64_t wanted) {
         expect("open, no buffer", ds_open(__VA_ARGS__, UINT64_MAX, &s[1]), DS_REFUSED_LENGTHS);                   \
         expect("create, no buffer", ds_create(__VA_ARGS__, UINT64_MAX, &s[2], &h), DS_REFUSED_LENGTHS);           \
         expect("add, no buffer", ds_add(__VA_ARGS__, 0, 0, 1, 0, 0, 0, UINT64_MAX, &s[3]), DS_REFUSED_LENGTHS);   \
+        expect("ranges, no buffer", ds_add_ranges(__VA_ARGS__, 0, NULL, 0, UINT64_MAX, &s[8]),                    \
+               DS_REFUSED_LENGTHS);                                                                               \
         expect("delete, no buffer", ds_delete(__VA_ARGS__, 0, 0, 1, UINT64_MAX, &s[4]), DS_REFUSED_LENGTHS);      \
         expect("commit, no buffer", ds_commit(__VA_ARGS__, 0, UINT64_MAX, &s[5]), DS_REFUSED_LENGTHS);            \
         expect("advance, no buffer", ds_advance(__VA_ARGS__, 0, UINT64_MAX, &s[6]), DS_REFUSED_LENGTHS);          \
@@ -42,6 +44,7 @@ static void expect(const char *what, uint64_t found, uint64_t wanted) {
         expect("list, no buffer", ds_list(__VA_ARGS__, hs, &c), DS_REFUSED_LENGTHS);                              \
         expect("look, no buffer", ds_look(__VA_ARGS__, 0, 0, &p, &o, &r), DS_REFUSED_LENGTHS);                    \
         for (i = 0; i < 8; i++) expect("steps and handles, no buffer", s[i] + hs[i], 0);                          \
+        expect("steps of ranges, no buffer", s[8], 0);                                                            \
         expect("handle, count, place, offset, rule, no buffer", h + c + p + o + r, 0);                            \
     } while (0)
 
@@ -101,6 +104,80 @@ static void expect_rules(void) {
     expect("its steps", steps, 0);
     expect("commit inside", ds_commit(BUFFERS_LENT, 0, UINT64_MAX, &steps), DS_DONE);
     expect("commit, by rules", ds_commit(BUFFERS_LENT, 0, UINT64_MAX, &steps), DS_DONE);
+}
+
+/* Several ranges in one add: all of them or none. The domain around holds cells 0 and 1; the list takes 0 via it, 1 by a copy,
+ * 2 and 3 by a rule, in no order, and its last range makes cell 2 read-write. */
+static void expect_ranges(void) {
+    static const struct ds_range ranges[5] = {
+        {3, 1, DS_PATTERN, DS_RULE_ONES, DS_READ_ONLY},
+        {1, 1, DS_COPY, 0, DS_READ_WRITE},
+        {0, 1, DS_VIA_PARENT, 0, DS_READ_WRITE},
+        {2, 2, DS_PATTERN, DS_RULE_ONES, DS_READ_ONLY},
+        {2, 1, DS_COPY, 0, DS_READ_WRITE},
+    };
+    struct ds_range many[65], wrong[3];
+    uint64_t steps = 77, offset = 77, need = 64 + 4 * 6 + 2, budget;
+    uint32_t outer = 77, handle = 77, place = 77, rule = 77, held, cell;
+    int i;
+
+    memset(memory, 7, 128);
+    memset(memory + 128, 255, 128);
+    expect("create, for ranges", ds_create(BUFFERS_LENT, UINT64_MAX, &steps, &outer), DS_DONE);
+    expect("add", ds_add(BUFFERS_LENT, outer, 0, 2, DS_COPY, 0, DS_READ_WRITE, UINT64_MAX, &steps), DS_DONE);
+    expect("create inside", ds_create(BUFFERS_LENT, UINT64_MAX, &steps, &handle), DS_DONE);
+
+    /* Cut at every store and opened: before word 6 is stored nothing is held, and from there on everything. */
+    for (budget = 0; budget <= need; budget++) {
+        expect("ranges, with a budget", ds_add_ranges(BUFFERS_LENT, handle, ranges, 5, budget, &steps),
+               budget < need ? DS_STOPPED : DS_DONE);
+        expect("its steps", steps, budget);
+        expect("open", ds_open(BUFFERS_LENT, UINT64_MAX, &steps), DS_DONE);
+        held = 0;
+        for (cell = 0; cell < M; cell++)
+            held += ds_delete(BUFFERS_LENT, handle, cell, 1, UINT64_MAX, &steps) == DS_DONE;
+        expect("ranges held", held, budget > 64 + 2 * 8 ? M : 0);
+    }
+
+    expect("ranges", ds_add_ranges(BUFFERS_LENT, 0, ranges, 5, UINT64_MAX, &steps), DS_DONE);
+    expect("its steps", steps, need);
+    expect("ranges again", ds_add_ranges(BUFFERS_LENT, handle, ranges, 5, 0, &steps), DS_DONE);
+    expect("its steps", steps, 0);
+    for (cell = 0; cell < M; cell++) {
+        expect("look, ranges", ds_look(BUFFERS_LENT, handle, cell, &place, &offset, &rule), DS_DONE);
+        expect("its place", place, cell < 2 ? DS_IN_BODIES : DS_BY_RULE);
+        expect("its rule", rule, cell < 2 ? 0 : DS_RULE_ONES);
+    }
+    memset(memory, 9, sizeof memory);
+    expect("restore, ranges", ds_restore(BUFFERS_LENT, handle, UINT64_MAX, &steps), DS_DONE);
+    expect("memory's first byte", memory[0], 7);
+    expect("memory's last byte", memory[sizeof memory - 1], 255);
+
+    /* No range and too many are refused, and so is a list of which one range is; nothing is held then. */
+    expect("delete", ds_delete(BUFFERS_LENT, handle, 0, M, UINT64_MAX, &steps), DS_DONE);
+    expect("ranges, none", ds_add_ranges(BUFFERS_LENT, handle, NULL, 0, UINT64_MAX, &steps), DS_REFUSED_NUMBER_OF_RANGES);
+    for (i = 0; i < 65; i++) many[i] = ranges[1];
+    steps = 77;
+    expect("ranges, 65", ds_add_ranges(BUFFERS_LENT, handle, many, 65, UINT64_MAX, &steps), DS_REFUSED_NUMBER_OF_RANGES);
+    expect("its steps", steps, 0);
+    expect("ranges, a dead handle", ds_add_ranges(BUFFERS_LENT, 77, NULL, 0, UINT64_MAX, &steps), DS_REFUSED_NO_SUCH_DOMAIN);
+    expect("ranges, an outer domain", ds_add_ranges(BUFFERS_LENT, outer, many, 65, UINT64_MAX, &steps), DS_REFUSED_NOT_INNERMOST);
+    wrong[0] = ranges[1];
+    wrong[1] = ranges[2];
+    wrong[2] = ranges[3];
+    wrong[2].kind = 3;
+    expect("ranges, kind 3", ds_add_ranges(BUFFERS_LENT, handle, wrong, 3, UINT64_MAX, &steps), DS_REFUSED_KIND_OR_LABEL);
+    wrong[2] = ranges[3];
+    wrong[2].count = 3;
+    expect("ranges, past memory", ds_add_ranges(BUFFERS_LENT, handle, wrong, 3, UINT64_MAX, &steps), DS_REFUSED_RANGE);
+    wrong[2] = ranges[3];
+    wrong[2].rule = DS_RULE_ZEROS;
+    expect("ranges, another rule", ds_add_ranges(BUFFERS_LENT, handle, wrong, 3, UINT64_MAX, &steps), DS_REFUSED_PATTERN_DIFFERS);
+    expect("delete, nothing held", ds_delete(BUFFERS_LENT, handle, 1, 1, UINT64_MAX, &steps), DS_REFUSED_NOT_HELD);
+    expect("ranges, 64", ds_add_ranges(BUFFERS_LENT, handle, many, 64, UINT64_MAX, &steps), DS_DONE);
+    expect("its steps", steps, 72);
+    expect("commit inside", ds_commit(BUFFERS_LENT, 0, UINT64_MAX, &steps), DS_DONE);
+    expect("commit, ranges", ds_commit(BUFFERS_LENT, 0, UINT64_MAX, &steps), DS_DONE);
 }
 
 int main(void) {
@@ -165,6 +242,7 @@ int main(void) {
     expect("commit", ds_commit(BUFFERS_LENT, 0, UINT64_MAX, &steps), DS_DONE);
     expect("restore, nobody live", ds_restore(BUFFERS_LENT, 0, UINT64_MAX, &steps), DS_REFUSED_NO_SUCH_DOMAIN);
     expect_rules();
+    expect_ranges();
 
     return failures != 0;
 }

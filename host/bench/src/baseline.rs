@@ -1,5 +1,5 @@
 //! The same store without proofs, as a plain systems program: the format, the questions and the journal of document 01, with the cells
-//! of request A.1 that follow a pattern and the shorter advances of request A.2.
+//! of request A.1 that follow a pattern, the shorter advances of request A.2 and the add of several ranges of request A.3.
 //!
 //! It is here to be measured beside the library, so it makes no use of it. What it does:
 //!
@@ -13,6 +13,9 @@
 //!   and for each entry the one before it with the same cell. So a holder is found at once, wherever it stands.
 //! - Restore and advance take their cells in order by the directory. Advance compares each read-write cell with what is held in one pass
 //!   over the entries, and sets a bit for each that has changed: cells that have not are not met again.
+//! - An add of several ranges checks the table once. A cell that a range takes is marked as held, so that a later range sees it, and gets
+//!   a bit in the word of its block, with a byte that says how it is kept; cells that read-write ranges name have a bit in another word.
+//!   The bits are then met in order of cell, for bytes and entries of the whole list.
 //! - Look searches depths and entries by nested loops, which is a form that the store's specification names.
 //! - Notes are kept in an area of the thread that all calls use again: it is all zeros at first and never cleared as a whole, nor does
 //!   a call touch more of it than it needs. On the stack, each call would touch every page of a large frame.
@@ -21,7 +24,7 @@
 
 use core::cell::RefCell;
 use core::ops::Range;
-use domain_model::{Add, Buffers, Call, Reply, STOPPED};
+use domain_model::{Buffers, Call, Record, Reply, STOPPED};
 
 /// The magic number of a made store.
 const MAGIC: u32 = 0xCD51_1E01;
@@ -38,6 +41,8 @@ const PATTERN: u32 = 2;
 const MAX_CELLS: usize = 65_536;
 const MAX_PLACES: usize = 4_096;
 const CELL: usize = 64;
+/// The most ranges that an add takes.
+const MAX_RANGES: usize = 64;
 /// Cells whose marks stand in one block.
 const GROUP: usize = 64;
 const MAX_GROUPS: usize = MAX_CELLS / GROUP;
@@ -288,12 +293,44 @@ impl Notes {
 /// The area that the calls of a thread use again and again, each part as its call says.
 struct Scratch {
     notes: Notes,
-    /// For each block a bit for some of its cells. Commit: those that raise a label. Advance: those that have changed.
+    /// For each block a bit for some of its cells. Commit: those that raise a label. Advance: those that have changed. Add of several
+    /// ranges: those that are newly held.
     chosen: [u64; 1 + MAX_GROUPS],
+    /// Add of several ranges. For each block a bit for the cells that a read-write range names; for each chosen cell how it is kept; and
+    /// the entries to be taken.
+    raising: [u64; 1 + MAX_GROUPS],
+    kept: [[Kept; GROUP]; 1 + MAX_GROUPS],
+    staged: [(u32, u32); MAX_PLACES],
     /// Advance: the new body of each entry, or `u16::MAX`.
     body_for: [u16; MAX_PLACES],
     /// Open: the words that pending pairs may name.
     meant: [u32; 16 + 2 * MAX_PLACES],
+}
+
+/// How an add keeps a cell.
+#[derive(Clone, Copy)]
+#[repr(u8)]
+enum Kept {
+    Copy,
+    ViaParent,
+    Rule0,
+    Rule1,
+    Rule2,
+    Rule3,
+}
+
+impl Kept {
+    /// By a kind and a rule that were asked for.
+    fn of(record: &Record) -> Kept {
+        match (record.kind, record.rule) {
+            (COPY, _) => Kept::Copy,
+            (FROM_PARENT, _) => Kept::ViaParent,
+            (_, 0) => Kept::Rule0,
+            (_, 1) => Kept::Rule1,
+            (_, 2) => Kept::Rule2,
+            _ => Kept::Rule3,
+        }
+    }
 }
 
 thread_local! {
@@ -301,6 +338,9 @@ thread_local! {
         RefCell::new(Scratch {
             notes: Notes::new(),
             chosen: [0; 1 + MAX_GROUPS],
+            raising: [0; 1 + MAX_GROUPS],
+            kept: [[Kept::Copy; GROUP]; 1 + MAX_GROUPS],
+            staged: [(0, 0); MAX_PLACES],
             body_for: [0; MAX_PLACES],
             meant: [0; 16 + 2 * MAX_PLACES],
         })
@@ -763,7 +803,13 @@ fn create(lent: Slices, budget: u64, notes: &mut Notes) -> Result<(Answer, u32),
 }
 
 #[inline(never)]
-fn add(lent: Slices, add: Add, budget: u64, notes: &mut Notes) -> Result<Answer, u32> {
+fn add(
+    lent: Slices,
+    handle: u32,
+    add: Record,
+    budget: u64,
+    notes: &mut Notes,
+) -> Result<Answer, u32> {
     let (kind, label) = (add.kind, add.label);
     let shape = if kind == FROM_PARENT {
         check::<true>(&lent, notes)?
@@ -772,35 +818,11 @@ fn add(lent: Slices, add: Add, budget: u64, notes: &mut Notes) -> Result<Answer,
     };
     let notes = &*notes;
     let (memory, bodies, table) = (lent.memory, lent.bodies, lent.table);
-    let depth = innermost(table, add.handle)?;
-    if kind > PATTERN || label > 1 {
-        return Err(7);
-    }
-    let range = range(add.first, add.count, shape.cells)?;
+    let depth = innermost(table, handle)?;
+    let range = kind_and_range(&add, shape)?;
     let fresh = || notes.not_held(depth, range.clone());
     let new = fresh().count();
-    if kind == FROM_PARENT && new > 0 {
-        if depth == 1 || fresh().any(|cell| !notes.holds(depth - 1, cell)) {
-            return Err(11);
-        }
-        let mut by_rule = 0;
-        for cell in fresh() {
-            let place = notes.find(table, depth - 1, cell);
-            if cell_at(memory, cell) != notes.bytes_behind(table, bodies, place) {
-                return Err(12);
-            }
-            by_rule |= entry(table, place).0 & BY_RULE;
-        }
-        if by_rule != 0 {
-            return Err(19);
-        }
-    }
-    if kind == PATTERN {
-        let pattern = PATTERNS.get(add.rule as usize).ok_or(18u32)?;
-        if fresh().any(|cell| cell_at(memory, cell) != pattern) {
-            return Err(18);
-        }
-    }
+    fits(&add, &range, depth, (memory, bodies, table), notes)?;
     if notes.entries + new > shape.entries {
         return Err(16);
     }
@@ -845,6 +867,222 @@ fn add(lent: Slices, add: Add, budget: u64, notes: &mut Notes) -> Result<Answer,
         }
         for (place, cell) in (notes.end..).zip(fresh) {
             journal.entry(&mut stores, table, place, words(cell))?;
+        }
+        journal.finish(&mut stores, table)
+    })();
+    Ok(stores.answer(end))
+}
+
+/// Questions 7 and 8: the cells of a range.
+fn kind_and_range(record: &Record, shape: Shape) -> Result<Range<usize>, u32> {
+    if record.kind > PATTERN || record.label > 1 {
+        return Err(7);
+    }
+    range(record.first, record.count, shape.cells)
+}
+
+/// Questions 11, 12, 18 and 19 for those cells of a range that the innermost depth does not hold yet.
+#[inline]
+fn fits(
+    record: &Record,
+    range: &Range<usize>,
+    depth: usize,
+    (memory, bodies, table): (&[u8], &[u8], &[u32]),
+    notes: &Notes,
+) -> Result<(), u32> {
+    let fresh = || notes.not_held(depth, range.clone());
+    match record.kind {
+        FROM_PARENT => {
+            let lacks = |cell| depth == 1 || !notes.holds(depth - 1, cell);
+            if fresh().any(lacks) {
+                return Err(11);
+            }
+            let mut by_rule = 0;
+            for cell in fresh() {
+                let place = notes.find(table, depth - 1, cell);
+                if cell_at(memory, cell) != notes.bytes_behind(table, bodies, place) {
+                    return Err(12);
+                }
+                by_rule |= entry(table, place).0 & BY_RULE;
+            }
+            if by_rule != 0 {
+                return Err(19);
+            }
+        }
+        PATTERN => {
+            let pattern = PATTERNS.get(record.rule as usize).ok_or(18u32)?;
+            if fresh().any(|cell| cell_at(memory, cell) != pattern) {
+                return Err(18);
+            }
+        }
+        _ => {}
+    }
+    Ok(())
+}
+
+/// The part of a range that lies in a group, as a bit for each cell.
+#[inline]
+fn part_of(range: &Range<usize>, group: usize) -> u64 {
+    let first = group * GROUP;
+    let from = range.start.max(first) - first;
+    let to = range.end.min(first + GROUP) - first;
+    u64::MAX >> (GROUP - (to - from)) << from
+}
+
+/// Which of these cells of a block have the mark.
+#[inline]
+fn marked_of(marks: &[u8; GROUP], part: u64, bit: u8) -> u64 {
+    if part.is_power_of_two() {
+        let at = part.trailing_zeros();
+        return u64::from(marks[at as usize] & bit != 0) << at;
+    }
+    let cells = marks.iter().enumerate();
+    part & cells.fold(0, |all, (at, marks)| {
+        all | u64::from(marks & bit != 0) << at
+    })
+}
+
+/// The new cells of a list, and those of them that are copies.
+#[derive(Default)]
+struct Taken {
+    cells: usize,
+    copies: usize,
+}
+
+/// A range takes its cells: those that the innermost depth does not hold are marked and chosen, and all of them raised where it is
+/// read-write.
+#[inline]
+fn take(
+    record: &Record,
+    range: &Range<usize>,
+    depth: usize,
+    scratch: &mut Scratch,
+    taken: &mut Taken,
+) {
+    let (kept, bit) = (Kept::of(record), 1 << (depth - 1));
+    for group in range.start / GROUP..range.end.div_ceil(GROUP) {
+        let part = part_of(range, group);
+        let mut block = scratch.notes.directory[group] as usize;
+        if block == 0 {
+            block = scratch.notes.take_block(group);
+            scratch.chosen[block] = 0;
+            scratch.raising[block] = 0;
+        }
+        let marks = &mut scratch.notes.marks[block];
+        let new = part & !marked_of(marks, part, bit);
+        scratch.chosen[block] |= new;
+        if record.label == 1 {
+            scratch.raising[block] |= part;
+        }
+        let count = new.count_ones() as usize;
+        taken.cells += count;
+        if record.kind == COPY {
+            taken.copies += count;
+        }
+        let mut left = new;
+        while left != 0 {
+            let at = left.trailing_zeros() as usize;
+            marks[at] |= bit;
+            scratch.kept[block][at] = kept;
+            left &= left - 1;
+        }
+    }
+}
+
+/// An add of several ranges.
+#[inline(never)]
+fn add_ranges(
+    lent: Slices,
+    handle: u32,
+    records: &[Record],
+    budget: u64,
+    scratch: &mut Scratch,
+) -> Result<Answer, u32> {
+    let looks_out = |record: &Record| record.kind == FROM_PARENT;
+    let shape = if records.iter().take(MAX_RANGES).any(looks_out) {
+        check::<true>(&lent, &mut scratch.notes)?
+    } else {
+        check::<false>(&lent, &mut scratch.notes)?
+    };
+    let (memory, bodies, table) = (lent.memory, lent.bodies, lent.table);
+    let depth = innermost(table, handle)?;
+    if !(1..=MAX_RANGES).contains(&records.len()) {
+        return Err(20);
+    }
+    scratch.chosen[..=scratch.notes.blocks].fill(0);
+    scratch.raising[..=scratch.notes.blocks].fill(0);
+    let (mut taken, mut raises) = (Taken::default(), false);
+    for record in records {
+        let range = kind_and_range(record, shape)?;
+        fits(
+            record,
+            &range,
+            depth,
+            (memory, bodies, table),
+            &scratch.notes,
+        )?;
+        take(record, &range, depth, scratch, &mut taken);
+        raises |= record.label == 1;
+    }
+    let Scratch {
+        notes,
+        chosen,
+        raising,
+        kept,
+        staged,
+        ..
+    } = scratch;
+    let notes = &*notes;
+    if notes.entries + taken.cells > shape.entries {
+        return Err(16);
+    }
+    if notes.copies + taken.copies > shape.bodies {
+        return Err(17);
+    }
+    let place = |cell: usize| (notes.directory[cell / GROUP] as usize, cell % GROUP);
+    let raised = |cell: usize| {
+        let (block, at) = place(cell);
+        raising[block] >> at & 1 == 1
+    };
+    let mut stores = Stores::new(budget);
+    let end = (|| {
+        // In order of cell: the bytes of the copies, and what goes into the entries.
+        let (mut free, mut count) = (FreeBodies::new(&notes.used), 0);
+        notes.each_chosen(&chosen[..], |cell| {
+            let (block, at) = place(cell);
+            let (bit, second) = match kept[block][at] {
+                Kept::Copy => {
+                    let body = free.take();
+                    stores.cell(&mut bodies[CELL * body..], cell_at(memory, cell))?;
+                    (0, body as u32)
+                }
+                Kept::ViaParent => (VIA_PARENT, 0),
+                rule => (BY_RULE, rule as u32 - Kept::Rule0 as u32),
+            };
+            let label = u32::from(raised(cell)) << 27;
+            staged[count] = ((depth as u32) << 28 | label | bit | cell as u32, second);
+            count += 1;
+            Ok(())
+        })?;
+        // The lowest free entries in that order: one walk over the entries meets them and those that are raised.
+        let mut staged = staged[..count].iter();
+        let mut journal = Journal::new(shape);
+        for place in 0..notes.end {
+            let (word, second) = entry(table, place);
+            if word == 0 {
+                if let Some(&words) = staged.next() {
+                    journal.entry(&mut stores, table, place, words)?;
+                }
+            } else if raises
+                && depth_of(word) == depth
+                && word & READ_WRITE == 0
+                && raised(cell_of(word))
+            {
+                journal.entry(&mut stores, table, place, (word | READ_WRITE, second))?;
+            }
+        }
+        for (place, &words) in (notes.end..).zip(staged) {
+            journal.entry(&mut stores, table, place, words)?;
         }
         journal.finish(&mut stores, table)
     })();
@@ -1101,7 +1339,11 @@ fn call_on(lent: Slices, call: &Call, budget: u64, scratch: &mut Scratch) -> Rep
             reply.handle = handle;
             answer
         }),
-        Call::Add(numbers) => add(lent, numbers, budget, notes),
+        Call::Add { handle, record } => add(lent, handle, record, budget, notes),
+        Call::AddRanges {
+            handle,
+            ref records,
+        } => add_ranges(lent, handle, records, budget, scratch),
         Call::Delete {
             handle,
             first,

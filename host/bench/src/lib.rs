@@ -1,7 +1,9 @@
-//! The store without proofs, for comparison (see [`baseline`]), and what measures the library beside it (see [`measure`], and
-//! [`advances`] for advances of which few cells have changed). The tables are printed by the program of this package.
+//! The store without proofs, for comparison (see [`baseline`]), and what measures the library beside it (see [`measure`],
+//! [`advances`] for advances of which few cells have changed, and [`lists`] for adds of several ranges). The tables are printed by the
+//! program of this package.
 
 pub mod advances;
 pub mod baseline;
+pub mod lists;
 pub mod measure;
 pub mod stores;

@@ -1,7 +1,9 @@
 //! Prints the library's times beside the same store without proofs, beside a plain scan of the table and beside plain copies, with the
-//! goals that they are held to. With the argument `advances` it measures and prints advances of n cells of which k have changed alone.
+//! goals that they are held to. With the argument `advances` it measures and prints advances of n cells of which k have changed alone,
+//! with `lists` adds of several ranges alone.
 
 use domain_bench::advances::{self, Kept};
+use domain_bench::lists;
 use domain_bench::measure::{FIGURES, Figure, Layout, Medians, NEAR, Shape, Times, measure};
 use std::time::Duration;
 
@@ -24,6 +26,8 @@ const GOAL_RESTORE: f64 = 6.0;
 const GOAL_DISORDER: f64 = 2.0;
 /// An advance of which no cell has changed beside the check of its table and a plain compare of its cells.
 const GOAL_UNCHANGED: f64 = 3.0;
+/// Lists of ranges beside single adds of the same ranges, where these are 1,024: a twentieth.
+const GOAL_SINGLE: f64 = 0.05;
 /// Each call from E = 256 to E = 4,096, with n fixed.
 const GOAL_GROWTH: f64 = 20.0;
 /// The check of the table beside a plain scan.
@@ -52,17 +56,22 @@ const CELLS: [usize; 6] = [1, 9, 64, 512, 1_024, 4_096];
 /// A figure beside its goal, for the account at the end.
 struct Held {
     call: Figure,
-    shape: Shape,
+    /// The shape in words.
+    place: String,
     ratio: f64,
     met: bool,
 }
 
 impl Held {
     fn new(call: Figure, shape: Shape, ratio: f64, goal: f64) -> Self {
+        Held::at(call, place_name(&shape), ratio, goal)
+    }
+
+    fn at(call: Figure, place: String, ratio: f64, goal: f64) -> Self {
         let met = ratio <= goal;
         Held {
             call,
-            shape,
+            place,
             ratio,
             met,
         }
@@ -571,6 +580,84 @@ fn print_advances(all: &[advances::Medians]) -> Advances {
     Advances { beside, unchanged }
 }
 
+/// Adds of several ranges: figures beside the baseline, and beside single adds.
+struct Lists {
+    beside: Vec<Held>,
+    single: Vec<Held>,
+}
+
+fn print_lists(all: &[lists::Medians]) -> Lists {
+    println!(
+        "Adds of several ranges: library and baseline in µs for all lists together, and how many times the baseline (goal {GOAL}); the same ranges by single adds, by both,"
+    );
+    println!(
+        "and which part of the library's single adds its lists take (goal {GOAL_SINGLE} where n is 1,024). Scattered: a range for each of n cells, far apart and in no"
+    );
+    println!(
+        "order, 64 ranges to a list. Tile: nine ranges of eleven cells, three of them copies, three ranges via parent and three by rules. Via parent, and in the tile, a"
+    );
+    println!("domain around holds the cells already.");
+    println!();
+    println!(
+        "|      m |     E | Held       | Cells      |     n | ranges | lists | library | baseline | times baseline | single adds | lists / single | baseline's single adds |"
+    );
+    println!(
+        "|-------:|------:|------------|------------|------:|-------:|------:|--------:|---------:|---------------:|------------:|---------------:|-----------------------:|"
+    );
+    let (mut beside, mut single) = (Vec::new(), Vec::new());
+    for medians in all {
+        let lists::Case {
+            name,
+            shape,
+            records,
+            ..
+        } = &medians.case;
+        let is_tile = *name == "tile";
+        let place = match is_tile {
+            true => format!(
+                "m = {}, E = {}, nine ranges of a tile",
+                number(shape.memory),
+                number(shape.places)
+            ),
+            false => format!("{}, {name}", place_name(shape)),
+        };
+        let held = |ratio, goal| Held::at(Figure::Preserve, place.clone(), ratio, goal);
+        let baseline = held(medians.beside_baseline(), GOAL);
+        let ratio = medians.beside_single();
+        let singly = (shape.cells == lists::CELLS[0]).then(|| held(ratio, GOAL_SINGLE));
+        let part = format!(
+            "{ratio:.3}{}",
+            mark(singly.as_ref().is_none_or(|held| held.met))
+        );
+        println!(
+            "| {:>6} | {:>5} | {:<10} | {:<10} | {:>5} | {:>6} | {:>5} | {:>7} | {:>8} | {:>14} | {:>11} | {part:>14} | {:>22} |",
+            number(shape.memory),
+            number(shape.places),
+            if is_tile { "all kinds" } else { name },
+            if is_tile { "tile" } else { shape.layout.name() },
+            number(shape.cells),
+            number(records.len()),
+            medians.case.calls(),
+            short(medians.library),
+            short(medians.baseline),
+            baseline.text(),
+            short(medians.single),
+            short(medians.single_baseline)
+        );
+        beside.push(baseline);
+        single.extend(singly);
+    }
+    println!();
+    Lists { beside, single }
+}
+
+/// What the goals say of lists.
+fn account_lists(lists: &Lists) {
+    account_named(&format!("lists of ranges <= {GOAL}"), &lists.beside);
+    let title = format!("lists <= {GOAL_SINGLE} single adds");
+    account_named(&title, &lists.single);
+}
+
 /// How many of these figures meet their goal, and the worst of those that do not.
 fn account<'a>(title: &str, held: impl Iterator<Item = &'a Held>) {
     let held: Vec<&Held> = held.collect();
@@ -578,11 +665,7 @@ fn account<'a>(title: &str, held: impl Iterator<Item = &'a Held>) {
     let missed = held.iter().filter(|held| !held.met);
     let worst = missed.max_by(|one, other| one.ratio.total_cmp(&other.ratio));
     let worst = worst.map_or("all met".into(), |held| {
-        format!(
-            "worst {:>5}: {}",
-            short(held.ratio),
-            place_name(&held.shape)
-        )
+        format!("worst {:>5}: {}", short(held.ratio), held.place)
     });
     println!("  {title:<28} {met:>4} of {:>4} met; {worst}", held.len());
 }
@@ -593,8 +676,8 @@ fn account_named(title: &str, held: &[Held]) {
     let mut missed: Vec<&Held> = held.iter().filter(|held| !held.met).collect();
     missed.sort_by(|one, other| other.ratio.total_cmp(&one.ratio));
     for held in missed.iter().take(NAMED) {
-        let (call, shape) = (held.call.name(), place_name(&held.shape));
-        println!("    {:>5}  {call:<10}  {shape}", short(held.ratio));
+        let (call, place) = (held.call.name(), &held.place);
+        println!("    {:>5}  {call:<10}  {place}", short(held.ratio));
     }
     if missed.len() > NAMED {
         println!("           and {} more", missed.len() - NAMED);
@@ -663,13 +746,17 @@ fn account_advances(advances: &Advances) {
 }
 
 fn main() {
-    if std::env::args().nth(1).as_deref() == Some("advances") {
-        account_advances(&print_advances(&advances::measure_all(LIMIT)));
-        return;
+    match std::env::args().nth(1).as_deref() {
+        Some("advances") => {
+            return account_advances(&print_advances(&advances::measure_all(LIMIT)));
+        }
+        Some("lists") => return account_lists(&print_lists(&lists::measure_all(LIMIT))),
+        _ => {}
     }
     print_introduction();
     let all = measure_all();
     let advances = advances::measure_all(LIMIT);
+    let lists = lists::measure_all(LIMIT);
     for memory in MEMORIES {
         for places in PLACES {
             print_shapes(&all, memory, places);
@@ -679,6 +766,7 @@ fn main() {
     print_copies(&all);
     print_by_rule(&all);
     let advances = print_advances(&advances);
+    let lists = print_lists(&lists);
     let beside = beside_baseline(&all);
     let scans = beside_scans(&all);
     let memories = print_memory(&all);
@@ -701,6 +789,7 @@ fn main() {
     );
     account_named(&format!("restore, disorderly <= {GOAL_DISORDER}"), &orders);
     account_advances(&advances);
+    account_lists(&lists);
     account_named(&format!("growth <= {GOAL_GROWTH}"), &growths);
     account(&format!("check <= {GOAL_CHECK} scans"), scans.iter());
 }

@@ -235,7 +235,14 @@ impl<S: Measured> Runner<S> {
     }
 
     pub(crate) fn call(&mut self, call: Call) -> u32 {
-        self.store.call(&mut self.buffers, call)
+        self.store.call(&mut self.buffers, &call)
+    }
+
+    /// Calls that were put together before, one after the other.
+    pub(crate) fn calls(&mut self, calls: &[Call]) -> u32 {
+        calls.iter().fold(0, |refused, call| {
+            refused | self.store.call(&mut self.buffers, call)
+        })
     }
 
     /// The program's writes.

@@ -5,13 +5,43 @@
 use domain_bench::measure::{Layout, Shape, laid_down};
 use domain_bench::stores::Baseline;
 use domain_lend::Linked;
-use domain_model::calls::REFUSALS;
+use domain_model::calls::{REFUSALS, Record};
 use domain_model::rules::pattern;
 use domain_model::{Buffers, Call, FULL, Rng, STOPPED, Sizes, Store};
 use std::collections::BTreeMap;
 
 fn one_in(random: &mut Rng, bound: u64) -> bool {
     random.below(bound) == 0
+}
+
+/// A list of ranges in so many cells from `from` on: mostly a few records, which meet each other, and now and then as many as there may
+/// be, one more, or none.
+fn choose_list(random: &mut Rng, from: u32, cells: u32) -> Call {
+    let many = match random.below(20) {
+        0 => 0,
+        1 => 64,
+        2 => 65,
+        _ => random.between(1, 6),
+    };
+    let records = (0..many).map(|_| {
+        let past = u64::from(one_in(random, 60));
+        let first = random.below(u64::from(cells) + past) as u32;
+        let count = match random.below(60) {
+            0 => 0,
+            1 => u32::MAX,
+            _ => random.between(1, cells.saturating_sub(first).clamp(1, 3).into()) as u32,
+        };
+        let kind = match random.below(60) {
+            0 => 3,
+            1..=14 => 1,
+            15..=29 => 2,
+            _ => 0,
+        };
+        let label = random.below(2) as u32 + u32::from(one_in(random, 80)) * 2;
+        let rule = random.below(4) as u32 + u32::from(one_in(random, 40)) * 4;
+        Record::new(from + first, count, kind, label).with_rule(rule)
+    });
+    Call::ranges(records.collect::<Vec<_>>())
 }
 
 /// A call about so many cells from `from` on.
@@ -36,7 +66,8 @@ fn choose(random: &mut Rng, buffers: &Buffers, from: u32, cells: u32) -> Call {
     };
     let first = from + first;
     let label = random.below(2) as u32;
-    match random.below(100) {
+    match random.below(120) {
+        100..=119 => choose_list(random, from, cells).on(innermost),
         0..=1 => Call::Make,
         2..=6 => Call::Open,
         7..=21 => Call::Create,
@@ -267,6 +298,30 @@ fn with_inner(held: &Buffers, shape: &Shape) -> Buffers {
     inner
 }
 
+/// Lists of ranges about the cells of a shape: the first 64 of them one by one, in falling order; ranges of three that overlap; and each
+/// cell by two kinds, the second of which would not do.
+fn lists(shape: &Shape) -> [Call; 4] {
+    let cell = |at: usize| shape.cell(at % shape.cells) as u32;
+    let most = shape.memory as u32 - 3;
+    let one_by_one: Vec<Record> = (0..64)
+        .rev()
+        .map(|at| Record::copy(cell(at), 1, 1))
+        .collect();
+    let wide: Vec<Record> = (0..20)
+        .map(|at| Record::copy(cell(7 * at).min(most), 3, at as u32 % 2))
+        .collect();
+    let twice = (0..9).flat_map(|at| {
+        let label = at as u32 % 2;
+        [
+            Record::copy(cell(at), 1, 1 - label),
+            Record::pattern(cell(at), 1, 1, label),
+            Record::via_parent(cell(at), 1, 0),
+        ]
+    });
+    let refused = [&wide[..], &[Record::new(0, 1, 3, 0)]].concat();
+    [one_by_one, wide, twice.collect(), refused].map(Call::ranges)
+}
+
 /// Every call that meets a table of this shape, about its cells.
 fn calls(shape: &Shape) -> [Call; 14] {
     let (first, cells) = (shape.first() as u32, shape.cells as u32);
@@ -314,7 +369,7 @@ fn same_in_every_layout() {
         // Each call by itself on the table as it was laid down, with one cell written, and advances with nothing changed, with every
         // third cell changed in one byte and with all of them; then a session.
         for table in [&held, &with_inner(&held, &shape)] {
-            for call in calls(&shape) {
+            for call in calls(&shape).into_iter().chain(lists(&shape)) {
                 ours.copy_from(table);
                 ours.memory[64 * shape.cell(0)..][..64].fill(7);
                 check(&mut random, &mut ours, &call);
@@ -351,10 +406,30 @@ fn same_in_every_layout() {
         }
     }
     println!("answers by number: {numbers:?}");
-    for number in [0, 4, 11, 12, 13, 14, 15, 16, 17, 18, 19, STOPPED] {
+    for number in [0, 4, 7, 11, 12, 13, 14, 15, 16, 17, 18, 19, 20, STOPPED] {
         assert!(
             numbers.contains_key(&number),
             "no call was answered by {number}"
         );
+    }
+}
+
+/// The lists that are measured, on the stores that they are measured in: each list after the one before, cut and whole.
+#[test]
+fn same_in_the_measured_lists() {
+    let mut random = Rng::new(0x00C0_FFEE);
+    for case in domain_bench::lists::cases() {
+        let mut ours = case.laid_down();
+        let mut theirs = ours.clone();
+        for list in case.lists() {
+            // At no byte, among the bytes, among the pairs, and whole.
+            for most in [1, 64 * 64, 70 * 64] {
+                let (mut one, mut other) = (ours.clone(), ours.clone());
+                let budget = random.below(most);
+                same(&mut one, &mut other, &list, budget, || case.name.into());
+            }
+            let number = same(&mut ours, &mut theirs, &list, FULL, || case.name.into());
+            assert_eq!(number, 0, "{}", case.name);
+        }
     }
 }

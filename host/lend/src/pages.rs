@@ -1,10 +1,10 @@
 //! Buffers beside pages that nobody may touch: any load or store past that side is a fault. The
 //! pages are shared with every child that is forked later.
 
-use crate::Lent;
+use crate::{Lent, Range};
 use core::ffi::{c_int, c_long, c_void};
 use core::ptr::slice_from_raw_parts_mut;
-use domain_model::{Buffer, Buffers, Lengths};
+use domain_model::{Buffer, Buffers, Lengths, Record};
 
 pub const NONE: c_int = 0;
 pub const READ: c_int = 1;
@@ -70,6 +70,40 @@ impl Drop for Pages {
 pub enum Side {
     Before,
     After,
+}
+
+/// A list of records that can be read and not stored to, right at a page that nobody may touch.
+pub struct Listed {
+    _pages: Pages,
+    start: *const Range,
+}
+
+impl Listed {
+    pub fn new(records: &[Record], side: Side) -> Listed {
+        let len = size_of_val(records);
+        let room = len.div_ceil(PAGE).max(1) * PAGE;
+        let pages = Pages::new(PAGE + room + PAGE, NONE);
+        let open = pages.start().wrapping_add(PAGE);
+        let start = match side {
+            Side::Before => open,
+            Side::After => open.wrapping_add(room - len),
+        };
+        // SAFETY: the pages are this list's own, and the records fit into the open ones.
+        unsafe {
+            assert_eq!(mprotect(open.cast(), room, READ_WRITE), 0);
+            start.copy_from_nonoverlapping(records.as_ptr().cast(), len);
+            assert_eq!(mprotect(open.cast(), room, READ), 0);
+        }
+        Listed {
+            _pages: pages,
+            start: start.cast(),
+        }
+    }
+
+    /// The first of the records. It lives as long as this does.
+    pub fn start(&self) -> *const Range {
+        self.start
+    }
 }
 
 /// One buffer between its closed pages. Addresses and lengths are in bytes.

@@ -7,7 +7,7 @@
 
 use domain_lend::{Outs, lent, run};
 use domain_model::rules::{SCALE, pattern};
-use domain_model::{Buffers, Call, FULL, STOPPED, Sizes};
+use domain_model::{Buffers, Call, FULL, Record, STOPPED, Sizes};
 use std::collections::BTreeMap;
 use std::ffi::c_void;
 use std::io::Write;
@@ -87,26 +87,26 @@ struct Probe {
 impl Probe {
     /// Makes one call on the painted stack and notes what it used. It has to give this number: it would not use what it uses when it
     /// answers so.
-    fn call(&mut self, number: u32, call: Call, budget: u64) {
+    fn call(&mut self, number: u32, call: &Call, budget: u64) {
         let (lent, mut outs, mut found) = (lent(&mut self.buffers), Outs::new(), u32::MAX);
         // SAFETY: buffers and out parameters of this test's own.
-        let bytes = used_by(|| found = unsafe { run(lent, &call, budget, &mut outs) });
+        let bytes = used_by(|| found = unsafe { run(lent, call, budget, &mut outs) });
         assert_eq!(found, number, "{call} with budget {budget}");
         let most = self.used.entry(call.name()).or_insert(0);
         *most = bytes.max(*most);
     }
 
     fn done(&mut self, call: Call) {
-        self.call(0, call, FULL);
+        self.call(0, &call, FULL);
     }
 
     fn refused(&mut self, number: u32, call: Call) {
-        self.call(number, call, FULL);
+        self.call(number, &call, FULL);
     }
 
     /// A call that is stopped, and the opening after it.
     fn stopped(&mut self, call: Call, budget: u64) {
-        self.call(STOPPED, call, budget);
+        self.call(STOPPED, &call, budget);
         self.done(Call::Open);
     }
 }
@@ -123,7 +123,8 @@ fn used_in(m: u32, places: u32) -> BTreeMap<&'static str, usize> {
         used: BTreeMap::new(),
     };
     probe.buffers.memory.fill(7);
-    let (advance, commit) = (Call::Advance { handle: 0 }, Call::Commit { handle: 0 });
+    const ADVANCE: Call = Call::Advance { handle: 0 };
+    const COMMIT: Call = Call::Commit { handle: 0 };
     let restore = |handle| Call::Restore { handle };
     let look = |handle, cell| Call::Look { handle, cell };
     // A quarter of the places for each: two domains of copies, one of them advanced, and one via parent.
@@ -133,9 +134,9 @@ fn used_in(m: u32, places: u32) -> BTreeMap<&'static str, usize> {
     // Nothing made yet.
     probe.refused(2, Call::Open);
     probe.done(Call::Make);
-    probe.call(STOPPED, Call::Make, 20);
+    probe.call(STOPPED, &Call::Make, 20);
     probe.done(Call::Make);
-    probe.refused(5, advance);
+    probe.refused(5, ADVANCE);
 
     // The first domain copies cells at the end of memory.
     probe.done(Call::Create);
@@ -143,13 +144,13 @@ fn used_in(m: u32, places: u32) -> BTreeMap<&'static str, usize> {
     probe.done(Call::copy(first, part, 0));
     probe.done(Call::copy(first, part, 1));
     // The second holds them via parent, and the third copies them; it is cut in its table part.
-    probe.call(STOPPED, Call::Create, 8);
+    probe.call(STOPPED, &Call::Create, 8);
     probe.refused(3, Call::List);
     probe.done(Call::Open);
     probe.done(Call::via_parent(first, part, 1));
     probe.done(Call::Create);
     let late = 64 * u64::from(part) + 4 * u64::from(part) + 10;
-    probe.call(STOPPED, Call::copy(first, part, 1), late);
+    probe.call(STOPPED, &Call::copy(first, part, 1), late);
     probe.stopped(Call::Open, 5);
 
     probe.done(Call::List);
@@ -158,28 +159,29 @@ fn used_in(m: u32, places: u32) -> BTreeMap<&'static str, usize> {
     probe.refused(8, look(1, m));
 
     // Nothing has changed; then every cell, and the copies take the last quarter of the places.
-    probe.done(advance);
+    probe.done(ADVANCE);
     probe.buffers.memory.fill(8);
-    probe.done(advance);
+    probe.done(ADVANCE);
     probe.buffers.memory.fill(7);
-    probe.stopped(advance, 100);
+    probe.stopped(ADVANCE, 100);
     probe.done(Call::delete(0, first, 1));
     probe.refused(14, Call::delete(1, first, 1));
     probe.refused(13, Call::delete(0, first, 1));
-    probe.stopped(commit, 9);
+    probe.stopped(COMMIT, 9);
     probe.done(restore(0));
-    probe.done(commit);
+    probe.done(COMMIT);
     probe.done(restore(2));
     // Via parent, unchanged and changed.
-    probe.done(advance);
+    probe.done(ADVANCE);
     probe.buffers.memory.fill(8);
-    probe.stopped(advance, 100);
+    probe.stopped(ADVANCE, 100);
     probe.stopped(restore(1), 100);
     probe.done(restore(1));
     probe.buffers.memory.fill(9);
     probe.done(Call::Advance { handle: 1 });
-    probe.done(commit);
+    probe.done(COMMIT);
     by_rule(&mut probe, m, places);
+    by_lists(&mut probe, m, places);
     probe.used
 }
 
@@ -212,6 +214,59 @@ fn by_rule(probe: &mut Probe, m: u32, places: u32) {
     probe.buffers.memory.fill(9);
     probe.stopped(Call::Advance { handle: 0 }, 100);
     probe.done(Call::Advance { handle: 0 });
+    probe.done(Call::Commit { handle: 0 });
+}
+
+/// Lists of 64 records: of all kinds, over all entries and as many bodies, in falling order and one over the other; done, refused at the
+/// first question on a list, at the last record and for room, and stopped.
+fn by_lists(probe: &mut Probe, m: u32, places: u32) {
+    let scale = pattern(SCALE).expect("a rule");
+    // The outer domain holds an eighth of the places, and what is left is for the list.
+    let (held, part) = (places / 8, places / 64);
+    let first = m - places;
+    probe.buffers.memory.fill(7);
+    probe.done(Call::Create);
+    probe.done(Call::copy(first, held, 1));
+    probe.done(Call::Create);
+    for cell in m - held..m {
+        probe.buffers.write_cell(cell, &scale);
+    }
+    // Via the parent the first eighth, copies in between, by a rule the last eighth.
+    let records: Vec<Record> = (0..64)
+        .rev()
+        .map(|at| {
+            let first = first + part * at;
+            match at {
+                0..8 => Record::via_parent(first, part, at % 2),
+                8..56 => Record::copy(first, part, at % 2),
+                _ => Record::pattern(first, part, SCALE, at % 2),
+            }
+        })
+        .collect();
+    let with_last = |last: Record| {
+        let mut records = records.clone();
+        records[63] = last;
+        Call::ranges(records)
+    };
+    probe.refused(20, Call::ranges([]));
+    probe.refused(20, Call::ranges([records[0]; 65]));
+    probe.refused(7, with_last(Record::new(first, 1, 3, 0)));
+    probe.refused(8, with_last(Record::copy(m, 1, 0)));
+    probe.refused(18, with_last(Record::pattern(first - 1, 1, SCALE, 0)));
+    probe.refused(11, with_last(Record::via_parent(first - 1, 1, 0)));
+    // As many new cells as there are entries, of which the outer domain has an eighth.
+    probe.refused(16, Call::ranges(records.clone()));
+    // What fits: seven eighths.
+    let fits = Call::ranges(records[8..].to_vec());
+    probe.stopped(fits.clone(), 100);
+    let copied = 64 * u64::from(part) * 48;
+    probe.stopped(fits.clone(), copied + 50);
+    probe.done(fits.clone());
+    // Nothing new; and every label raised, by 64 records that name all cells.
+    probe.done(fits);
+    let all = Record::copy(first, held * 7, 1);
+    probe.done(Call::ranges([all; 64]));
+    probe.done(Call::Commit { handle: 0 });
     probe.done(Call::Commit { handle: 0 });
 }
 

@@ -1,14 +1,18 @@
-//! The ten calls: questions in their order, what a call leaves, its steps, and what each cut
-//! leaves.
+//! The calls: questions in their order, what a call leaves, its steps, and what each cut leaves. Add
+//! has two forms, a plain one and one that takes a list of records (request A.3); the plain one is
+//! the list of its one record.
+
+mod add;
 
 use crate::fault::Fault;
 use crate::reply::{BY_RULE, IN_BODIES, IN_MEMORY, Reply, STOPPED};
-use crate::rules::{RULES, SCALE, pattern};
+use crate::rules::{SCALE, pattern};
 use crate::state::{Bytes, CELL, Domain, Holding, Kept, State, cell_of};
 use crate::table::Decoded;
 use std::collections::{BTreeMap, BTreeSet};
 use std::fmt;
 use std::ops::{Range, RangeInclusive};
+use std::slice;
 
 /// How add keeps a cell, as its kind: by a copy of the bytes, by what the next domain out holds, or
 /// by a rule.
@@ -21,12 +25,16 @@ pub const READ_ONLY: u32 = 0;
 pub const READ_WRITE: u32 = 1;
 
 /// The numbers that a call can be refused by.
-pub const REFUSALS: RangeInclusive<u32> = 1..=19;
+pub const REFUSALS: RangeInclusive<u32> = 1..=20;
 
-/// The numbers of an add.
+/// How many records a list may have.
+pub const RECORDS: RangeInclusive<usize> = 1..=64;
+
+/// A record of the list that an add takes (request A.3). It is as C lays it out: five words in this
+/// order, so that a list can be lent as it stands.
 #[derive(Clone, Copy, PartialEq, Eq, Debug)]
-pub struct Add {
-    pub handle: u32,
+#[repr(C)]
+pub struct Record {
     pub first: u32,
     pub count: u32,
     pub kind: u32,
@@ -35,36 +43,114 @@ pub struct Add {
     pub label: u32,
 }
 
-/// A call with its arguments. The numbers are as lent, right or wrong.
-#[derive(Clone, Copy, PartialEq, Eq, Debug)]
-pub enum Call {
-    Make,
-    Open,
-    Create,
-    Add(Add),
-    Delete { handle: u32, first: u32, count: u32 },
-    Commit { handle: u32 },
-    Advance { handle: u32 },
-    Restore { handle: u32 },
-    List,
-    Look { handle: u32, cell: u32 },
-}
-
-impl Call {
-    pub const NAMES: [&'static str; 10] = [
-        "make", "open", "create", "add", "delete", "commit", "advance", "restore", "list", "look",
-    ];
-
-    /// An add to the innermost domain, with rule 0.
-    pub fn add(first: u32, count: u32, kind: u32, label: u32) -> Call {
-        Call::Add(Add {
-            handle: 0,
+impl Record {
+    /// A record of this kind, with rule 0.
+    pub const fn new(first: u32, count: u32, kind: u32, label: u32) -> Record {
+        Record {
             first,
             count,
             kind,
             rule: 0,
             label,
-        })
+        }
+    }
+
+    pub const fn copy(first: u32, count: u32, label: u32) -> Record {
+        Record::new(first, count, COPY, label)
+    }
+
+    pub const fn via_parent(first: u32, count: u32, label: u32) -> Record {
+        Record::new(first, count, VIA_PARENT, label)
+    }
+
+    pub const fn pattern(first: u32, count: u32, rule: u32, label: u32) -> Record {
+        Record::new(first, count, PATTERN, label).with_rule(rule)
+    }
+
+    /// The same record with this rule number.
+    pub const fn with_rule(self, rule: u32) -> Record {
+        Record { rule, ..self }
+    }
+
+    /// First cell, count, kind, rule and label.
+    pub fn numbers_mut(&mut self) -> [&mut u32; 5] {
+        let Record {
+            first,
+            count,
+            kind,
+            rule,
+            label,
+        } = self;
+        [first, count, kind, rule, label]
+    }
+}
+
+/// A call with its arguments. The numbers are as lent, right or wrong.
+#[derive(Clone, PartialEq, Eq, Debug)]
+pub enum Call {
+    Make,
+    Open,
+    Create,
+    /// The plain add.
+    Add {
+        handle: u32,
+        record: Record,
+    },
+    /// The add of a list.
+    AddRanges {
+        handle: u32,
+        records: Vec<Record>,
+    },
+    Delete {
+        handle: u32,
+        first: u32,
+        count: u32,
+    },
+    Commit {
+        handle: u32,
+    },
+    Advance {
+        handle: u32,
+    },
+    Restore {
+        handle: u32,
+    },
+    List,
+    Look {
+        handle: u32,
+        cell: u32,
+    },
+}
+
+impl Call {
+    pub const NAMES: [&'static str; 11] = [
+        "make",
+        "open",
+        "create",
+        "add",
+        "add_ranges",
+        "delete",
+        "commit",
+        "advance",
+        "restore",
+        "list",
+        "look",
+    ];
+
+    /// An add to the innermost domain, with rule 0.
+    pub fn add(first: u32, count: u32, kind: u32, label: u32) -> Call {
+        Call::Add {
+            handle: 0,
+            record: Record::new(first, count, kind, label),
+        }
+    }
+
+    /// An add of a list to the innermost domain.
+    pub fn ranges(records: impl Into<Vec<Record>>) -> Call {
+        Call::AddRanges {
+            handle: 0,
+            records: records.into(),
+        }
     }
 
     /// An add by copy to the innermost domain.
@@ -84,10 +170,19 @@ impl Call {
 
     /// The same call with this rule number, where it takes one.
     pub fn with_rule(mut self, rule: u32) -> Call {
-        if let Call::Add(add) = &mut self {
-            add.rule = rule;
+        if let Call::Add { record, .. } = &mut self {
+            record.rule = rule;
         }
         self
+    }
+
+    /// The handle and the records of an add: a plain one has one record.
+    pub fn records(&self) -> Option<(u32, &[Record])> {
+        match self {
+            Call::Add { handle, record } => Some((*handle, slice::from_ref(record))),
+            Call::AddRanges { handle, records } => Some((*handle, records)),
+            _ => None,
+        }
     }
 
     pub fn delete(handle: u32, first: u32, count: u32) -> Call {
@@ -114,6 +209,11 @@ impl Call {
             Call::Open,
             Call::Create,
             Call::copy(cell, 1, READ_WRITE),
+            Call::ranges([
+                Record::copy(cell, 1, READ_ONLY),
+                Record::copy(0, 1, READ_ONLY),
+                Record::via_parent(cell, 1, READ_WRITE),
+            ]),
             Call::delete(handle, cell, 1),
             Call::Commit { handle: 0 },
             Call::Advance { handle: 0 },
@@ -129,13 +229,14 @@ impl Call {
             Call::Make => 0,
             Call::Open => 1,
             Call::Create => 2,
-            Call::Add(_) => 3,
-            Call::Delete { .. } => 4,
-            Call::Commit { .. } => 5,
-            Call::Advance { .. } => 6,
-            Call::Restore { .. } => 7,
-            Call::List => 8,
-            Call::Look { .. } => 9,
+            Call::Add { .. } => 3,
+            Call::AddRanges { .. } => 4,
+            Call::Delete { .. } => 5,
+            Call::Commit { .. } => 6,
+            Call::Advance { .. } => 7,
+            Call::Restore { .. } => 8,
+            Call::List => 9,
+            Call::Look { .. } => 10,
         }
     }
 
@@ -144,26 +245,23 @@ impl Call {
     }
 
     /// The call's numbers: handle, first cell (for look the cell), count, kind, rule and label, as
-    /// far as it has them.
+    /// far as it has them. Of a list this is the handle alone: the others are its records'.
     pub fn numbers_mut(&mut self) -> [Option<&mut u32>; 6] {
         match self {
             Call::Make | Call::Open | Call::Create | Call::List => [const { None }; 6],
-            Call::Add(Add {
-                handle,
-                first,
-                count,
-                kind,
-                rule,
-                label,
-            }) => [handle, first, count, kind, rule, label].map(Some),
+            Call::Add { handle, record } => {
+                let [first, count, kind, rule, label] = record.numbers_mut();
+                [handle, first, count, kind, rule, label].map(Some)
+            }
             Call::Delete {
                 handle,
                 first,
                 count,
             } => [Some(handle), Some(first), Some(count), None, None, None],
-            Call::Commit { handle } | Call::Advance { handle } | Call::Restore { handle } => {
-                [Some(handle), None, None, None, None, None]
-            }
+            Call::Commit { handle }
+            | Call::Advance { handle }
+            | Call::Restore { handle }
+            | Call::AddRanges { handle, .. } => [Some(handle), None, None, None, None, None],
             Call::Look { handle, cell } => [Some(handle), Some(cell), None, None, None, None],
         }
     }
@@ -180,16 +278,29 @@ impl Call {
 }
 
 /// What an add takes cells by. A rule is named also where the kind ignores it.
-fn kind_text(add: &Add) -> String {
-    let kind = match add.kind {
+fn kind_text(record: &Record) -> String {
+    let kind = match record.kind {
         COPY => "copy".to_string(),
         VIA_PARENT => "via parent".to_string(),
-        PATTERN => return format!("by rule {}", add.rule),
+        PATTERN => return format!("by rule {}", record.rule),
         n => format!("kind {n}"),
     };
-    match add.rule {
+    match record.rule {
         0 => kind,
         rule => format!("{kind} (rule {rule})"),
+    }
+}
+
+impl fmt::Display for Record {
+    fn fmt(&self, f: &mut fmt::Formatter<'_>) -> fmt::Result {
+        let kind = kind_text(self);
+        let label = match self.label {
+            READ_ONLY => "read-only".to_string(),
+            READ_WRITE => "read-write".to_string(),
+            n => format!("label {n}"),
+        };
+        let Record { first, count, .. } = self;
+        write!(f, "first {first}, count {count}, {kind}, {label}")
     }
 }
 
@@ -198,23 +309,18 @@ impl fmt::Display for Call {
         let name = self.name();
         match self {
             Call::Make | Call::Open | Call::Create | Call::List => write!(f, "{name}"),
-            Call::Add(add) => {
-                let kind = kind_text(add);
-                let label = match add.label {
-                    READ_ONLY => "read-only".to_string(),
-                    READ_WRITE => "read-write".to_string(),
-                    n => format!("label {n}"),
-                };
-                let Add {
-                    handle,
-                    first,
-                    count,
-                    ..
-                } = add;
-                write!(
-                    f,
-                    "add to {handle}: first {first}, count {count}, {kind}, {label}"
-                )
+            Call::Add { handle, record } => write!(f, "add to {handle}: {record}"),
+            Call::AddRanges { handle, records } => {
+                write!(f, "add {} ranges to {handle}:", records.len())?;
+                let mut next = 1;
+                for same in records.chunk_by(|one, other| one == other) {
+                    match same.len() {
+                        1 => write!(f, " ({next}) {}", same[0])?,
+                        many => write!(f, " ({next} to {}) {}", next + many - 1, same[0])?,
+                    }
+                    next += same.len();
+                }
+                Ok(())
             }
             Call::Delete {
                 handle,
@@ -328,6 +434,8 @@ pub struct Work {
     /// The new handle of a create, else 0.
     pub handle: u32,
     shape: Shape,
+    /// An error: the call is made in these parts, each with its own bytes and its own journal.
+    parts: Vec<Work>,
 }
 
 #[derive(Clone, Copy, PartialEq, Eq, Debug)]
@@ -465,7 +573,11 @@ impl Model {
         match *call {
             Call::Make | Call::Open => unreachable!(),
             Call::Create => self.create(state),
-            Call::Add(add) => self.add(sizes, state, memory, add),
+            Call::Add { handle, record } => self.add(sizes, state, memory, handle, &[record]),
+            Call::AddRanges {
+                handle,
+                ref records,
+            } => self.add(sizes, state, memory, handle, records),
             Call::Delete {
                 handle,
                 first,
@@ -496,11 +608,12 @@ impl Model {
             after,
             handle: 0,
             shape,
+            parts: Vec::new(),
         }
     }
 
     /// Counts the steps: 64 for each copy taken or cell put back, then 3p + 2, or none if p is 0.
-    fn count(&self, mut work: Work) -> Result<Verdict, u32> {
+    fn with_steps(&self, mut work: Work) -> Work {
         let bytes = CELL as u64 * (work.taken.len() + work.put_back.len()) as u64;
         work.need = bytes
             + if work.words == 0 {
@@ -511,7 +624,12 @@ impl Model {
         if self.has(Fault::StepTooMany) {
             work.need += 1;
         }
-        Ok(Verdict::Work(work))
+        work
+    }
+
+    /// The answer of a call whose work is known but for its steps.
+    fn count(&self, work: Work) -> Result<Verdict, u32> {
+        Ok(Verdict::Work(self.with_steps(work)))
     }
 
     /// Questions 5 and 6: the domain that a handle names, which has to be the innermost.
@@ -581,75 +699,6 @@ impl Model {
         })
     }
 
-    fn add(&self, sizes: Sizes, state: &State, memory: &[u8], add: Add) -> Result<Verdict, u32> {
-        let named = self.innermost(state, add.handle)?;
-        if add.kind > PATTERN || add.label > READ_WRITE {
-            return Err(7);
-        }
-        let range = self.range(sizes, add.first, add.count)?;
-        let domain = &state.domains[named];
-        let new: Vec<u32> = range.clone().filter(|c| !domain.holds(*c)).collect();
-        // 11, 12, 18, 19, 16, 17: of these, 18 is for a pattern alone, 11, 12 and 19 for via parent.
-        match add.kind {
-            VIA_PARENT if !new.is_empty() => self.rests_on_parent(state, memory, named, &new)?,
-            PATTERN => self.follows_rule(memory, add.rule, &new)?,
-            _ => {}
-        }
-        self.room(sizes, state, add.kind, new.len() as u64)?;
-        self.count(self.added(state, memory, add, range))
-    }
-
-    /// Questions 11, 12 and 19, each for all newly held cells before the next.
-    fn rests_on_parent(
-        &self,
-        state: &State,
-        memory: &[u8],
-        named: usize,
-        new: &[u32],
-    ) -> Result<(), u32> {
-        let outer = named.checked_sub(1).ok_or(11u32)?;
-        let lacks = |c: &u32| !state.domains[outer].holds(*c);
-        let differs = |c: &u32| self.differs(state, memory, outer, *c);
-        let by_rule = |c: &u32| state.domains[outer].rule(*c).is_some();
-        if self.has(Fault::Question12CellByCell) {
-            for c in new {
-                if lacks(c) {
-                    return Err(11);
-                }
-                if differs(c) {
-                    return Err(12);
-                }
-            }
-        }
-        if new.iter().any(lacks) {
-            return Err(11);
-        }
-        if self.has(Fault::Question19BeforeQuestion12) && new.iter().any(by_rule) {
-            return Err(19);
-        }
-        if !self.has(Fault::NoQuestion12) && new.iter().any(differs) {
-            return Err(12);
-        }
-        if !self.has(Fault::NoQuestion19) && new.iter().any(by_rule) {
-            return Err(19);
-        }
-        Ok(())
-    }
-
-    /// Question 18: there is such a rule, whether or not a cell is new, and memory follows it in
-    /// every newly held cell.
-    fn follows_rule(&self, memory: &[u8], rule: u32, new: &[u32]) -> Result<(), u32> {
-        if !RULES.contains(&rule) {
-            let asked = !new.is_empty() || !self.has(Fault::RuleAskedOfNewCellsOnly);
-            return if asked { Err(18) } else { Ok(()) };
-        }
-        let follows = |c: &u32| self.pattern(rule) == Some(cell_of(memory, *c));
-        if !new.iter().all(follows) && !self.has(Fault::NoQuestion18) {
-            return Err(18);
-        }
-        Ok(())
-    }
-
     /// Copies in use.
     fn copies(&self, state: &State) -> u64 {
         let also = match self.has(Fault::PatternCountsAsCopy) {
@@ -657,74 +706,6 @@ impl Model {
             false => 0,
         };
         state.copies() + also
-    }
-
-    /// Questions 16 and 17: every newly held cell takes an entry, and a copy a body too.
-    fn room(&self, sizes: Sizes, state: &State, kind: u32, new: u64) -> Result<(), u32> {
-        let takes_body = match kind {
-            COPY => true,
-            PATTERN => self.has(Fault::PatternCountsAsCopy),
-            _ => false,
-        };
-        let no_16 = state.entries() + new > u64::from(sizes.e);
-        let no_17 = takes_body && self.copies(state) + new > u64::from(sizes.b);
-        if no_17 && (!no_16 || self.has(Fault::BodiesBeforeEntries)) {
-            return Err(17);
-        }
-        if no_16 {
-            return Err(16);
-        }
-        Ok(())
-    }
-
-    /// What an add has to do that is not refused.
-    fn added(&self, state: &State, memory: &[u8], add: Add, range: Range<u32>) -> Work {
-        let mut work = self.work(state.clone());
-        let cells = &mut work.after.domains.last_mut().expect("live").cells;
-        for c in range {
-            let bytes = cell_of(memory, c);
-            let held = match cells.get(&c) {
-                Some(held) => self.added_again(*held, add, bytes),
-                None => Holding {
-                    read_write: add.label == READ_WRITE,
-                    kept: match add.kind {
-                        COPY => Kept::Copy(bytes),
-                        VIA_PARENT => Kept::ViaParent,
-                        _ => Kept::Rule(add.rule),
-                    },
-                },
-            };
-            let old = cells.insert(c, held);
-            // Bytes are taken for a new copy alone; two words for an entry that is taken or changed.
-            if old.map(|old| old.kept) != Some(held.kept) && held.kept.is_copy() {
-                work.taken.push((c, bytes));
-            }
-            let raised = old.is_none_or(|old| old.read_write != held.read_write);
-            let turned = old.is_some_and(|old| old.kept.rule() != held.kept.rule());
-            let uncounted = self.has(Fault::RaiseWithoutSteps) && old.is_some() && held.read_write;
-            if turned || raised && !uncounted {
-                work.words += 2;
-            }
-        }
-        work
-    }
-
-    /// What becomes of a cell that is held already: it keeps kind and value, and its label can rise.
-    fn added_again(&self, mut held: Holding, add: Add, bytes: Bytes) -> Holding {
-        if add.label == READ_WRITE {
-            held.read_write = true;
-        } else if self.has(Fault::LabelGoesBack) {
-            held.read_write = false;
-        }
-        let turns = match held.kept {
-            Kept::Copy(_) => self.has(Fault::AddTakesNewValue),
-            Kept::Rule(_) => self.has(Fault::AddTurnsPattern),
-            Kept::ViaParent => false,
-        };
-        if turns && add.kind == COPY {
-            held.kept = Kept::Copy(bytes);
-        }
-        held
     }
 
     fn delete(
@@ -1029,6 +1010,11 @@ impl Work {
         self.shape == Shape::EarlyWord6
     }
 
+    /// The parts in which the call is made, where it is not made as one (an error).
+    pub(crate) fn parts(&self) -> &[Work] {
+        &self.parts
+    }
+
     /// Byte steps: 64 for each copy taken or cell put back.
     pub fn byte_steps(&self) -> u64 {
         (CELL * (self.taken.len() + self.put_back.len())) as u64
@@ -1061,6 +1047,9 @@ impl Work {
             state: self.after.clone(),
             pending: pending as u32,
         };
+        if !self.parts.is_empty() {
+            return self.parts_after(before, k);
+        }
         match self.shape {
             Shape::Make => {
                 if k == 0 {
@@ -1100,6 +1089,19 @@ impl Work {
                 }
             }
         }
+    }
+
+    /// The error of a call that is made in parts: those before the step are made, and one is cut.
+    fn parts_after(&self, before: &Reading, k: u64) -> Reading {
+        let (mut reading, mut left) = (before.clone(), k);
+        for part in &self.parts {
+            reading = part.reading_after(&reading, left);
+            if left < part.need {
+                break;
+            }
+            left -= part.need;
+        }
+        reading
     }
 
     /// The error of an advance in place: the first `k` bytes are in the old bodies already.

@@ -1,7 +1,7 @@
-//! Document 01's "edges to run" and those of requests A.1 and A.2, as scripts that any store can be
-//! put through. Cells are filled with one byte, or follow a rule.
+//! Document 01's "edges to run" and those of requests A.1 to A.3, as scripts that any store can be put
+//! through. Cells are filled with one byte, or follow a rule.
 
-use crate::calls::{Call, READ_ONLY as RO, READ_WRITE as RW, Sizes};
+use crate::calls::{Call, READ_ONLY as RO, READ_WRITE as RW, Record, Sizes};
 use crate::reply::{BY_RULE, IN_BODIES, IN_MEMORY};
 use crate::rules::{INDEX, ONES, SCALE, ZEROS};
 
@@ -45,7 +45,7 @@ const USUAL: Sizes = Sizes { m: 4, e: 8, b: 8 };
 
 /// Every edge but table lengths and damaged tables, which need no script.
 pub fn scripts() -> Vec<Script> {
-    [document_01(), patterns(), shorter_advances()].concat()
+    [document_01(), patterns(), shorter_advances(), lists()].concat()
 }
 
 #[rustfmt::skip]
@@ -275,4 +275,185 @@ fn shorter_advances() -> Vec<Script> {
              add(Call::copy(4, 2, RW)), copies(0), Fill(1, 9), Fill(3, 9), Fill(5, 9), copies(3), via(1, 0), Answers(Call::delete(1, 1, 1), 0),
              is_rule(2, 2, ZEROS), is_copy(2, 3), is_copy(2, 4), is_copy(2, 5), restore(2), See(0, 0), See(1, 9), See(2, 0), See(3, 9), See(4, 0), See(5, 9)]);
     list
+}
+
+/// The nine ranges of a tile, in a memory of 16 cells: three via the domain around it, which has to
+/// hold cells 0 to 3, three copies and three by rules. They do not rise by cell. Eleven cells.
+pub const TILE: [Record; 9] = [
+    Record::copy(15, 1, RW),
+    Record::via_parent(0, 1, RW),
+    Record::pattern(12, 2, SCALE, RW),
+    Record::copy(4, 1, RW),
+    Record::via_parent(1, 1, RO),
+    Record::pattern(5, 1, ZEROS, RW),
+    Record::via_parent(2, 1, RW),
+    Record::copy(8, 1, RO),
+    Record::pattern(9, 2, INDEX, RO),
+];
+
+/// So many records of one cell each, from cell 0 on.
+pub fn one_cell_records(many: u32, kind: u32, label: u32) -> Vec<Record> {
+    (0..many)
+        .map(|cell| Record::new(cell, 1, kind, label))
+        .collect()
+}
+
+/// The edges of request A.3: an add of several ranges.
+#[rustfmt::skip]
+fn lists() -> Vec<Script> {
+    use Line::*;
+    use Record as R;
+    let create = || Answers(Call::Create, 0);
+    let add = |call| Answers(call, 0);
+    let list = |records: &[R], answer| Answers(Call::ranges(records), answer);
+    // A list that is done: so many copies, and so many entries taken or raised.
+    let takes = |records: &[R], copies: u64, entries: u64| {
+        Takes(Call::ranges(records), 64 * copies + if entries == 0 { 0 } else { 6 * entries + 2 })
+    };
+    let restore = |handle| Answers(Call::Restore { handle }, 0);
+    let copies = |k: u64| Takes(Call::Advance { handle: 0 }, if k == 0 { 0 } else { 70 * k + 2 });
+    let is_rule = |handle, cell, rule| Looks(handle, cell, BY_RULE, rule);
+    let is_copy = |handle, cell| Looks(handle, cell, IN_BODIES, 0);
+    let is_free = |handle, cell| Looks(handle, cell, IN_MEMORY, 0);
+    let via = |out, cell| Answers(Call::delete(out, cell, 1), 14);
+    let fill = |cells: std::ops::Range<u32>, byte| cells.map(|c| Fill(c, byte)).collect::<Vec<_>>();
+    let see = |cells: std::ops::Range<u32>, byte| cells.map(|c| See(c, byte)).collect::<Vec<_>>();
+
+    let mut list_of = Vec::new();
+    let mut edge = |name, sizes, lines: Vec<Line>| list_of.push(Script { name, sizes, lines });
+    let eight = Sizes { m: 8, e: 8, b: 8 };
+    let large = Sizes { m: 16, e: 24, b: 16 };
+
+    // Cells 0 to 3 have 7, and domain 1 holds them; then come the values of the tile's cells.
+    let tile = || [fill(0..4, 7), vec![create(), add(Call::copy(0, 4, RW)), Fill(4, 14), Fill(8, 18), Fill(15, 25), Pattern(9, INDEX), Pattern(10, INDEX),
+                   Pattern(12, SCALE), Pattern(13, SCALE), create()]].concat();
+    let back = || [see(0..3, 7), vec![See(4, 14), See(5, 0), See(8, 18), SeePattern(9, INDEX), SeePattern(10, INDEX), SeePattern(12, SCALE),
+                   SeePattern(13, SCALE), See(15, 25)]].concat();
+    edge("nine ranges of a tile", large,
+        [tile(), vec![takes(&TILE, 3, 11), via(1, 0), via(1, 1), via(1, 2), is_copy(2, 4), is_copy(2, 8), is_copy(2, 15), is_rule(2, 5, ZEROS),
+                      is_rule(2, 9, INDEX), is_rule(2, 12, SCALE), is_rule(2, 13, SCALE), is_free(2, 6), takes(&TILE, 0, 0)],
+         fill(0..16, 99), vec![restore(2)], back(), see(6..8, 99)].concat());
+    // Read-only: cells 1, 8, 9 and 10. The domain around it holds the others via parent's cells only.
+    edge("nine ranges of a tile, committed", large,
+        [tile(), vec![takes(&TILE, 3, 11), Answers(Call::Commit { handle: 0 }, 0)], fill(0..16, 99), vec![restore(1)], back(), vec![See(3, 7)]].concat());
+
+    edge("no record, one, 64 and 65", Sizes { m: 65, e: 65, b: 1 },
+        vec![create(), list(&[], 20), takes(&[R::pattern(64, 1, ZEROS, RO)], 0, 1), list(&one_cell_records(65, 2, RO), 20), is_free(1, 0),
+             takes(&one_cell_records(64, 2, RO), 0, 64), is_rule(1, 63, ZEROS), takes(&one_cell_records(64, 2, RO), 0, 0), list(&one_cell_records(65, 2, RO), 20)]);
+    edge("64 copies of one cell", USUAL,
+        vec![Fill(1, 7), create(), list(&[R::copy(1, 1, RO); 65], 20), takes(&[R::copy(1, 1, RO); 64], 1, 1), takes(&[R::copy(1, 1, RW); 64], 0, 1),
+             Fill(1, 9), restore(1), See(1, 7)]);
+    edge("20 comes after 5 and 6", USUAL,
+        vec![Answers(Call::ranges([]), 5), create(), Answers(Call::ranges([]).on(7), 5), Answers(Call::ranges([R::copy(0, 1, RO); 65]).on(7), 5), create(),
+             Answers(Call::ranges([]).on(1), 6), Answers(Call::ranges([R::copy(0, 1, RO); 65]).on(1), 6), Answers(Call::ranges([]).on(2), 20)]);
+    edge("20 comes before any record's questions", USUAL,
+        vec![create(), list(&[R::new(0, 1, 3, RO); 65], 20), list(&[R::new(0, 1, 3, RO); 64], 7), list(&[R::copy(4, 1, RO); 65], 20),
+             list(&[R::copy(4, 1, RO); 64], 8), list(&[R::pattern(0, 1, 4, RO); 65], 20)]);
+    edge("a list of one record is the plain add", Sizes { e: 2, b: 1, ..USUAL },
+        vec![Fill(0, 7), create(), list(&[R::new(0, 1, 3, 0)], 7), list(&[R::copy(0, 1, 2)], 7), list(&[R::copy(0, 0, RO)], 8), list(&[R::copy(3, 2, RO)], 8),
+             list(&[R::via_parent(0, 1, RO)], 11), list(&[R::pattern(0, 1, ZEROS, RO)], 18), list(&[R::copy(0, 3, RO)], 16), list(&[R::copy(0, 2, RO)], 17),
+             takes(&[R::copy(0, 1, RO)], 1, 1), takes(&[R::copy(0, 1, RO)], 0, 0), takes(&[R::copy(0, 1, RW)], 0, 1), Fill(0, 9), restore(1), See(0, 7)]);
+
+    // Two records on one cell.
+    for (name, labels, raised) in [
+        ("read-only, then read-write", [RO, RW], true), ("read-write, then read-only", [RW, RO], true),
+        ("read-only twice", [RO, RO], false), ("read-write twice", [RW, RW], true),
+    ] {
+        let records = labels.map(|label| R::copy(0, 1, label));
+        edge(name, USUAL, vec![Fill(0, 7), create(), takes(&records, 1, 1), Fill(0, 9), copies(raised as u64), Fill(0, 11), restore(1),
+                               See(0, if raised { 9 } else { 7 })]);
+    }
+    let parent = |cell| vec![create(), add(Call::copy(cell, 1, RW)), create()];
+    edge("a copy, then by a rule", USUAL, vec![create(), takes(&[R::copy(0, 1, RO), R::pattern(0, 1, ZEROS, RO)], 1, 1), is_copy(1, 0)]);
+    edge("by a rule, then a copy", USUAL, vec![create(), takes(&[R::pattern(0, 1, ZEROS, RO), R::copy(0, 1, RO)], 0, 1), is_rule(1, 0, ZEROS)]);
+    edge("by one rule, then by another", USUAL,
+        vec![Pattern(0, SCALE), create(), takes(&[R::pattern(0, 1, SCALE, RO), R::pattern(0, 1, ONES, RW)], 0, 1), is_rule(1, 0, SCALE), Fill(0, 1), copies(1)]);
+    edge("a copy, then via parent", USUAL,
+        [parent(0), vec![takes(&[R::copy(0, 1, RO), R::via_parent(0, 1, RW)], 1, 1), add(Call::delete(1, 0, 1)), is_copy(2, 0)]].concat());
+    edge("via parent, then a copy", USUAL, [parent(0), vec![takes(&[R::via_parent(0, 1, RO), R::copy(0, 1, RW)], 0, 1), via(1, 0)]].concat());
+    edge("by a rule, then via parent", USUAL,
+        [parent(0), vec![takes(&[R::pattern(0, 1, ZEROS, RO), R::via_parent(0, 1, RO)], 0, 1), is_rule(2, 0, ZEROS)]].concat());
+    edge("via parent, then by a rule", USUAL, [parent(0), vec![takes(&[R::via_parent(0, 1, RO), R::pattern(0, 1, ONES, RO)], 0, 1), via(1, 0)]].concat());
+
+    // A cell that an earlier record has taken is held: 11, 12, 18 and 19 are not put for it.
+    edge("taken cells are not asked for: no parent", USUAL,
+        vec![create(), list(&[R::via_parent(0, 1, RO), R::copy(0, 1, RO)], 11), takes(&[R::copy(0, 1, RO), R::via_parent(0, 1, RO)], 1, 1),
+             list(&[R::copy(1, 1, RO), R::via_parent(1, 2, RO)], 11), is_free(1, 1)]);
+    edge("taken cells are not asked for: the parent's value", USUAL,
+        [vec![Fill(0, 7)], parent(0), vec![Fill(0, 9), list(&[R::via_parent(0, 1, RO), R::copy(0, 1, RO)], 12),
+              takes(&[R::copy(0, 1, RO), R::via_parent(0, 1, RO)], 1, 1), Fill(0, 11), restore(2), See(0, 9)]].concat());
+    edge("taken cells are not asked for: a rule's bytes", USUAL,
+        vec![Fill(0, 7), create(), list(&[R::pattern(0, 1, ONES, RO), R::copy(0, 1, RO)], 18), takes(&[R::copy(0, 1, RO), R::pattern(0, 1, ONES, RO)], 1, 1),
+             list(&[R::copy(1, 1, RO), R::pattern(1, 1, 4, RO)], 18), is_free(1, 1)]);
+    edge("taken cells are not asked for: a rule further out", USUAL,
+        vec![create(), add(Call::pattern(0, 1, ZEROS, RO)), create(), list(&[R::via_parent(0, 1, RO), R::copy(0, 1, RO)], 19),
+             takes(&[R::copy(0, 1, RO), R::via_parent(0, 1, RO)], 1, 1)]);
+
+    // Refused after records that would do: nothing is held.
+    let after_two = |record, answer| vec![list(&[R::copy(0, 1, RW), R::pattern(1, 1, ZEROS, RW), record], answer), is_free(0, 0), is_free(0, 1)];
+    edge("refused after two records that would do", USUAL,
+        [vec![Fill(2, 7), create()], after_two(R::new(2, 1, 3, RO), 7), after_two(R::copy(2, 1, 2), 7), after_two(R::copy(2, 0, RO), 8),
+         after_two(R::copy(2, 3, RO), 8), after_two(R::copy(u32::MAX, 2, RO), 8), after_two(R::via_parent(2, 1, RO), 11),
+         after_two(R::pattern(2, 1, ZEROS, RO), 18), after_two(R::pattern(2, 1, 4, RO), 18),
+         vec![takes(&[R::copy(0, 1, RW), R::pattern(1, 1, ZEROS, RW), R::copy(2, 1, RO)], 2, 3)]].concat());
+    edge("refused after two, with a parent", Sizes { m: 5, ..USUAL },
+        [vec![Fill(2, 7), create(), add(Call::copy(2, 1, RW)), add(Call::pattern(3, 1, ZEROS, RO)), create()], after_two(R::via_parent(2, 3, RO), 11),
+         vec![Fill(2, 9)], after_two(R::via_parent(2, 1, RO), 12), vec![Fill(2, 7)], after_two(R::via_parent(3, 1, RO), 19),
+         vec![takes(&[R::copy(0, 1, RW), R::pattern(1, 1, ZEROS, RW), R::via_parent(2, 1, RO)], 1, 3), via(1, 2)]].concat());
+    edge("the first record that is refused tells the number", USUAL,
+        vec![create(), list(&[R::copy(4, 1, RO), R::new(0, 1, 3, RO)], 8), list(&[R::via_parent(0, 1, RO), R::new(0, 1, 3, RO)], 11),
+             list(&[R::pattern(0, 1, ONES, RO), R::copy(4, 1, RO)], 18), list(&[R::copy(0, 1, RO), R::pattern(0, 1, 4, RO), R::copy(0, 0, RO)], 18)]);
+
+    // Room over the whole list.
+    let four = one_cell_records(4, 0, RO);
+    edge("entries short by one over the list", Sizes { e: 3, ..USUAL }, vec![create(), list(&four, 16), is_free(1, 0), takes(&four[1..], 3, 3), list(&four, 16)]);
+    edge("entries just enough over the list", Sizes { e: 4, ..USUAL }, vec![create(), takes(&four, 4, 4)]);
+    edge("bodies short by one over the list", Sizes { b: 3, ..USUAL },
+        vec![create(), list(&four, 17), is_free(1, 0), takes(&four[..3], 3, 3), list(&four, 17), takes(&[R::pattern(3, 1, ZEROS, RO)], 0, 1), takes(&four, 0, 0)]);
+    edge("bodies just enough over the list", Sizes { b: 4, ..USUAL }, vec![create(), takes(&four, 4, 4)]);
+    edge("16 comes before 17", Sizes { e: 3, b: 2, ..USUAL }, vec![create(), list(&four, 16), list(&four[..3], 17)]);
+    edge("a cell in two records takes one entry and one body", Sizes { e: 3, b: 3, ..USUAL },
+        vec![create(), takes(&[R::copy(0, 2, RO), R::copy(1, 2, RO), R::copy(0, 3, RO)], 3, 3)]);
+    edge("bodies are for those that are copies first", Sizes { b: 2, ..USUAL },
+        vec![create(), list(&[R::copy(0, 2, RO), R::pattern(2, 1, ZEROS, RO), R::copy(2, 2, RO)], 17),
+             takes(&[R::copy(0, 2, RO), R::pattern(2, 2, ZEROS, RO), R::copy(2, 2, RO)], 2, 4)]);
+
+    // Room is asked last. With domain 1's cell 15 eight of nine cells have an entry.
+    let nine = R::copy(0, 9, RO);
+    let full = || [vec![Fill(15, 7), Fill(14, 7)], parent(15)].concat();
+    let sizes = Sizes { m: 16, e: 9, b: 16 };
+    edge("room is asked after every record: 7, 8 and 18", Sizes { e: 8, ..sizes },
+        vec![Fill(10, 7), create(), list(&[nine, R::new(0, 1, 3, RO)], 7), list(&[nine, R::copy(0, 1, 2)], 7), list(&[nine, R::copy(16, 1, RO)], 8),
+             list(&[nine, R::pattern(10, 1, ZEROS, RO)], 18), list(&[nine, R::pattern(0, 1, 4, RO)], 18), list(&[nine, R::copy(0, 1, RO)], 16),
+             takes(&[R::copy(0, 8, RO), R::copy(0, 1, RO)], 8, 8)]);
+    edge("room is asked after every record: 11, 12 and 19", sizes,
+        [full(), vec![list(&[nine, R::via_parent(14, 1, RO)], 11), Fill(15, 9), list(&[nine, R::via_parent(15, 1, RO)], 12), Fill(15, 7),
+                      list(&[nine, R::via_parent(15, 1, RO)], 16), takes(&[R::copy(0, 7, RO), R::via_parent(15, 1, RO)], 7, 8)]].concat());
+    edge("room is asked after every record: 19", sizes,
+        vec![create(), add(Call::pattern(15, 1, ZEROS, RO)), create(), list(&[nine, R::via_parent(15, 1, RO)], 19)]);
+    edge("room is asked after every record: bodies", Sizes { e: 16, b: 8, ..sizes },
+        vec![Fill(10, 7), create(), list(&[nine, R::new(0, 1, 3, RO)], 7), list(&[nine, R::pattern(10, 1, ZEROS, RO)], 18), list(&[nine, R::copy(0, 0, RO)], 8),
+             list(&[nine, R::pattern(11, 1, ZEROS, RO)], 17)]);
+    edge("a record sees cells for which there is no room", Sizes { e: 8, ..sizes },
+        vec![create(), list(&[nine, R::via_parent(8, 1, RO)], 16), list(&[nine, R::pattern(0, 9, ONES, RO)], 16), list(&[nine, R::via_parent(0, 10, RO)], 11),
+             list(&[nine, nine, nine], 16)]);
+
+    // Ranges that meet: bytes rise by cell all the same, which the comparison of every cut sees.
+    let values = || (0..8).map(|c| Fill(c, 10 + c as u8)).collect::<Vec<_>>();
+    let come_back = || [fill(0..8, 99), vec![restore(1)], (0..8).map(|c| See(c, 10 + c as u8)).collect()].concat();
+    for (name, records) in [
+        ("touching", [R::copy(0, 3, RW), R::copy(3, 2, RO), R::copy(5, 3, RW)]), ("reversed", [R::copy(6, 2, RW), R::copy(3, 3, RO), R::copy(0, 3, RW)]),
+        ("overlapping", [R::copy(2, 4, RO), R::copy(0, 4, RW), R::copy(3, 5, RW)]), ("one inside another", [R::copy(3, 2, RW), R::copy(0, 8, RO), R::copy(7, 1, RW)]),
+    ] {
+        edge(name, eight, [values(), vec![create(), takes(&records, 8, 8)], come_back()].concat());
+    }
+    edge("with cells that are held already", eight,
+        [values(), vec![create(), add(Call::copy(3, 2, RO)), takes(&[R::copy(4, 4, RO), R::copy(0, 4, RW), R::copy(3, 2, RW)], 6, 8)], come_back(),
+         fill(0..8, 50), vec![Answers(Call::Advance { handle: 0 }, 17)]].concat());
+    edge("an entry that two records raise is one entry", USUAL,
+        vec![Fill(0, 7), create(), add(Call::copy(0, 2, RO)), takes(&[R::copy(0, 1, RW), R::pattern(0, 1, ONES, RW)], 0, 1),
+             takes(&[R::copy(0, 2, RO), R::copy(0, 2, RW), R::copy(1, 1, RW)], 0, 1), Fill(0, 9), copies(1)]);
+    edge("an entry that is taken and raised is one entry", USUAL,
+        vec![Fill(0, 7), create(), takes(&[R::copy(0, 1, RO), R::copy(0, 1, RW), R::copy(0, 1, RW)], 1, 1), Fill(0, 9), copies(1)]);
+    list_of
 }

@@ -122,6 +122,58 @@ pub enum Fault {
     Question15OfChangedCells,
     /// 70k + 2 steps also where k is 0.
     AdvanceTakesTwoStepsForNothing,
+    /// A list is made with a journal for each record, so that a cut holds some records and not others.
+    JournalForEachRecord,
+    /// Room is asked of each record as if it were the only one.
+    RoomOfEachRecordAlone,
+    /// 16 is asked after each record, before the next one's questions.
+    EntriesAskedWithEachRecord,
+    /// 17 is asked after each record, before the next one's questions.
+    BodiesAskedWithEachRecord,
+    /// Questions 11, 12, 18 and 19 are put for cells that an earlier record of the list has taken.
+    LaterRecordAsksAgain,
+    /// A cell that two records of a list name is counted twice for room.
+    OverlapCountedTwice,
+    /// A cell that two records name is kept by the kind of the later one.
+    LaterRecordWins,
+    /// A later record does not raise the label of a cell that an earlier one has taken.
+    LaterRecordRaisesNothing,
+    /// A later record gives its label to a cell that an earlier one has taken, read-only too.
+    LaterLabelReplaces,
+    /// The last record of a list of several is left out.
+    LastRecordLeftOut,
+    /// The last of 64 records is left out.
+    SixtyFourthLeftOut,
+    /// 64 records are refused.
+    SixtyFourRefused,
+    /// 65 records are allowed.
+    SixtyFiveAllowed,
+    /// A list without records is done.
+    EmptyListDone,
+    /// Records act in order of their first cells, and not in list order.
+    RecordsSortedByCell,
+    /// The bytes of copies are stored in list order, and not rising by cell.
+    BytesInListOrder,
+    /// An entry that a list takes and then raises is counted twice.
+    RaisedNewEntryCountedTwice,
+    /// An entry of the table that two records raise is counted twice.
+    EntryRaisedTwiceCountedTwice,
+    /// 20 is asked before 5.
+    RecordsCountedBeforeHandle,
+    /// 20 is asked before 6.
+    RecordsCountedBeforeInnermost,
+    /// The first record's 7 is asked before 20.
+    KindAskedBeforeRecordsCounted,
+    /// 7 and 8 are put to all records before any record is put 11.
+    NumbersAskedOfAllFirst,
+    /// A record that is refused after others is left out, and those are held.
+    RefusedRecordLeftOut,
+    /// 17 counts every newly held cell of a list that takes copies, whatever its kind.
+    EveryNewCellCountsAsBody,
+    /// All patterns of a list follow the rule of the first of them.
+    RuleOfFirstRecord,
+    /// Notebook: every cell that a list names has the label of its last record.
+    NotebookLabelsByLastRecord,
     /// Notebook: a program write spoils nothing.
     NotebookWithoutSpoiltWrites,
     /// Notebook: a delete spoils nothing.
@@ -137,7 +189,7 @@ pub enum Fault {
 }
 
 impl Fault {
-    pub const ALL: [Fault; 62] = [
+    pub const ALL: [Fault; 88] = [
         Fault::NewestWinsInRestore,
         Fault::NewestWinsInCommit,
         Fault::AdvanceInPlace,
@@ -194,6 +246,32 @@ impl Fault {
         Fault::AdvanceCountsReadOnly,
         Fault::Question15OfChangedCells,
         Fault::AdvanceTakesTwoStepsForNothing,
+        Fault::JournalForEachRecord,
+        Fault::RoomOfEachRecordAlone,
+        Fault::EntriesAskedWithEachRecord,
+        Fault::BodiesAskedWithEachRecord,
+        Fault::LaterRecordAsksAgain,
+        Fault::OverlapCountedTwice,
+        Fault::LaterRecordWins,
+        Fault::LaterRecordRaisesNothing,
+        Fault::LaterLabelReplaces,
+        Fault::LastRecordLeftOut,
+        Fault::SixtyFourthLeftOut,
+        Fault::SixtyFourRefused,
+        Fault::SixtyFiveAllowed,
+        Fault::EmptyListDone,
+        Fault::RecordsSortedByCell,
+        Fault::BytesInListOrder,
+        Fault::RaisedNewEntryCountedTwice,
+        Fault::EntryRaisedTwiceCountedTwice,
+        Fault::RecordsCountedBeforeHandle,
+        Fault::RecordsCountedBeforeInnermost,
+        Fault::KindAskedBeforeRecordsCounted,
+        Fault::NumbersAskedOfAllFirst,
+        Fault::RefusedRecordLeftOut,
+        Fault::EveryNewCellCountsAsBody,
+        Fault::RuleOfFirstRecord,
+        Fault::NotebookLabelsByLastRecord,
         Fault::NotebookWithoutSpoiltWrites,
         Fault::NotebookWithoutSpoiltDeletes,
         Fault::NotebookDeleteSpoilsNamedOnly,
@@ -220,11 +298,19 @@ impl Fault {
         Fault::AdvanceMissesLastByte,
     ];
 
+    /// The errors of an add of several ranges that hold less of them than the program was told.
+    pub const HALF_HELD: [Fault; 3] = [
+        Fault::JournalForEachRecord,
+        Fault::LastRecordLeftOut,
+        Fault::LaterRecordRaisesNothing,
+    ];
+
     /// Whether the error lies in the notebook alone, which a store does not have.
     pub fn in_notebook(self) -> bool {
         matches!(
             self,
-            Fault::NotebookWithoutSpoiltWrites
+            Fault::NotebookLabelsByLastRecord
+                | Fault::NotebookWithoutSpoiltWrites
                 | Fault::NotebookWithoutSpoiltDeletes
                 | Fault::NotebookDeleteSpoilsNamedOnly
                 | Fault::NotebookWithoutMarks

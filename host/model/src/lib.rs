@@ -6,8 +6,8 @@
 //!
 //! - [`rules`]: the rules that a cell may follow instead of being copied (request A.1).
 //! - [`state`]: what a store means: next handle, live domains, and what each holds of each cell.
-//! - [`calls`]: the ten calls: the questions in their order, what a call leaves, how many steps it
-//!   takes, and what a cut at each step leaves.
+//! - [`calls`]: the calls: the questions in their order, what a call leaves, how many steps it takes,
+//!   and what a cut at each step leaves. Add takes one range or a list of them (request A.3).
 //! - [`table`]: the three lent buffers: reading them back into a state, with every rule of question
 //!   4, and writing a state into a table.
 //! - [`plan`]: the exact list of stores of a call, so that the buffers after k steps are an
@@ -34,7 +34,7 @@ pub mod state;
 pub mod table;
 
 pub use buffers::{Buffer, Buffers};
-pub use calls::{Add, Call, Lengths, Looked, Model, Reading, Shown, Sizes, Verdict, Work};
+pub use calls::{Call, Lengths, Looked, Model, Reading, Record, Shown, Sizes, Verdict, Work};
 pub use fault::Fault;
 pub use notebook::{Ended, Notebook};
 pub use plan::{Place, Step};

@@ -4,7 +4,7 @@
 //! count, the place of each program write, and memory after each of these. It never sees table or
 //! bodies, so it cannot repeat a mistake of theirs.
 
-use crate::calls::{Add, Call, READ_WRITE};
+use crate::calls::{Call, READ_WRITE, Record};
 use crate::fault::Fault;
 use crate::state::{Bytes, CELL, cell_of};
 use std::collections::BTreeMap;
@@ -144,7 +144,7 @@ impl Notebook {
                         }
                     }
                 }
-                self.waiting = Some(*call);
+                self.waiting = Some(call.clone());
                 Ok(None)
             }
         }
@@ -166,20 +166,11 @@ impl Notebook {
                 });
                 self.next += 1;
             }
-            Call::Add(Add {
+            Call::Add { handle, record } => self.add(handle, &[record], memory)?,
+            Call::AddRanges {
                 handle,
-                first,
-                count,
-                label,
-                ..
-            }) => {
-                let named = self.find(handle)?;
-                for c in first..first + count {
-                    let entering = (label == READ_WRITE, cell_of(memory, c));
-                    let held = self.live[named].cells.entry(c).or_insert(entering);
-                    held.0 |= label == READ_WRITE;
-                }
-            }
+                ref records,
+            } => self.add(handle, records, memory)?,
             Call::Delete {
                 handle,
                 first,
@@ -234,6 +225,25 @@ impl Notebook {
             }
         }
         Ok(None)
+    }
+
+    /// The line of add, for each record in list order.
+    fn add(&mut self, handle: u32, records: &[Record], memory: &[u8]) -> Result<(), String> {
+        let named = self.find(handle)?;
+        let by_last = self.has(Fault::NotebookLabelsByLastRecord);
+        let last = records.last().filter(|_| by_last);
+        // A right store is done with cells of memory alone; one with an error may say so of others.
+        let all = (memory.len() / CELL) as u32;
+        for record in records {
+            let read_write = last.unwrap_or(record).label == READ_WRITE;
+            let end = record.first.saturating_add(record.count).min(all);
+            for c in record.first..end {
+                let entering = (read_write, cell_of(memory, c));
+                let held = self.live[named].cells.entry(c).or_insert(entering);
+                held.0 |= read_write;
+            }
+        }
+        Ok(())
     }
 
     /// The zero count of a restore of this domain, with memory as the restore left it; none if it

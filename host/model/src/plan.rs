@@ -68,7 +68,7 @@ pub fn seen(
     work: &Work,
     after: &Buffers,
 ) -> Result<Vec<Step>, String> {
-    let steps = planned(model, before, call, work, |from| {
+    let steps = planned(model, before, call, work, |from, work| {
         let to = readable(model, after)?;
         let place = |at, cell| to.places.get(&(at, cell)).copied();
         places_after(from, call, work, model.fault, false, place)
@@ -90,26 +90,39 @@ pub fn lowest(
     call: &Call,
     work: &Work,
 ) -> Result<Vec<Step>, String> {
-    planned(model, before, call, work, |from| {
+    planned(model, before, call, work, |from, work| {
         lowest_places(from, call, work, model.fault)
     })
 }
+
+type Places = BTreeMap<(usize, u32), Place>;
 
 fn planned(
     model: Model,
     before: &Buffers,
     call: &Call,
     work: &Work,
-    places: impl FnOnce(&Decoded) -> Result<BTreeMap<(usize, u32), Place>, String>,
+    places: impl Fn(&Decoded, &Work) -> Result<Places, String>,
 ) -> Result<Vec<Step>, String> {
     if *call == Call::Make {
         return Ok(make(before.sizes()));
     }
     let from = readable(model, before)?;
-    Ok(match call {
-        Call::Open => open(&from),
-        _ => steps(&from, work, &places(&from)?),
-    })
+    if *call == Call::Open {
+        return Ok(open(&from));
+    }
+    if work.parts().is_empty() {
+        return Ok(steps(&from, work, &places(&from, work)?));
+    }
+    // An error: one part after the other, each on what the one before it left.
+    let (mut buffers, mut all) = (before.clone(), Vec::new());
+    for part in work.parts() {
+        let from = readable(model, &buffers)?;
+        let steps = steps(&from, part, &places(&from, part)?);
+        play(&steps, &mut buffers);
+        all.extend(steps);
+    }
+    Ok(all)
 }
 
 fn readable(model: Model, buffers: &Buffers) -> Result<Decoded, String> {
@@ -146,7 +159,7 @@ fn places_after(
     fault: Option<Fault>,
     in_place: bool,
     mut chosen: impl FnMut(usize, u32) -> Option<Place>,
-) -> Result<BTreeMap<(usize, u32), Place>, String> {
+) -> Result<Places, String> {
     let mut entries = before.free_entries();
     let mut bodies = before.free_bodies();
     let innermost = before.state.domains.len().wrapping_sub(1);
@@ -176,8 +189,7 @@ fn places_after(
             let copied = at == innermost && taken.contains(cell) && held.kept.is_copy();
             let had_body = old.is_some() && before.state.domains[at].cells[cell].kept.is_copy();
             let over_old = had_body
-                && (in_place
-                    || fault == Some(Fault::AddTakesNewValue) && matches!(call, Call::Add(_)));
+                && (in_place || fault == Some(Fault::AddTakesNewValue) && call.records().is_some());
             if copied && !over_old {
                 place.body = chosen(at, *cell)
                     .ok_or_else(|| {
@@ -210,16 +222,16 @@ fn places_after(
     Ok(after)
 }
 
-/// The lowest free places, in order of cell.
+/// The lowest free places, in order of cell, whichever record of a list takes it.
 fn lowest_places(
     before: &Decoded,
     call: &Call,
     work: &Work,
     fault: Option<Fault>,
-) -> Result<BTreeMap<(usize, u32), Place>, String> {
+) -> Result<Places, String> {
     let mut entries = before.free_entries().into_iter();
     let mut bodies = before.free_bodies().into_iter();
-    let mut given: BTreeMap<(usize, u32), Place> = BTreeMap::new();
+    let mut given = Places::new();
     places_after(before, call, work, fault, work.over_bodies(), |at, cell| {
         if let Some(place) = given.get(&(at, cell)) {
             return Some(*place);
@@ -238,7 +250,7 @@ fn lowest_places(
 }
 
 /// The stores of any call but make and open: bytes, then pairs, word 6, the words, word 6.
-fn steps(before: &Decoded, work: &Work, places: &BTreeMap<(usize, u32), Place>) -> Vec<Step> {
+fn steps(before: &Decoded, work: &Work, places: &Places) -> Vec<Step> {
     let innermost = before.state.domains.len().wrapping_sub(1);
     let mut bytes = Vec::new();
     for (cell, value) in &work.taken {

@@ -93,7 +93,7 @@ fn steps_by_hand() {
         (Call::Create, 11),                       //
         (add(0, 2, 1, 1), 14),                    // two via parent, p = 4
         (add(2, 1, 0, 0), 64 + 8),                // a copy
-        (advance, 128 + 14),                      // two read-write cells, both written before
+        (advance.clone(), 128 + 14),              // two read-write cells, both written before
         (Call::Commit { handle: 2 }, 3 * 10 + 2), // 2, two freed (4), one raised (2), one moved (2)
         (Call::Create, 11),                       //
         (Call::Create, 11),                       //

@@ -51,7 +51,7 @@ fn steps_by_hand() {
         (Call::pattern(1, 2, SCALE, RO), 14), //
         (Call::pattern(1, 2, SCALE, RW), 14), // both raised
         (Call::delete(2, 2, 1), 8),           // p = 2
-        (advance, 64 + 8),                    // one changed read-write cell becomes a copy
+        (advance.clone(), 64 + 8),            // one changed read-write cell becomes a copy
         (Call::Commit { handle: 2 }, 3 * 4 + 2), // 2, and one entry freed
         (Call::Create, 11),                   //
         (Call::pattern(1, 1, SCALE, RW), 8),  //

@@ -1,12 +1,13 @@
 //! One call on both sides, with every comparison: answer, step count, handle, buffers after exactly
 //! that many stores, meaning, guards, notebook.
 
-use domain_model::calls::{PATTERN, VIA_PARENT};
+use crate::lists::{self, Lists};
+use domain_model::calls::PATTERN;
 use domain_model::reply::{BY_RULE, IN_BODIES, IN_MEMORY};
 use domain_model::state::cell_of;
 use domain_model::{
-    Add, Buffers, CELL, Call, Ended, FULL, Holding, Kept, Looked, Model, Notebook, Reading, Reply,
-    Rng, STOPPED, State, Store, Verdict, Work, plan, rules, table,
+    Buffers, CELL, Call, Ended, FULL, Holding, Kept, Looked, Model, Notebook, Reading, Reply, Rng,
+    STOPPED, State, Store, Verdict, Work, plan, rules, table,
 };
 use std::collections::{BTreeMap, BTreeSet};
 
@@ -71,8 +72,9 @@ pub struct Tally {
     /// Restores that ended domains, and restores that followed via parent past the named domain.
     pub ending_restores: u64,
     pub outward_restores: u64,
-    /// What advances met of request A.2.
+    /// What advances met of request A.2, and lists of request A.3.
     pub advances: Advances,
+    pub lists: Lists,
     /// Advances that turned via parent into a copy; commits that raised a label; commits that moved
     /// a cell.
     pub turning_advances: u64,
@@ -163,6 +165,7 @@ impl Tally {
         self.ending_restores += other.ending_restores;
         self.outward_restores += other.outward_restores;
         self.advances.join(&other.advances);
+        self.lists.join(&other.lists);
         self.turning_advances += other.turning_advances;
         self.raising_commits += other.raising_commits;
         self.moving_commits += other.moving_commits;
@@ -226,6 +229,7 @@ impl<'a> Checker<'a> {
         let reply = self.store.call(&mut line.buffers, call, budget);
         self.tally_answer(call, &reply);
         self.advance_as_asked(line, &before, call, &reply)?;
+        self.list_as_asked(line, &before, call, budget, &reply)?;
         let expected = expected(&verdict, call, budget, &before, self.model)?;
         as_expected(&reply, &expected, call)?;
         if let Some(stray) = line.buffers.strayed() {
@@ -310,6 +314,33 @@ impl<'a> Checker<'a> {
                 "no held cell has changed, and {} bytes differ from what stood at the point",
                 count.differ
             ));
+        }
+        Ok(())
+    }
+
+    /// Request A.3 by itself, from the buffers before an add: a list comes to what plain adds of its
+    /// records come to, and a plain add is the list of its one record, byte for byte.
+    fn list_as_asked(
+        &mut self,
+        line: &Line,
+        before: &Buffers,
+        call: &Call,
+        budget: u64,
+        reply: &Reply,
+    ) -> Result<(), String> {
+        if let (Call::AddRanges { .. }, Some(state)) = (call, line.state()) {
+            lists::tally(&mut self.tally.lists, state, before, call, reply);
+            lists::as_asked(self.store, before, call, reply, &line.buffers)?;
+        }
+        if let Call::Add { handle, record } = *call {
+            let list = Call::ranges([record]).on(handle);
+            let mut listed = before.clone();
+            let told = self.store.call(&mut listed, &list, budget);
+            self.tally_answer(&list, &told);
+            as_expected(&told, reply, call).map_err(|what| format!("as a list of one {what}"))?;
+            if let Some(at) = listed.differs(&line.buffers) {
+                return Err(format!("as a list of one {at}"));
+            }
         }
         Ok(())
     }
@@ -589,9 +620,7 @@ impl<'a> Checker<'a> {
                     .keys()
                     .any(|c| !was.contains_key(c)) as u64;
             }
-            Call::Add(Add {
-                kind: VIA_PARENT, ..
-            }) => {
+            Call::Add { .. } | Call::AddRanges { .. } => {
                 let innermost = after.domains.len() - 1;
                 for c in after.domains[innermost].cells.keys() {
                     let way = after.keeper(innermost, *c).map_or(0, |k| innermost - k);
@@ -608,8 +637,10 @@ impl<'a> Checker<'a> {
         let inner = before.domains.last();
         let ruled = |cell: u32| inner.is_some_and(|d| d.rule(cell).is_some());
         match *call {
-            Call::Add(Add { kind: PATTERN, .. }) => {
-                tally.pattern_adds += u64::from(work.words > 0);
+            Call::Add { .. } | Call::AddRanges { .. } => {
+                let (_, records) = call.records().expect("an add");
+                let by_rule = records.iter().any(|record| record.kind == PATTERN);
+                tally.pattern_adds += u64::from(work.words > 0 && by_rule);
             }
             Call::Restore { handle } => {
                 let named = before.find(handle).unwrap_or(0);

@@ -3,7 +3,10 @@
 //! Calls with random numbers are nearly all refused, and a store that is seldom more than empty
 //! shows little. So the choice looks at the state that the model is in: it nests domains, adds near
 //! what is held, makes memory equal before an add via parent and like the rule before an add by a
-//! rule, settles which of its cells an advance finds changed, and cuts where steps are.
+//! rule, puts lists of ranges together that meet each other and the room there is, settles which of
+//! its cells an advance finds changed, and cuts where steps are.
+
+mod lists;
 
 use crate::check::Line;
 use crate::session::{Input, Made};
@@ -117,6 +120,8 @@ enum Want {
     Call(Call),
     /// An advance with the writes before it, which are settled when its turn comes.
     Advance,
+    /// A list of ranges, which is settled when its turn comes.
+    List,
 }
 
 /// A way to choose what comes next.
@@ -175,16 +180,20 @@ impl Generator {
         match self.wants.pop_front().expect("something to do") {
             Want::Write(at, bytes) => Input::Write { at, bytes },
             Want::Call(call) => self.with_budget(call, line, model),
-            Want::Advance => {
-                let later = std::mem::take(&mut self.wants);
-                match line.state().filter(|state| !state.domains.is_empty()) {
-                    Some(state) => self.advance(&state.clone(), line),
-                    None => self.call(Call::Open),
-                }
-                self.wants.extend(later);
-                self.next(line, model)
-            }
+            Want::Advance => self.settled(Generator::advance, line, model),
+            Want::List => self.settled(Generator::add_list, line, model),
         }
+    }
+
+    /// The next input, where the choice of what comes next looks at the state as it stands by now.
+    fn settled(&mut self, act: Act, line: &Line, model: Model) -> Input {
+        let later = std::mem::take(&mut self.wants);
+        match line.state().filter(|state| !state.domains.is_empty()) {
+            Some(state) => act(self, &state.clone(), line),
+            None => self.call(Call::Open),
+        }
+        self.wants.extend(later);
+        self.next(line, model)
     }
 
     /// Chooses a budget for the call: mostly none, else one at which it is cut.
@@ -314,12 +323,14 @@ impl Generator {
             return;
         }
         let nest = self.habits.nest;
-        let weights: [(u64, Act); 14] = [
+        let weights: [(u64, Act); 16] = [
             (200, Generator::write),
             (nest, Generator::creates),
             (160, Generator::add_copy),
             (130, Generator::add_via),
             (110, Generator::add_pattern),
+            (160, Generator::add_list),
+            (30, Generator::lists_inside),
             (45, Generator::add_again),
             (55, Generator::delete),
             (70, Generator::commit),
@@ -800,6 +811,7 @@ impl Generator {
                 cell: self.wild_number(),
             },
             22..=28 => Call::delete(handle, self.wild_number(), self.wild_number()),
+            29..=32 => self.wild_list().on(handle),
             _ => {
                 // Kinds below 3 and labels below 2, and others.
                 let odd = |rng: &mut Rng, below: u32| match rng.chance(150) {
@@ -827,7 +839,7 @@ impl Generator {
                 rng.pick(&s.domains).handle
             }
         };
-        match self.rng.below(12) {
+        match self.rng.below(13) {
             0 | 1 => Call::Open,
             2 => Call::Create,
             3 => Call::List,
@@ -842,6 +854,7 @@ impl Generator {
             },
             9 => Call::delete(any(&mut self.rng, state), self.cell(state), 1),
             10 => self.wild_call(),
+            11 => self.wild_list(),
             _ => {
                 let (kind, rule) = self.kind_and_rule();
                 let label = self.rng.below(2) as u32;

@@ -2,6 +2,7 @@
 //!
 //! - [`check`]: one call on both sides and every comparison; every cut of a call with the openings
 //!   after it.
+//! - [`lists`]: what adds of several ranges met, and what they have to come to by plain adds alone.
 //! - [`session`]: a session as a plain list of inputs, so that it can be played again, shrunk and
 //!   printed.
 //! - [`generate`]: the random choice of inputs, steered towards deep states.
@@ -13,6 +14,7 @@
 
 pub mod check;
 pub mod generate;
+pub mod lists;
 pub mod run;
 pub mod session;
 pub mod shrink;

@@ -2,6 +2,7 @@
 
 use crate::check::{Advances, Checker, Tally};
 use crate::generate::Generator;
+use crate::lists::{LATER, Lists, SPARED};
 use crate::session::Session;
 use crate::shrink::{Shrunk, shrink};
 use domain_model::{Call, Fault, Model, Rng, STOPPED, Store};
@@ -207,9 +208,10 @@ pub fn long(tally: &Tally) -> String {
         tally.pattern_looks
     )
     .unwrap();
+    text += &lists(&tally.lists);
     for (name, answers) in Call::NAMES.iter().zip(&tally.answers) {
         let times = |number| answers.get(&number).copied().unwrap_or(0);
-        write!(text, "{name:8} done {}", times(0)).unwrap();
+        write!(text, "{name:10} done {}", times(0)).unwrap();
         if times(STOPPED) > 0 {
             write!(text, ", stopped {}", times(STOPPED)).unwrap();
         }
@@ -219,6 +221,50 @@ pub fn long(tally: &Tally) -> String {
         text.push('\n');
     }
     text
+}
+
+/// What lists of several ranges met.
+fn lists(lists: &Lists) -> String {
+    let Lists {
+        several,
+        nine,
+        sixty_four,
+        kinds,
+        falling,
+        touching,
+        overlapping,
+        other_kind,
+        raised_new,
+        kept_label,
+        raised_twice,
+        spared,
+        later,
+        before_entries,
+        before_bodies,
+        exact_entries,
+        exact_bodies,
+        short_entries,
+        short_bodies,
+        empty,
+        too_many,
+        too_many_wrong,
+        dead_handle,
+        outer_handle,
+        cut,
+    } = lists;
+    let numbered = |numbers: &[u32], times: &[u64]| {
+        let both = numbers.iter().zip(times);
+        let both = both.map(|(number, times)| format!("{number}: {times}"));
+        both.collect::<Vec<_>>().join(", ")
+    };
+    let (spared, later) = (numbered(&SPARED, spared), numbered(&LATER, later));
+    format!(
+        "lists of which several records acted {several}, at least nine {nine}, the last of 64 {sixty_four}; of all kinds {kinds}; copies that fall {falling}, ranges that touch {touching}, that overlap {overlapping}; stopped {cut}
+a later record on a taken cell: by another kind {other_kind}, raising it {raised_new}, read-only after read-write {kept_label}; raised twice {raised_twice}; questions that a taken cell was spared {spared}
+refused by a later record {later} (short of entries {before_entries}, of bodies {before_bodies}); room just enough {exact_entries} and {exact_bodies}, one short {short_entries} and {short_bodies}
+refused for their number: none {empty}, too many {too_many} (with a wrong kind {too_many_wrong}), by a dead handle {dead_handle}, by an outer one {outer_handle}
+"
+    )
 }
 
 impl Failure {

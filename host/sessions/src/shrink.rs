@@ -1,8 +1,9 @@
-//! Makes a failing session short: drops inputs, takes out cuts and damage, lowers numbers.
+//! Makes a failing session short: drops inputs and records of lists, takes out cuts and damage, lowers
+//! numbers.
 
 use crate::check::{Checker, Mismatch};
 use crate::session::{Input, Made, Session};
-use domain_model::{Call, FULL, Sizes};
+use domain_model::{Call, FULL, Record, Sizes};
 use std::time::{Duration, Instant};
 
 /// A failing session made short, with the place of the failure and what differs there.
@@ -174,11 +175,18 @@ impl Shrinker<'_> {
 fn move_cells(input: &mut Input, by: u32) -> Option<()> {
     match input {
         Input::Write { at, .. } => *at = at.checked_sub(64 * by as usize)?,
-        Input::Call(made) => {
-            if let [_, Some(first), ..] = made.call.numbers_mut() {
-                *first = first.checked_sub(by)?;
+        Input::Call(made) => match &mut made.call {
+            Call::AddRanges { records, .. } => {
+                for record in records {
+                    record.first = record.first.checked_sub(by)?;
+                }
             }
-        }
+            call => {
+                if let [_, Some(first), ..] = call.numbers_mut() {
+                    *first = first.checked_sub(by)?;
+                }
+            }
+        },
         Input::Damaged { .. } | Input::Lengths { .. } => {}
     }
     Some(())
@@ -191,16 +199,64 @@ fn lower(n: u32) -> Vec<u32> {
     list
 }
 
+/// A list with fewer records, or with one that is simpler; a list of one as the plain add.
+fn simpler_list(handle: u32, records: &[Record]) -> Vec<Call> {
+    let mut list = Vec::new();
+    let with = |records: Vec<Record>| Call::AddRanges { handle, records };
+    if let [record] = *records {
+        list.push(Call::Add { handle, record });
+    }
+    // One number of all of them, which a long list needs: all but the last, and all.
+    for many in [records.len(), records.len().saturating_sub(1)] {
+        for (place, number) in [(1, 1), (0, 0), (2, 0), (3, 0), (4, 0)] {
+            let mut same = records.to_vec();
+            for record in &mut same[..many] {
+                let found = &mut record.numbers_mut()[place];
+                **found = number.min(**found);
+            }
+            if same != records {
+                list.push(with(same));
+            }
+        }
+    }
+    // Many at a time, and then each of them.
+    let mut run = records.len() / 2;
+    while run > 1 {
+        for from in (0..records.len()).step_by(run) {
+            let mut fewer = records.to_vec();
+            fewer.drain(from..(from + run).min(records.len()));
+            list.push(with(fewer));
+        }
+        run /= 2;
+    }
+    list.extend(fewer(records).map(with));
+    for (at, record) in records.iter().enumerate() {
+        let (mut numbers, places) = (*record, [1, 0, 2, 3]);
+        for place in places {
+            let found = *numbers.numbers_mut()[place];
+            for number in lower(found) {
+                let mut records = records.to_vec();
+                *records[at].numbers_mut()[place] = number;
+                list.push(with(records));
+            }
+        }
+    }
+    list
+}
+
 fn simpler_call(call: &Call) -> Vec<Call> {
     let mut list = Vec::new();
+    if let Call::AddRanges { handle, records } = call {
+        list.extend(simpler_list(*handle, records));
+    }
     // A number that the call does not have is 0, below which there is none. The label stays.
     let order = match call {
         Call::Look { .. } => [0, 1, 2, 3, 4],
         _ => [2, 1, 0, 3, 4],
     };
     for at in order {
-        for number in lower(call.numbers()[at]) {
-            let mut simpler = *call;
+        for number in lower(call.clone().numbers()[at]) {
+            let mut simpler = call.clone();
             if let Some(place) = &mut simpler.numbers_mut()[at] {
                 **place = number;
             }
@@ -305,7 +361,7 @@ fn simpler(input: &Input) -> Vec<Input> {
                     });
                 };
                 if *budget != FULL {
-                    replace(*call, FULL);
+                    replace(call.clone(), FULL);
                 }
                 for simple in simpler_call(call) {
                     replace(simple, *budget);

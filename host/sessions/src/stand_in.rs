@@ -27,7 +27,12 @@ impl Store for StandIn {
         plan::play(&steps[..made], buffers);
         // An error in the count shows in what is told, not in what is stored.
         let need = match self.fault {
-            Some(Fault::StepTooMany | Fault::AdvanceTakesTwoStepsForNothing) => work.need,
+            Some(
+                Fault::StepTooMany
+                | Fault::AdvanceTakesTwoStepsForNothing
+                | Fault::RaisedNewEntryCountedTwice
+                | Fault::EntryRaisedTwiceCountedTwice,
+            ) => work.need,
             _ => steps.len() as u64,
         };
         let done = need <= budget;

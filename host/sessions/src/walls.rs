@@ -2,9 +2,9 @@
 //!
 //! Guard bytes show a store outside a buffer, not a load. Here each buffer ends at a wall, or
 //! begins right behind one, so that any load or store past that side ends the program at once. List
-//! and look get buffers that cannot be stored to at all.
+//! and look get buffers that cannot be stored to at all, and so does a list of records.
 
-use domain_lend::pages::{Arena, READ, READ_WRITE};
+use domain_lend::pages::{Arena, Listed, READ, READ_WRITE};
 use domain_model::{Buffers, Call, Reply, Store};
 use std::cell::RefCell;
 
@@ -40,8 +40,11 @@ impl Store for Walled {
         if call.only_reads() {
             allow(READ);
         }
-        // SAFETY: the arena has room for as many elements, each buffer in pages of its own.
-        let reply = unsafe { domain_lend::call(arena.lent(), call, budget) };
+        let records = call.records().map_or(&[][..], |(_, records)| records);
+        let listed = Listed::new(records, self.side);
+        // SAFETY: the arena has room for as many elements, each buffer in pages of its own, and so has
+        // the list.
+        let reply = unsafe { domain_lend::call_with(arena.lent(), call, listed.start(), budget) };
         allow(READ_WRITE);
         arena.copy_into(buffers);
         reply

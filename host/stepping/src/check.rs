@@ -82,7 +82,12 @@ impl Case {
     /// A scenario's call, after the calls before it. What document 01 counts for it was worked out by hand.
     pub fn new(scenario: &Scenario) -> Result<Case, String> {
         let (before, notebook) = prepare(scenario)?;
-        let case = Case::of(scenario.name.into(), scenario.call, before, notebook)?;
+        let case = Case::of(
+            scenario.name.into(),
+            scenario.call.clone(),
+            before,
+            notebook,
+        )?;
         let found = (case.reply.code, case.plan.bytes, case.plan.words);
         let counted = (scenario.number, 64 * scenario.cells, scenario.pairs);
         if found != counted {
@@ -222,12 +227,12 @@ impl Case {
         let mut notebook = self.notebook.clone();
         if made < length {
             let made = made as u64;
-            note(&mut notebook, self.call, Ended::Stopped, made, &cut.memory)?;
+            note(&mut notebook, &self.call, Ended::Stopped, made, &cut.memory)?;
             let memory = &opened.memory;
-            note(&mut notebook, Call::Open, Ended::Done, steps, memory)?;
+            note(&mut notebook, &Call::Open, Ended::Done, steps, memory)?;
         } else {
             let (steps, memory) = (self.reply.steps, &opened.memory);
-            note(&mut notebook, self.call, Ended::Done, steps, memory)?;
+            note(&mut notebook, &self.call, Ended::Done, steps, memory)?;
         }
         check_restores(&opened, &found, &notebook).map(|restores| tally.restores += restores)
     }
@@ -267,13 +272,13 @@ fn meant(buffers: &Buffers) -> Result<State, String> {
 /// Tells the notebook of a call that ended after this many steps. A restore that it completes has to bring back every byte.
 pub fn note(
     notebook: &mut Notebook,
-    call: Call,
+    call: &Call,
     ended: Ended,
     steps: u64,
     memory: &[u8],
 ) -> Result<(), String> {
     // A call that was stopped had its steps as its budget.
-    match notebook.call(&call, steps, ended, steps, memory)? {
+    match notebook.call(call, steps, ended, steps, memory)? {
         Some(count) if count.differ != 0 => Err(format!(
             "the restore that {call} completes has {} wrong bytes",
             count.differ

@@ -8,10 +8,10 @@ use crate::state;
 use crate::sys::{self, Status};
 use domain_lend::pages::{Arena, Pages, READ_WRITE, Side};
 use domain_lend::{Lent, Linked, call};
-use domain_model::calls::{PATTERN, READ_ONLY, READ_WRITE as RW, VIA_PARENT};
+use domain_model::calls::{COPY, READ_ONLY, READ_WRITE as RW};
 use domain_model::rules::pattern;
 use domain_model::{
-    Add, Buffers, CELL, Call, Ended, FULL, Lengths, Notebook, Reply, Rng, Sizes, Store,
+    Buffers, CELL, Call, Ended, FULL, Lengths, Notebook, Record, Reply, Rng, Sizes, Store,
 };
 use std::sync::atomic::{AtomicU64, Ordering};
 use std::time::{Duration, Instant};
@@ -32,16 +32,56 @@ pub const LARGE: Sizes = Sizes {
 /// Lines of the log; a child that has filled it waits for its end.
 const LINES: usize = 500;
 
-/// What a child does next.
-#[derive(Clone, Copy)]
+/// What a child does next. It stands in shared pages, where nothing may point to a child's heap: so a list of ranges is named by its place
+/// among those that were made before any child was.
+#[derive(Clone)]
 enum Act {
+    /// A call without a list.
     Call(Call),
+    /// The add of one of the lists.
+    List(usize),
     /// A program write of whole cells.
-    Write {
-        first: u32,
-        count: u32,
-        what: Bytes,
-    },
+    Write { first: u32, count: u32, what: Bytes },
+}
+
+impl Act {
+    /// The call, if it is one.
+    fn call<'a>(&'a self, lists: &'a [Call]) -> Option<&'a Call> {
+        match self {
+            Act::Call(call) => Some(call),
+            Act::List(place) => Some(&lists[*place]),
+            Act::Write { .. } => None,
+        }
+    }
+}
+
+/// How many lists there are to choose from.
+const LISTS: usize = 64;
+
+/// Lists of several ranges, which rise, fall and meet: of copies, at times with cells via parent, and with some cells by a second kind,
+/// which then stay by the first.
+fn lists(random: &mut Rng, cells: u32) -> Vec<Call> {
+    let mut list = || {
+        let via = random.below(3) == 0;
+        let mut records: Vec<Record> = Vec::new();
+        for _ in 0..random.between(2, 9) {
+            let first = random.below(cells.into()) as u32;
+            let most = (cells / 8).min(cells - first);
+            let count = random.between(1, most.into()) as u32;
+            let label = *random.pick(&[READ_ONLY, RW, RW]);
+            records.push(match via && random.below(4) == 0 {
+                true => Record::via_parent(first, count, label),
+                false => Record::copy(first, count, label),
+            });
+            if random.below(4) == 0 {
+                let Record { first, count, .. } = *random.pick(&records);
+                let rule = random.below(4) as u32;
+                records.push(Record::pattern(first, count, rule, RW));
+            }
+        }
+        Call::ranges(records)
+    };
+    (0..LISTS).map(|_| list()).collect()
 }
 
 /// What a program write puts into each cell.
@@ -70,15 +110,14 @@ struct Head {
 }
 
 /// What a child is to do.
-#[derive(Clone, Copy)]
 enum Work {
     /// Acts at random, one after another.
     Session { seed: u64 },
     /// One call, after a warm-up that asks its questions and stores nothing; the child ends itself after this many nanoseconds.
-    One { call: Call, nanoseconds: u64 },
+    One { act: Act, nanoseconds: u64 },
 }
 
-#[derive(Clone, Copy)]
+#[derive(Clone)]
 struct Line {
     act: Act,
     reply: Reply,
@@ -111,6 +150,18 @@ impl Log {
     fn line(&self, number: usize) -> *mut Line {
         let at = Self::LINES_AT + number * size_of::<Line>().next_multiple_of(16);
         unsafe { self.pages.start().add(at).cast() }
+    }
+
+    /// An act that a child wrote down.
+    fn act(&self, number: usize) -> Act {
+        // SAFETY: the line was written, and nothing in it points to a heap.
+        unsafe { (*self.line(number)).act.clone() }
+    }
+
+    /// A line that a child wrote down whole.
+    fn told(&self, number: usize) -> Line {
+        // SAFETY: as for the act.
+        unsafe { (*self.line(number)).clone() }
     }
 
     /// The buffers before an act.
@@ -146,9 +197,9 @@ pub struct Ends {
 
 /// The next act. After a write of a rule's bytes it is mostly an add by that rule, which would hardly ever be done else; after another
 /// write it is an advance now and then, which has something to copy.
-fn choose(random: &mut Rng, cells: u32, handles: &[u32], last: Option<Act>) -> Act {
+fn choose(random: &mut Rng, cells: u32, handles: &[u32], last: Option<&Act>) -> Act {
     match last {
-        Some(Act::Write {
+        Some(&Act::Write {
             first,
             count,
             what: Bytes::Rule(rule),
@@ -169,7 +220,8 @@ fn choose(random: &mut Rng, cells: u32, handles: &[u32], last: Option<Act>) -> A
     Act::Call(match random.below(400) {
         0..=5 => Call::Make,
         6..=49 => Call::Create,
-        50..=129 => Call::copy(first, count, *random.pick(&[READ_ONLY, RW, RW, RW])),
+        50..=89 => Call::copy(first, count, *random.pick(&[READ_ONLY, RW, RW, RW])),
+        90..=129 => return Act::List(random.below(LISTS as u64) as usize),
         130..=159 => Call::via_parent(first, 1 + count / 4, *random.pick(&[READ_ONLY, RW])),
         160..=174 => Call::delete(any, first, 1 + count / 8),
         175..=199 => Call::Commit { handle: 0 },
@@ -191,7 +243,7 @@ fn choose(random: &mut Rng, cells: u32, handles: &[u32], last: Option<Act>) -> A
 }
 
 /// The child's work. Allocates nothing; ends only by SIGKILL.
-fn work(arena: &Arena, log: &Log, work: Work) -> ! {
+fn work(arena: &Arena, log: &Log, lists: &[Call], work: &Work) -> ! {
     let lent = arena.lent();
     let cells = (lent.memory_len / 64) as u32;
     let mut random = Rng::new(0);
@@ -200,29 +252,31 @@ fn work(arena: &Arena, log: &Log, work: Work) -> ! {
     let mut last = None;
     match work {
         Work::Session { seed } => {
-            random = Rng::new(seed);
+            random = Rng::new(*seed);
             lines = LINES;
         }
-        Work::One { call: one, .. } => {
+        Work::One { act, .. } => {
             timer = sys::EndTimer::new();
-            unsafe { call(lent, &one, 0) };
+            if let Some(one) = act.call(lists) {
+                unsafe { call(lent, one, 0) };
+            }
         }
     }
     for number in 0..lines {
         let act = match work {
-            Work::Session { .. } => choose(&mut random, cells, live_handles(lent), last),
-            Work::One { call, .. } => Act::Call(call),
+            Work::Session { .. } => choose(&mut random, cells, live_handles(lent), last.as_ref()),
+            Work::One { act, .. } => act.clone(),
         };
-        last = Some(act);
         let line = log.line(number);
         log.stand(number).load_from(arena);
-        unsafe { (&raw mut (*line).act).write_volatile(act) };
+        unsafe { (&raw mut (*line).act).write_volatile(act.clone()) };
         log.head().begun.store(number as u64 + 1, Ordering::SeqCst);
         if let (Some(timer), Work::One { nanoseconds, .. }) = (&timer, work) {
-            timer.start(nanoseconds);
+            timer.start(*nanoseconds);
         }
         let reply = match act {
-            Act::Call(one) => unsafe { call(lent, &one, FULL) },
+            Act::Call(ref one) => unsafe { call(lent, one, FULL) },
+            Act::List(place) => unsafe { call(lent, &lists[place], FULL) },
             Act::Write { first, count, what } => {
                 let bytes = what.cell();
                 for cell in first..first + count {
@@ -232,6 +286,7 @@ fn work(arena: &Arena, log: &Log, work: Work) -> ! {
                 Reply::default()
             }
         };
+        last = Some(act);
         unsafe { (&raw mut (*line).reply).write_volatile(reply) };
         log.head()
             .returned
@@ -256,16 +311,16 @@ fn handles_in(table: &[u32]) -> &[u32] {
 }
 
 /// Feeds the notebook one act that ended.
-fn feed(notebook: &mut Notebook, line: Line, memory: &[u8]) -> Result<(), String> {
-    match line.act {
-        Act::Write { first, count, .. } => {
-            notebook.write(64 * first as usize, 64 * count as usize);
-            Ok(())
-        }
-        Act::Call(Call::Open) if line.reply != Reply::default() => {
+fn feed(notebook: &mut Notebook, lists: &[Call], line: &Line, memory: &[u8]) -> Result<(), String> {
+    if let Act::Write { first, count, .. } = line.act {
+        notebook.write(64 * first as usize, 64 * count as usize);
+    }
+    match line.act.call(lists) {
+        None => Ok(()),
+        Some(Call::Open) if line.reply != Reply::default() => {
             Err(format!("an opening between calls gives {:?}", line.reply))
         }
-        Act::Call(call) => {
+        Some(call) => {
             let ended = if line.reply.code == 0 {
                 Ended::Done
             } else {
@@ -296,6 +351,7 @@ enum Miss {
 struct Trial {
     arena: Arena,
     log: Log,
+    lists: Vec<Call>,
     random: Rng,
     notebook: Notebook,
     /// Nanoseconds by which a timer's moment is moved.
@@ -308,10 +364,12 @@ struct Trial {
 pub fn run(sizes: Sizes, aim: Aim, kills: u64, seed: u64, ends: &mut Ends) -> Result<(), String> {
     let mut buffers = Buffers::filled(sizes.lengths(), 0, 0);
     Linked.call(&mut buffers, &Call::Make, FULL);
+    let mut random = Rng::new(seed);
     let mut trial = Trial {
         arena: Arena::new(sizes.lengths(), Side::After),
         log: Log::new(sizes.lengths()),
-        random: Rng::new(seed),
+        lists: lists(&mut random, sizes.m),
+        random,
         notebook: Notebook::new(None),
         shift: 0.0,
         missed: None,
@@ -333,17 +391,18 @@ impl Trial {
     fn anywhere(&mut self, ends: &mut Ends) -> Result<(), String> {
         let seed = self.random.below(1 << 48);
         let wait = Duration::from_micros(self.random.below(1_500));
-        self.end_child(Work::Session { seed }, wait, ends)
+        self.end_child(&Work::Session { seed }, wait, ends)
     }
 
     /// Looks for a call with many stores, measures it on copies up to its first store and to its end, and ends the child in between.
     fn at_stores(&mut self, ends: &mut Ends) -> Result<(), String> {
-        let call = self.call_to_aim_at()?;
+        let act = self.call_to_aim_at()?;
+        let call = act.call(&self.lists).expect("a call");
         let measure = |budget: u64| {
             let mut times = [0.0; 3].map(|_| {
                 let mut copy = self.arena.buffers();
                 let start = Instant::now();
-                Linked.call(&mut copy, &call, budget);
+                Linked.call(&mut copy, call, budget);
                 start.elapsed().as_secs_f64()
             });
             times.sort_by(f64::total_cmp);
@@ -355,7 +414,7 @@ impl Trial {
         let nanoseconds = moment.max(1.0) as u64;
         // A timer that did not go off is followed by an end from here.
         let wait = Duration::from_millis(20);
-        self.end_child(Work::One { call, nanoseconds }, wait, ends)?;
+        self.end_child(&Work::One { act, nanoseconds }, wait, ends)?;
         // Too early or too late by what the timer itself takes: aim better.
         match self.missed {
             Some(Miss::Late) => self.shift -= 1_000.0,
@@ -366,49 +425,49 @@ impl Trial {
     }
 
     /// A call that makes many stores in the store as it stands; acts that do not are made here, to get on.
-    fn call_to_aim_at(&mut self) -> Result<Call, String> {
+    fn call_to_aim_at(&mut self) -> Result<Act, String> {
         // Half of them a call that stores no bytes: the table words of the others take but a small part of their time.
         let words_only = self.random.below(2) == 0;
         let mut last = None;
         loop {
             let mut tried = self.arena.buffers();
             let cells = tried.sizes().m;
-            let act = choose(&mut self.random, cells, handles_in(&tried.table), last);
-            last = Some(act);
+            let handles = handles_in(&tried.table);
+            let act = choose(&mut self.random, cells, handles, last.as_ref());
             let mut reply = Reply::default();
-            match act {
-                Act::Call(call) => {
-                    reply = Linked.call(&mut tried, &call, FULL);
-                    let large = reply.code == 0 && reply.steps > 500;
-                    if large
-                        && (no_bytes(&call) || !words_only)
-                        && (call != Call::Make || self.random.below(4) == 0)
-                    {
-                        return Ok(call);
-                    }
-                    if call == Call::Make {
-                        continue;
-                    }
+            if let Act::Write { first, count, what } = act {
+                let cells = first..first + count;
+                cells.for_each(|cell| tried.write_cell(cell, &what.cell()));
+            }
+            if let Some(call) = act.call(&self.lists) {
+                reply = Linked.call(&mut tried, call, FULL);
+                let large = reply.code == 0 && reply.steps > 500;
+                if large
+                    && (no_bytes(call) || !words_only)
+                    && (*call != Call::Make || self.random.below(4) == 0)
+                {
+                    return Ok(act);
                 }
-                Act::Write { first, count, what } => {
-                    let cells = first..first + count;
-                    cells.for_each(|cell| tried.write_cell(cell, &what.cell()));
+                if *call == Call::Make {
+                    continue;
                 }
             }
-            feed(&mut self.notebook, Line { act, reply }, &tried.memory)?;
+            let line = Line { act, reply };
+            feed(&mut self.notebook, &self.lists, &line, &tried.memory)?;
             self.arena.load(&tried);
+            last = Some(line.act);
         }
     }
 
     /// Starts a child, waits from its first act on, ends it, and checks what it left.
-    fn end_child(&mut self, task: Work, wait: Duration, ends: &mut Ends) -> Result<(), String> {
+    fn end_child(&mut self, task: &Work, wait: Duration, ends: &mut Ends) -> Result<(), String> {
         let head = self.log.head();
         for count in [&head.begun, &head.returned, &head.ended] {
             count.store(0, Ordering::SeqCst);
         }
         let pid = unsafe { sys::fork() };
         if pid == 0 {
-            work(&self.arena, &self.log, task);
+            work(&self.arena, &self.log, &self.lists, task);
         }
         if pid < 0 {
             return Err(format!(
@@ -443,7 +502,7 @@ impl Trial {
         .map(|count| count.load(Ordering::SeqCst) as usize);
         let left = self.arena.buffers();
         for number in 0..returned {
-            let line = unsafe { self.log.line(number).read() };
+            let line = self.log.told(number);
             let after = unsafe {
                 core::slice::from_raw_parts(self.log.memory_after(number), left.memory.len())
             };
@@ -452,16 +511,16 @@ impl Trial {
             } else {
                 &left.memory[..]
             };
-            feed(&mut self.notebook, line, memory)
+            feed(&mut self.notebook, &self.lists, &line, memory)
                 .map_err(|wrong| format!("act {number}: {wrong}"))?;
-            ends.calls += matches!(line.act, Act::Call(_)) as u64;
+            ends.calls += line.act.call(&self.lists).is_some() as u64;
         }
         let mut opened = left.clone();
         let reply = Linked.call(&mut opened, &Call::Open, FULL);
-        let cut = (begun > returned).then(|| unsafe { self.log.line(returned).read().act });
+        let cut = (begun > returned).then(|| self.log.act(returned));
         self.missed = cut.is_none().then_some(Miss::Late);
-        match cut {
-            Some(Act::Call(call)) => {
+        match (cut.as_ref().and_then(|act| act.call(&self.lists)), &cut) {
+            (Some(call), _) => {
                 ends.inside += 1;
                 let before = self.log.stand(returned).buffers();
                 if left == before {
@@ -481,10 +540,10 @@ impl Trial {
             _ if reply != Reply::default() => {
                 return Err(format!("outside of calls, opening gives {reply:?}"));
             }
-            Some(Act::Write { first, count, .. }) => self
+            (_, Some(Act::Write { first, count, .. })) => self
                 .notebook
-                .write(64 * first as usize, 64 * count as usize),
-            None => {}
+                .write(64 * *first as usize, 64 * *count as usize),
+            _ => {}
         }
         ends.restores += check_restores(&opened, &state::state(&opened)?, &self.notebook)?;
         self.arena.load(&opened);
@@ -494,27 +553,24 @@ impl Trial {
 
 /// Calls that store table words alone.
 fn no_bytes(call: &Call) -> bool {
-    matches!(
-        call,
-        Call::Make
-            | Call::Commit { .. }
-            | Call::Delete { .. }
-            | Call::Add(Add {
-                kind: VIA_PARENT | PATTERN,
-                ..
-            })
-    )
+    matches!(call, Call::Make | Call::Commit { .. } | Call::Delete { .. }) || copies_none(call)
+}
+
+/// An add of which no record is a copy.
+fn copies_none(call: &Call) -> bool {
+    call.records()
+        .is_some_and(|(_, records)| records.iter().all(|record| record.kind != COPY))
 }
 
 /// An end that fell inside a call: the buffers before the call and as the end left them, and what opening told.
-struct Cut {
-    call: Call,
+struct Cut<'a> {
+    call: &'a Call,
     before: Buffers,
     left: Buffers,
     reply: Reply,
 }
 
-impl Cut {
+impl Cut<'_> {
     /// The call is found wholly made or not made.
     fn check(
         &self,
@@ -523,7 +579,7 @@ impl Cut {
         ends: &mut Ends,
     ) -> Result<(), String> {
         let (call, reply) = (self.call, self.reply);
-        if call == Call::Make && reply.code == 2 {
+        if *call == Call::Make && reply.code == 2 {
             if *opened != self.left {
                 return Err("a refused opening stored something".into());
             }
@@ -535,7 +591,7 @@ impl Cut {
             return Err(format!("opening gives {reply:?}"));
         }
         let mut after = self.before.clone();
-        let whole = Linked.call(&mut after, &call, FULL);
+        let whole = Linked.call(&mut after, call, FULL);
         let old = state::state(&self.before)?;
         let (new, found) = (state::state(&after)?, state::state(opened)?);
         if found != old && found != new {
@@ -546,7 +602,7 @@ impl Cut {
             return Err("opening took steps and the call is not made".into());
         }
         let put_back = match call {
-            Call::Restore { handle } if whole.code == 0 => state::put_back(&old, handle),
+            Call::Restore { handle } if whole.code == 0 => state::put_back(&old, *handle),
             _ => Default::default(),
         };
         for (byte, &value) in opened.memory.iter().enumerate() {
@@ -565,7 +621,7 @@ impl Cut {
         ends.made += made as u64;
         ends.not_made += !made as u64;
         ends.carried_out += (reply.steps > 0) as u64;
-        if whole.code != 0 || call == Call::Open {
+        if whole.code != 0 || *call == Call::Open {
             return Ok(());
         }
         if made && reply.steps == 0 {
@@ -573,9 +629,9 @@ impl Cut {
             return note(notebook, call, Ended::Done, 0, &opened.memory);
         }
         // A make that was found not made has stored nothing.
-        let steps = if call == Call::Make { 0 } else { 1 };
+        let steps = if *call == Call::Make { 0 } else { 1 };
         note(notebook, call, Ended::Stopped, steps, &self.left.memory)?;
         let (steps, memory) = (reply.steps, &opened.memory);
-        note(notebook, Call::Open, Ended::Done, steps, memory)
+        note(notebook, &Call::Open, Ended::Done, steps, memory)
     }
 }

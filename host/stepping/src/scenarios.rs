@@ -3,11 +3,14 @@
 use crate::check::{Case, note};
 use crate::state;
 use domain_lend::Linked;
+use domain_model::edges::{TILE, one_cell_records};
 use domain_model::rules::{INDEX, ONES, SCALE, ZEROS, pattern};
-use domain_model::{Buffers, Call, Ended, FULL, Notebook, Rng, STOPPED, Sizes, Store, plan};
+use domain_model::{
+    Buffers, Call, Ended, FULL, Notebook, Record, Rng, STOPPED, Sizes, Store, plan,
+};
 
 /// What happens before the call that is stepped.
-#[derive(Clone, Copy)]
+#[derive(Clone)]
 pub enum Act {
     /// A call that is done.
     Done(Call),
@@ -39,6 +42,13 @@ pub const SMALL: Sizes = Sizes { m: 4, e: 6, b: 6 };
 
 /// The same for two domains that hold eight cells each.
 pub const MIXED: Sizes = Sizes { m: 8, e: 16, b: 18 };
+
+/// The same for a domain that holds four cells, and a tile inside it.
+pub const TILED: Sizes = Sizes {
+    m: 16,
+    e: 24,
+    b: 12,
+};
 
 /// What a program write puts into a cell: two versions differ in every byte, and all bytes are below 251, so that none is that with
 /// which what means nothing is filled, and a store shows in every byte it covers.
@@ -141,6 +151,7 @@ pub fn scenarios() -> Vec<Scenario> {
     add("restore a dead handle", two(), Restore { handle: 9 }, 5, 0, 0);
     patterns(&mut all);
     shorter_advances(&mut all);
+    lists(&mut all);
     all
 }
 
@@ -204,7 +215,7 @@ fn patterns(all: &mut Vec<Scenario>) {
 #[rustfmt::skip]
 fn shorter_advances(all: &mut Vec<Scenario>) {
     use Call::*;
-    let advance = Advance { handle: 0 };
+    const ADVANCE: Call = Advance { handle: 0 };
     let one = || [vec![MAKE], write(0..4, 1), vec![CREATE, copy(0, 2, 1)]].concat();
     // Domain 1 holds cells 0 to 7. Domain 2 holds 0 to 2 via parent, 3 and 4 by rules, 5 and 6 by copies of its own, all read-write, and 7
     // by a copy, read-only.
@@ -216,19 +227,65 @@ fn shorter_advances(all: &mut Vec<Scenario>) {
 
     let mut add = |name, sizes, before, call, cells, pairs| all.push(Scenario { name, sizes, before, call, number: 0, cells, pairs });
     //   Name, sizes, what went before, the call, and its cells and pairs.
-    add("advance, nothing changed", SMALL, one(), advance, 0, 0);
-    add("advance, changed back", SMALL, [one(), write(0..2, 2), write(0..2, 1)].concat(), advance, 0, 0);
-    add("advance, one of two changed", SMALL, [one(), write(1..2, 2)].concat(), advance, 1, 2);
-    add("advance, a first byte changed", SMALL, [one(), touch(&[0], 0)].concat(), advance, 1, 2);
-    add("advance, a last byte changed", SMALL, [one(), touch(&[1], 63)].concat(), advance, 1, 2);
-    add("advance over a mix, nothing", MIXED, mixed(), advance, 0, 0);
-    add("advance over a mix, read-only", MIXED, [mixed(), touch(&[7], 0)].concat(), advance, 0, 0);
-    add("advance over a mix, some", MIXED, changed(), advance, 3, 6);
-    add("advance over a mix, others", MIXED, [mixed(), touch(&[0, 3, 6], 63)].concat(), advance, 3, 6);
-    add("advance over a mix, all", MIXED, [mixed(), write(0..8, 3)].concat(), advance, 7, 14);
-    add("advance over a mix, again", MIXED, [changed(), vec![Act::Done(advance)], touch(&[2, 5], 0)].concat(), advance, 2, 4);
+    add("advance, nothing changed", SMALL, one(), ADVANCE, 0, 0);
+    add("advance, changed back", SMALL, [one(), write(0..2, 2), write(0..2, 1)].concat(), ADVANCE, 0, 0);
+    add("advance, one of two changed", SMALL, [one(), write(1..2, 2)].concat(), ADVANCE, 1, 2);
+    add("advance, a first byte changed", SMALL, [one(), touch(&[0], 0)].concat(), ADVANCE, 1, 2);
+    add("advance, a last byte changed", SMALL, [one(), touch(&[1], 63)].concat(), ADVANCE, 1, 2);
+    add("advance over a mix, nothing", MIXED, mixed(), ADVANCE, 0, 0);
+    add("advance over a mix, read-only", MIXED, [mixed(), touch(&[7], 0)].concat(), ADVANCE, 0, 0);
+    add("advance over a mix, some", MIXED, changed(), ADVANCE, 3, 6);
+    add("advance over a mix, others", MIXED, [mixed(), touch(&[0, 3, 6], 63)].concat(), ADVANCE, 3, 6);
+    add("advance over a mix, all", MIXED, [mixed(), write(0..8, 3)].concat(), ADVANCE, 7, 14);
+    add("advance over a mix, again", MIXED, [changed(), vec![Act::Done(ADVANCE)], touch(&[2, 5], 0)].concat(), ADVANCE, 2, 4);
     // Cut after the store of word 6: 64 bytes and 4 words for each of three cells, and word 6.
-    add("open a cut advance over a mix", MIXED, then(changed(), Act::Cut(advance, 3 * 68 + 1)), Open, 0, 6);
+    add("open a cut advance over a mix", MIXED, then(changed(), Act::Cut(ADVANCE, 3 * 68 + 1)), Open, 0, 6);
+}
+
+/// Adds of several ranges: in every order and over each other, of every kind, with labels raised, as many as there may be, cut and refused.
+#[rustfmt::skip]
+fn lists(all: &mut Vec<Scenario>) {
+    use Call::*;
+    use Record as R;
+    let made = |cells: u32| [vec![MAKE], write(0..cells, 1)].concat();
+    // A domain that holds nothing, in a memory of eight cells.
+    let one = || [made(8), vec![CREATE]].concat();
+    // One that holds cells 2 and 5, read-only.
+    let held = || [one(), vec![copy(2, 1, 0), copy(5, 1, 0)], write(2..6, 2)].concat();
+    // Domain 1 holds cells 0 to 2; domain 2 nothing; cells 5 and 6 follow a rule.
+    let inside = || [made(8), vec![CREATE, copy(0, 3, 1), CREATE, Act::Follow { cell: 5, rule: SCALE }, Act::Follow { cell: 6, rule: SCALE }]].concat();
+    // What the nine ranges of a tile need: the domain around it, and cells by rules.
+    let tile = || [made(16), vec![CREATE, copy(0, 4, 1), CREATE], [9, 10].map(|cell| Act::Follow { cell, rule: INDEX }).to_vec(),
+                   [12, 13].map(|cell| Act::Follow { cell, rule: SCALE }).to_vec(), vec![Act::Follow { cell: 5, rule: ZEROS }]].concat();
+    let mixed = [R::copy(7, 1, 1), R::via_parent(0, 2, 1), R::pattern(5, 2, SCALE, 0), R::copy(3, 2, 0), R::via_parent(2, 1, 0)];
+    let then = |before: Vec<Act>, act: Act| [before, vec![act]].concat();
+
+    let mut add = |name, sizes, before, call: Call, number, cells, pairs| all.push(Scenario { name, sizes, before, call, number, cells, pairs });
+    //   Name, sizes, what went before, the call, and its number, cells and pairs.
+    add("list, rising", MIXED, one(), Call::ranges([R::copy(0, 1, 1), R::copy(3, 2, 0)]), 0, 3, 6);
+    add("list, falling", MIXED, one(), Call::ranges([R::copy(6, 2, 1), R::copy(3, 1, 0), R::copy(0, 1, 1)]), 0, 4, 8);
+    add("list, touching", MIXED, one(), Call::ranges([R::copy(2, 2, 1), R::copy(0, 2, 0), R::copy(4, 1, 1)]), 0, 5, 10);
+    add("list, overlapping", MIXED, one(), Call::ranges([R::copy(3, 3, 0), R::copy(1, 4, 1), R::copy(5, 2, 1)]), 0, 6, 12);
+    add("list, one cell many times", MIXED, one(), Call::ranges([R::copy(4, 1, 0), R::pattern(4, 1, ONES, 0), R::via_parent(4, 1, 1), R::copy(4, 1, 0)]), 0, 1, 2);
+    add("list, labels raised", MIXED, held(), Call::ranges([R::copy(5, 2, 1), R::copy(2, 1, 1), R::copy(2, 1, 1), R::copy(0, 1, 0)]), 0, 2, 8);
+    add("list, nothing new", MIXED, held(), Call::ranges([R::copy(5, 1, 0), R::copy(2, 1, 0)]), 0, 0, 0);
+    add("list of every kind", MIXED, inside(), Call::ranges(mixed), 0, 3, 16);
+    add("list without copies", MIXED, inside(), Call::ranges([R::pattern(6, 1, SCALE, 1), R::via_parent(0, 3, 0), R::pattern(5, 2, SCALE, 0)]), 0, 0, 10);
+    add("nine ranges of a tile", TILED, tile(), Call::ranges(TILE), 0, 3, 22);
+    add("list of one", MIXED, one(), Call::ranges([R::copy(3, 2, 1)]), 0, 2, 4);
+    add("list of 64", Sizes { m: 64, e: 64, b: 8 }, [vec![MAKE, CREATE], (0..64).map(|cell| Act::Follow { cell, rule: ONES }).collect()].concat(),
+        Call::ranges(one_cell_records(64, 2, 1).into_iter().map(|record| record.with_rule(ONES)).collect::<Vec<_>>()), 0, 0, 128);
+
+    // Cut after the store of word 6, and some steps later.
+    add("open a cut list", MIXED, then(inside(), Act::Cut(Call::ranges(mixed), 3 * 64 + 2 * 16 + 1)), Open, 0, 0, 16);
+    add("open a tile that was cut", TILED, then(tile(), Act::Cut(Call::ranges(TILE), 3 * 64 + 2 * 22 + 9)), Open, 0, 0, 22);
+
+    add("list of no record", MIXED, one(), Call::ranges([]), 20, 0, 0);
+    add("list of 65", MIXED, one(), Call::ranges([R::copy(0, 1, 1); 65]), 20, 0, 0);
+    add("list, its last refused by 7", MIXED, one(), Call::ranges([R::copy(0, 2, 1), R::copy(4, 1, 1), R::new(5, 1, 3, 0)]), 7, 0, 0);
+    add("list, its last refused by 18", MIXED, one(), Call::ranges([R::copy(0, 2, 1), R::copy(4, 1, 1), R::pattern(5, 1, ONES, 0)]), 18, 0, 0);
+    add("list without free entries", Sizes { e: 4, ..MIXED }, one(), Call::ranges([R::copy(0, 3, 1), R::copy(5, 2, 1)]), 16, 0, 0);
+    add("list without free bodies", Sizes { b: 4, ..MIXED }, one(), Call::ranges([R::copy(0, 3, 1), R::copy(5, 2, 1)]), 17, 0, 0);
 }
 
 /// The buffers and the notebook as they stand before the call. The buffers are what stood in them before the first make, any bytes.
@@ -236,9 +293,9 @@ pub fn prepare(scenario: &Scenario) -> Result<(Buffers, Notebook), String> {
     let mut buffers = Buffers::filled(scenario.sizes.lengths(), 0xA5, 0xA5A5_A5A5);
     let mut notebook = Notebook::new(None);
     for act in &scenario.before {
-        match *act {
+        match act {
             Act::Done(call) => {
-                let reply = Linked.call(&mut buffers, &call, FULL);
+                let reply = Linked.call(&mut buffers, call, FULL);
                 if reply.code != 0 {
                     return Err(format!("{call}, made before, gives {}", reply.code));
                 }
@@ -246,19 +303,20 @@ pub fn prepare(scenario: &Scenario) -> Result<(Buffers, Notebook), String> {
                 note(&mut notebook, call, Ended::Done, steps, memory)?;
             }
             Act::Cut(call, steps) => {
-                let reply = Linked.call(&mut buffers, &call, steps);
-                if (reply.code, reply.steps) != (STOPPED, steps) {
+                let reply = Linked.call(&mut buffers, call, *steps);
+                if (reply.code, reply.steps) != (STOPPED, *steps) {
                     return Err(format!(
                         "{call}, to be stopped after {steps} steps, gives {reply:?}"
                     ));
                 }
-                note(&mut notebook, call, Ended::Stopped, steps, &buffers.memory)?;
+                note(&mut notebook, call, Ended::Stopped, *steps, &buffers.memory)?;
             }
             Act::Write { cell, version } => {
-                write_cell(&mut buffers, &mut notebook, cell, &contents(cell, version));
+                let bytes = contents(*cell, *version);
+                write_cell(&mut buffers, &mut notebook, *cell, &bytes);
             }
-            Act::Follow { cell, rule } => follow_rule(&mut buffers, &mut notebook, cell, rule),
-            Act::Touch { cell, byte } => touch_byte(&mut buffers, &mut notebook, cell, byte),
+            Act::Follow { cell, rule } => follow_rule(&mut buffers, &mut notebook, *cell, *rule),
+            Act::Touch { cell, byte } => touch_byte(&mut buffers, &mut notebook, *cell, *byte),
         }
     }
     Ok((buffers, notebook))
@@ -353,7 +411,7 @@ impl Session {
         self.buffers = case.before.clone();
         plan::play(&case.plan.steps[..steps], &mut self.buffers);
         let (steps, memory) = (steps as u64, &self.buffers.memory);
-        note(&mut self.notebook, case.call, ended, steps, memory)
+        note(&mut self.notebook, &case.call, ended, steps, memory)
     }
 
     /// Writes these cells, each with the next version that differs in every byte from what anybody holds of it: two versions do so, and
@@ -410,6 +468,29 @@ impl Session {
         Call::pattern(first, count, rule, label)
     }
 
+    /// An add of several ranges, which meet each other at times.
+    fn choose_list(&mut self) -> Call {
+        let cells = u64::from(self.buffers.sizes().m);
+        let many = self.random.between(2, 9);
+        let mut records = Vec::new();
+        for _ in 0..many {
+            let first = self.random.below(cells) as u32;
+            let most = (cells - u64::from(first)).min(4);
+            let count = self.random.between(1, most) as u32;
+            let label = self.random.below(2) as u32;
+            records.push(match self.random.below(8) {
+                0 => Record::via_parent(first, count, label),
+                1 => {
+                    let rule = self.random.below(4) as u32;
+                    follow_rule(&mut self.buffers, &mut self.notebook, first, rule);
+                    Record::pattern(first, 1, rule, label)
+                }
+                _ => Record::copy(first, count, label),
+            });
+        }
+        Call::ranges(records)
+    }
+
     fn choose(&mut self) -> Result<Call, String> {
         let handles = self.notebook.handles();
         let any = match handles.is_empty() {
@@ -424,7 +505,7 @@ impl Session {
             let cell = self.random.below(cells) as u32;
             self.write(cell..cell + 1)?;
         }
-        Ok(match self.random.below(20) {
+        Ok(match self.random.below(24) {
             0 if handles.len() > 2 => Call::Make,
             0..=4 => Call::Create,
             5..=7 => Call::copy(first, count, label),
@@ -433,6 +514,7 @@ impl Session {
             13 => Call::delete(any, first, 1),
             14..=15 => Call::Commit { handle: 0 },
             16..=17 => Call::Advance { handle: 0 },
+            18..=21 => self.choose_list(),
             _ => Call::Restore { handle: any },
         })
     }

@@ -93,7 +93,7 @@ mod machine {
                 );
                 // One call of each kind, and of each kind of add, is enough to show that the check sees what it has to see.
                 let kind = match case.call {
-                    Call::Add(add) => add.kind,
+                    Call::Add { record, .. } => record.kind,
                     _ => 0,
                 };
                 let what = (discriminant(&case.call), kind);

@@ -1,11 +1,14 @@
 //! The sequencer's story, as tables to show in a training: an advance is cut at every single store,
-//! and the restore that follows never puts a scale of zero on a channel; and a channel that still has
-//! its start value is held by a rule, without a copy.
+//! and the restore that follows never puts a scale of zero on a channel; a channel that still has its
+//! start value is held by a rule, without a copy; and the nine ranges of a tile are held by one add,
+//! all of them or none.
 
 use std::error::Error;
 use std::process::ExitCode;
 
-use domain_store::{Buffers, CELL, Handle, Kind, Label, Place, Refusal, Rule, Store};
+use domain_store::{
+    Buffers, CELL, Handle, Innermost, Kind, Label, Place, Range, Refusal, Rule, Store,
+};
 
 /// The channel's cell: its scale in the first four bytes, its phasing behind it, and filling that
 /// differs from byte to byte, so that a mixture of two cells would show.
@@ -49,13 +52,21 @@ struct Seen {
     wrong: usize,
 }
 
-impl Seen {
-    fn opening_did(&self) -> String {
-        match (self.whole, self.opening) {
-            (false, 0) => "nothing: the advance was not made".into(),
-            (false, steps) => format!("finished the advance ({steps} stores)"),
-            (true, _) => "nothing: the advance was made".into(),
-        }
+/// What the opening after a cut did, of which so many stores tell: the call was whole by then, or not.
+fn opening_did(call: &str, whole: bool, steps: u64) -> String {
+    match (whole, steps) {
+        (false, 0) => format!("nothing: the {call} was not made"),
+        (false, steps) => format!("finished the {call} ({steps} stores)"),
+        (true, _) => format!("nothing: the {call} was made"),
+    }
+}
+
+/// The stores made before cuts that share a row.
+fn stores_made(first: u64, last: u64, whole: bool) -> String {
+    match last - first {
+        0 if whole => format!("{first} (all)"),
+        0 => format!("{first}"),
+        _ => format!("{first} to {last}"),
     }
 }
 
@@ -85,7 +96,7 @@ fn cut_at(budget: u64, old: &[u8; CELL], new: &[u8; CELL]) -> Result<Seen, Box<d
 }
 
 fn main() -> Result<ExitCode, Box<dyn Error>> {
-    let right = cut_at_every_store()? & held_by_a_rule()?;
+    let right = cut_at_every_store()? & held_by_a_rule()? & nine_ranges()?;
     Ok(match right {
         true => ExitCode::SUCCESS,
         false => ExitCode::FAILURE,
@@ -218,23 +229,125 @@ fn rule_line(what: &str, stores: &str, scale: &str, brings: &str) {
     println!("  {what:<32} {stores:>8}   {scale:>12}   {brings:>24}");
 }
 
+/// What a tile keeps together: 21 cells, of which nine are copied.
+const TILE: [Range; 9] = [
+    Range::via_parent(0..2),
+    Range::via_parent(2..4).read_write(),
+    Range::copy(4..6).read_write(),
+    Range::copy(8..10).read_write(),
+    Range::copy(12..14).read_write(),
+    Range::copy(16..18).read_write(),
+    Range::by_rule(Rule::Scale, 20..24).read_write(),
+    Range::by_rule(Rule::Zeros, 24..28).read_write(),
+    Range::copy(30..31),
+];
+
+/// What one cut of the tile's add came to: the stores of the opening, and the ranges that are held.
+#[derive(Clone, Copy, PartialEq)]
+struct Kept {
+    whole: bool,
+    opening: u64,
+    ranges: usize,
+}
+
+/// A store with a cycle that holds the first four cells, and a tile inside it that is to hold its own.
+fn before_the_tile(buffers: &mut Buffers) -> Result<Store<'_>, Refusal> {
+    let mut store = buffers.store();
+    store.make()?;
+    store.memory_mut().fill(7);
+    for range in TILE {
+        if let Kind::Pattern(rule) = range.kind() {
+            for cell in range.cells() {
+                *store.cell_mut(cell) = rule.bytes();
+            }
+        }
+    }
+    let cycle = store.create()?;
+    store.add(cycle, 0..4, Kind::Copy, Label::ReadWrite)?;
+    store.create()?;
+    Ok(store)
+}
+
+fn tile_cut_at(budget: u64) -> Result<Kept, Box<dyn Error>> {
+    let mut buffers = Buffers::allocate(32, 32, 16)?;
+    let mut store = before_the_tile(&mut buffers)?;
+    let outcome = store.add_ranges_with_budget(Innermost, &TILE, budget)?;
+    let opening = store.open()?;
+    let mut ranges = 0;
+    for range in TILE {
+        ranges += usize::from(store.delete(Innermost, range.cells()).is_ok());
+    }
+    Ok(Kept {
+        whole: outcome.is_done(),
+        opening,
+        ranges,
+    })
+}
+
+/// Whether every cut of the tile's add left all nine ranges held, or none.
+fn nine_ranges() -> Result<bool, Box<dyn Error>> {
+    let mut buffers = Buffers::allocate(32, 32, 16)?;
+    let need = before_the_tile(&mut buffers)?.add_ranges(Innermost, &TILE)?;
+    let copies = TILE.iter().filter(|range| range.kind() == Kind::Copy);
+    let copied: usize = copies.map(|range| range.cells().len()).sum();
+
+    println!();
+    println!("NINE RANGES OF A TILE, HELD BY ONE ADD");
+    println!();
+    println!(
+        "A tile keeps nine ranges together: two via the cycle around it, two by rules, and five"
+    );
+    println!(
+        "as copies, {copied} cells of them. One add holds all, with {need} stores. The card drops out"
+    );
+    println!("before each of them in turn, and after the last.");
+    println!();
+    tile_line("stores made", "", "what opening did", "ranges held");
+    tile_line("before the cut", "cuts", "", "of nine");
+    println!("  {}", "-".repeat(84));
+    let mut some = 0;
+    let mut run: Option<(u64, Kept)> = None;
+    let row = |first: u64, last: u64, kept: &Kept| {
+        let stores = stores_made(first, last, kept.whole);
+        let cuts = (last - first + 1).to_string();
+        let did = opening_did("add", kept.whole, kept.opening);
+        tile_line(&stores, &cuts, &did, &kept.ranges.to_string());
+    };
+    for budget in 0..=need {
+        let kept = tile_cut_at(budget)?;
+        some += u64::from(kept.ranges != 0 && kept.ranges != TILE.len());
+        match run {
+            Some((_, same)) if same == kept => {}
+            _ => {
+                if let Some((first, before)) = run {
+                    row(first, budget - 1, &before);
+                }
+                run = Some((budget, kept));
+            }
+        }
+    }
+    if let Some((first, last)) = run {
+        row(first, need, &last);
+    }
+    println!();
+    match some {
+        0 => println!("All nine or none: {} cuts.", need + 1),
+        some => println!("{some} cuts left a part: this library does not do what it promises."),
+    }
+    Ok(some == 0)
+}
+
+fn tile_line(stores: &str, cuts: &str, opening: &str, ranges: &str) {
+    println!("  {stores:<14} {cuts:>4}   {opening:<34} {ranges:>27}");
+}
+
 /// A row for the cuts from `first` to `last`.
 fn row(first: u64, last: u64, seen: &Seen) {
-    let cuts = last - first + 1;
-    let stores = match cuts {
-        1 if seen.whole => format!("{first} (all)"),
-        1 => format!("{first}"),
-        _ => format!("{first} to {last}"),
-    };
+    let cuts = (last - first + 1).to_string();
+    let stores = stores_made(first, last, seen.whole);
+    let did = opening_did("advance", seen.whole, seen.opening);
     let scale = format!("{:?}", f32::from_bits(seen.scale));
-    let wrong = seen.wrong.to_string();
-    line(
-        &stores,
-        &cuts.to_string(),
-        &seen.opening_did(),
-        &scale,
-        &wrong,
-    );
+    line(&stores, &cuts, &did, &scale, &seen.wrong.to_string());
 }
 
 fn line(stores: &str, cuts: &str, opening: &str, scale: &str, wrong: &str) {

@@ -3,9 +3,11 @@
 //!
 //! SAFETY, for every call below: a slice's pointer and length name exactly its elements, aligned
 //! and not null; `&mut self` borrows all three slices uniquely, and a call on `&self` only reads, so
-//! nothing writes while the call runs; the out parameters are locals of their own. The library
-//! takes any contents and any numbers: that it ends and stays inside its buffers is proved.
+//! nothing writes while the call runs; a list of ranges is borrowed besides, and only read; the out
+//! parameters are locals of their own. The library takes any contents and any numbers: that it ends
+//! and stays inside its buffers is proved.
 
+use crate::Range;
 use crate::ffi::Lent;
 
 /// What a call without further answers gives: its number, and the steps that it made.
@@ -85,6 +87,12 @@ impl Slices<'_> {
                 a.handle, a.first, a.count, a.kind, a.rule, a.label, budget, steps,
             )
         })
+    }
+
+    pub(crate) fn add_ranges(&mut self, handle: u32, ranges: &[Range], budget: u64) -> Answer {
+        // A range is its numbers, laid out as C has them.
+        let (list, len) = (ranges.as_ptr().cast(), ranges.len());
+        counted(|steps| unsafe { self.lent().add_ranges(handle, list, len, budget, steps) })
     }
 
     pub(crate) fn delete(&mut self, handle: u32, first: u32, count: u32, budget: u64) -> Answer {

@@ -14,9 +14,11 @@
 //!   count elements, not bytes), and an out parameter points to one value (`handles` of [`ds_list`]
 //!   to eight);
 //! - no pointer is null, save that of a buffer of length 0: such a call is refused as
-//!   [`Lengths`](crate::Refusal::Lengths) and does not look at it. Out parameters are stored to by
+//!   [`Lengths`](crate::Refusal::Lengths) and does not look at it; and save that of a list of no
+//!   ranges: such a call is refused as [`NumberOfRanges`](crate::Refusal::NumberOfRanges), where no
+//!   earlier question refuses it, and does not look at it either. Out parameters are stored to by
 //!   every call, so none of them is ever null;
-//! - buffers and out parameters do not overlap;
+//! - buffers, out parameters and the list of ranges do not overlap;
 //! - nothing else stores into them while the call runs, so only one call at a time is made on a
 //!   store.
 //!
@@ -57,6 +59,23 @@ pub const IN_BODIES: u32 = 2;
 
 /// What [`ds_look`] puts into `place` for a cell that is held by a rule: no part of a buffer.
 pub const BY_RULE: u32 = 3;
+
+/// One range of the list that [`ds_add_ranges`] takes, by the numbers that [`ds_add`] takes: `struct
+/// ds_range` of the header. [`Range`](crate::Range) is the same with names for the numbers.
+#[derive(Clone, Copy, Debug, PartialEq, Eq, Hash)]
+#[repr(C)]
+pub struct Range {
+    /// The first cell.
+    pub first: u32,
+    /// The number of cells.
+    pub count: u32,
+    /// 0 for a copy, 1 for via parent, 2 for a pattern.
+    pub kind: u32,
+    /// A pattern's rule, from 0 to 3; other kinds ignore it.
+    pub rule: u32,
+    /// 0 for read-only, 1 for read-write.
+    pub label: u32,
+}
 
 /// The lent buffers as every C function takes them first: a pointer and a length in elements each.
 #[derive(Clone, Copy, Debug)]
@@ -173,6 +192,12 @@ functions! {
         steps: *mut u64
     );
 
+    /// Holds several ranges of cells in the innermost domain, `ranges_len` of them (1 to 64) from
+    /// `ranges` on: all or none. They act in their order. Stores into bodies and the table.
+    ds_add_ranges, add_ranges: const mut mut (
+        handle: u32, ranges: *const Range, ranges_len: usize, budget: u64, steps: *mut u64
+    );
+
     /// Frees cells that a domain holds. Stores into the table.
     ds_delete, delete: const const mut (
         handle: u32, first: u32, count: u32, budget: u64, steps: *mut u64
@@ -203,7 +228,10 @@ functions! {
 
 #[cfg(test)]
 mod tests {
-    use super::DECLARED;
+    use super::{DECLARED, Range};
+    use std::mem::{align_of, offset_of, size_of};
+
+    const HEADER: &str = include_str!("../../../include/domain_store.h");
 
     /// A parameter of C as Rust writes it: name and type.
     fn in_rust(parameter: &str) -> (String, String) {
@@ -211,12 +239,14 @@ mod tests {
             Some(rest) => ("*const", rest),
             None => ("*mut", parameter.trim()),
         };
+        let rest = rest.strip_prefix("struct ").unwrap_or(rest);
         let (kind, name) = rest.split_once(' ').expect("a type and a name");
         let kind = match kind {
             "uint8_t" => "u8",
             "uint32_t" => "u32",
             "uint64_t" => "u64",
             "size_t" => "usize",
+            "ds_range" => "Range",
             other => panic!("the type {other}"),
         };
         let bare = name.trim_start_matches('*').trim_end_matches("[8]");
@@ -229,8 +259,7 @@ mod tests {
 
     #[test]
     fn every_function_is_declared_as_in_the_header() {
-        let header = include_str!("../../../include/domain_store.h");
-        let in_header: Vec<(String, Vec<(String, String)>)> = header
+        let in_header: Vec<(String, Vec<(String, String)>)> = HEADER
             .split("\nuint32_t ")
             .skip(1)
             .map(|text| {
@@ -257,5 +286,35 @@ mod tests {
             })
             .collect();
         assert_eq!(here, in_header);
+    }
+
+    #[test]
+    fn a_range_is_laid_out_as_in_the_header() {
+        let (_, text) = HEADER
+            .split_once("\nstruct ds_range {")
+            .expect("the struct");
+        let (text, _) = text.split_once('}').expect("its end");
+        let fields: Vec<(String, String)> = text
+            .split(';')
+            .map(str::trim)
+            .filter(|field| !field.is_empty())
+            .map(in_rust)
+            .collect();
+        let here = [
+            ("first", offset_of!(Range, first)),
+            ("count", offset_of!(Range, count)),
+            ("kind", offset_of!(Range, kind)),
+            ("rule", offset_of!(Range, rule)),
+            ("label", offset_of!(Range, label)),
+        ];
+        // Words one after another have no filling between them.
+        assert!(
+            here.iter()
+                .enumerate()
+                .all(|(at, (_, offset))| *offset == 4 * at)
+        );
+        assert_eq!((size_of::<Range>(), align_of::<Range>()), (20, 4));
+        let here = here.map(|(name, _)| (name.to_string(), "u32".to_string()));
+        assert_eq!(fields, here);
     }
 }

@@ -88,6 +88,46 @@
 //! # Ok::<(), Box<dyn std::error::Error>>(())
 //! ```
 //!
+//! # Several ranges at once
+//!
+//! A tile has several ranges to keep together. [`Store::add_ranges`] holds all of them or none, also
+//! where it is interrupted, and a later [`Range`] finds what an earlier one has just taken.
+//!
+//! ```
+//! use domain_store::{Buffers, Kind, Label, Range, Rule};
+//!
+//! const TILE: [Range; 9] = [
+//!     Range::via_parent(0..2),
+//!     Range::via_parent(2..4).read_write(),
+//!     Range::copy(4..6).read_write(),
+//!     Range::copy(8..10).read_write(),
+//!     Range::copy(12..14).read_write(),
+//!     Range::copy(16..18).read_write(),
+//!     Range::by_rule(Rule::Scale, 20..24).read_write(),
+//!     Range::by_rule(Rule::Zeros, 24..28).read_write(),
+//!     Range::copy(30..31),
+//! ];
+//! # let mut buffers = Buffers::allocate(32, 32, 16)?;
+//! # let mut store = buffers.store();
+//! # store.make()?;
+//! # (20..24).for_each(|cell| *store.cell_mut(cell) = Rule::Scale.bytes());
+//! let cycle = store.create()?;
+//! store.add(cycle, 0..4, Kind::Copy, Label::ReadWrite)?;
+//! let tile = store.create()?;
+//! store.add_ranges(tile, &TILE)?;
+//!
+//! // All nine come back together.
+//! let before = store.memory().to_vec();
+//! for range in TILE {
+//!     for cell in range.cells() {
+//!         store.cell_mut(cell).fill(99);
+//!     }
+//! }
+//! store.restore(tile)?;
+//! assert_eq!(store.memory(), before);
+//! # Ok::<(), Box<dyn std::error::Error>>(())
+//! ```
+//!
 //! # What an advance costs
 //!
 //! An advance copies the read-write cells that have changed, 64 bytes each, and keeps the others as
@@ -124,8 +164,8 @@
 //! that, for a mapped file the program does.
 //!
 //! A call takes no heap. Stack of a call at the largest sizes, measured: make 5 KB; create, list,
-//! look, delete 74 KB; open 107 KB; commit 108 KB; add, restore 116 KB; advance 127 KB. A thread of
-//! Rust has 2 MiB where nothing else is asked for.
+//! look, delete 74 KB; open 107 KB; commit 108 KB; add, add_ranges, restore 116 KB; advance 127 KB. A
+//! thread of Rust has 2 MiB where nothing else is asked for.
 
 #![deny(missing_docs)]
 #![deny(unsafe_code)]
@@ -145,6 +185,7 @@ mod map;
 mod buffers;
 mod names;
 mod outcome;
+mod ranges;
 mod refusal;
 mod store;
 
@@ -152,6 +193,7 @@ pub use buffers::{Buffers, SizeError, Sizes};
 pub use map::MappedBuffers;
 pub use names::{Domain, Handle, Handles, Innermost, Kind, Label, Rule};
 pub use outcome::Outcome;
+pub use ranges::Range;
 pub use refusal::Refusal;
 pub use store::{Place, Store};
 
@@ -169,3 +211,6 @@ pub const MAX_BODIES: u32 = 4_096;
 
 /// The most domains that live at a time, one inside the other.
 pub const MAX_DOMAINS: usize = 8;
+
+/// The most ranges that [`Store::add_ranges`] takes.
+pub const MAX_RANGES: usize = 64;

@@ -6,8 +6,9 @@ use std::fmt;
 /// Why a call was refused. A refused call changed nothing: every word and byte of the buffers has
 /// the value that it had before.
 ///
-/// A call puts its questions in the order of these numbers, save that 18 and 19 come right after
-/// 12, and is refused by the first that is answered by no. The text of a refusal says what was
+/// A call puts its questions in the order of these numbers, save that 20 comes right after 6, and 18
+/// and 19 right after 12, and is refused by the first that is answered by no. (An add of several
+/// ranges puts 7, 8, 11, 12, 18 and 19 to one range after the other, and then 16 and 17 for all.) The text of a refusal says what was
 /// wrong and what to do about it. The header has them by the same names: `NoStore` is
 /// `DS_REFUSED_NO_STORE` in C.
 ///
@@ -71,6 +72,8 @@ pub enum Refusal {
     PatternDiffers = 18,
     /// 19: the parent holds by a rule a cell that is newly held via parent.
     ParentHoldsByRule = 19,
+    /// 20: a list of no ranges, or of more than 64.
+    NumberOfRanges = 20,
 }
 
 impl Refusal {
@@ -101,6 +104,7 @@ impl Refusal {
         Refusal::NoFreeBody,
         Refusal::PatternDiffers,
         Refusal::ParentHoldsByRule,
+        Refusal::NumberOfRanges,
     ];
 
     /// The refusal's number, which is what the C functions return: the number of the question that
@@ -219,6 +223,10 @@ impl fmt::Display for Refusal {
             Refusal::ParentHoldsByRule => {
                 "The parent holds a cell by a rule, and via parent never rests on a rule: hold \
                  the cell by the same rule or by copy."
+            }
+            Refusal::NumberOfRanges => {
+                "The list has no range or more than 64: name at least one, and hold more than 64 by \
+                 several calls."
             }
         })
     }

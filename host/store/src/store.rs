@@ -1,10 +1,10 @@
 //! The calls.
 
 use std::fmt;
-use std::ops::Range;
+use std::ops;
 
 use crate::call::{Add, Answer, Slices};
-use crate::{CELL, Domain, Handle, Handles, Kind, Label, Outcome, Refusal, Rule, ffi};
+use crate::{CELL, Domain, Handle, Handles, Kind, Label, Outcome, Range, Refusal, Rule, ffi};
 
 /// The budget of a call that must not be stopped: no call needs so many steps. It goes over the C
 /// boundary as any other number, so the compiled library makes the same stores in the same order as
@@ -315,7 +315,7 @@ impl<'a> Store<'a> {
     /// A cell that the domain does not hold yet is held with memory's bytes: as a copy, via the
     /// parent, which holds the same bytes, or by the rule that they follow. A cell that it holds
     /// already keeps its kind and value; it becomes read-write if `label` is, and never goes back.
-    /// All cells are held, or none.
+    /// All cells are held, or none. [`add_ranges`](Store::add_ranges) does so for several ranges.
     ///
     /// Gives the steps that it took.
     ///
@@ -374,7 +374,7 @@ impl<'a> Store<'a> {
     pub fn add(
         &mut self,
         domain: impl Into<Domain>,
-        cells: Range<u32>,
+        cells: ops::Range<u32>,
         kind: Kind,
         label: Label,
     ) -> Result<u64, Refusal> {
@@ -386,7 +386,7 @@ impl<'a> Store<'a> {
     pub fn add_with_budget(
         &mut self,
         domain: impl Into<Domain>,
-        cells: Range<u32>,
+        cells: ops::Range<u32>,
         kind: Kind,
         label: Label,
         budget: u64,
@@ -402,6 +402,127 @@ impl<'a> Store<'a> {
             label: label.number(),
         };
         outcome(self.lent.add(add, budget))
+    }
+
+    /// Holds several ranges of cells at once in the innermost domain, which `domain` has to name: all
+    /// of them or none, also where the call is interrupted. A list has from 1 to 64 ranges.
+    ///
+    /// The ranges act in the order of the list, each as [`add`](Store::add) says. So a later one finds
+    /// the cells that an earlier one has just taken: they are held already, with the kind and the value
+    /// of the first, and become read-write if a later one is. Ranges may touch, overlap and stand in
+    /// any order.
+    ///
+    /// Gives the steps that it took: 64 for each new copy, 6 for each entry taken or raised, and 2,
+    /// which single adds would take each.
+    ///
+    /// # Errors
+    ///
+    /// [`NoSuchDomain`](Refusal::NoSuchDomain), [`NotInnermost`](Refusal::NotInnermost),
+    /// [`NumberOfRanges`](Refusal::NumberOfRanges); then, range by range, those of [`add`](Store::add)
+    /// but for room; and last, for all ranges together, [`NoFreeEntry`](Refusal::NoFreeEntry) and
+    /// [`NoFreeBody`](Refusal::NoFreeBody); and those of every call. Where one range is refused, none
+    /// is held.
+    ///
+    /// The nine ranges of a tile:
+    ///
+    /// ```
+    /// use domain_store::{Buffers, Kind, Label, Range, Refusal, Rule};
+    ///
+    /// const TILE: [Range; 9] = [
+    ///     Range::via_parent(0..2),                           // the cycle's phasing, only read here
+    ///     Range::via_parent(2..4).read_write(),              // what it shares with the cycle
+    ///     Range::copy(4..6).read_write(),                    // four channels: scale and phasing
+    ///     Range::copy(8..10).read_write(),
+    ///     Range::copy(12..14).read_write(),
+    ///     Range::copy(16..18).read_write(),
+    ///     Range::by_rule(Rule::Scale, 20..24).read_write(),  // scales that are still one
+    ///     Range::by_rule(Rule::Zeros, 24..28).read_write(),  // sums that are still zero
+    ///     Range::copy(30..31),                               // the tile's focus
+    /// ];
+    ///
+    /// let mut buffers = Buffers::allocate(32, 32, 16)?;
+    /// let mut store = buffers.store();
+    /// store.make()?;
+    /// for cell in 20..24 {
+    ///     *store.cell_mut(cell) = Rule::Scale.bytes();
+    /// }
+    /// let cycle = store.create()?;
+    /// store.add(cycle, 0..4, Kind::Copy, Label::ReadWrite)?;
+    ///
+    /// let tile = store.create()?;
+    /// // Nine copies and 21 entries in one call.
+    /// assert_eq!(store.add_ranges(tile, &TILE)?, 9 * 64 + 21 * 6 + 2);
+    /// store.memory_mut().fill(99);
+    /// store.restore(tile)?;
+    /// assert_eq!(store.cell(23), &Rule::Scale.bytes());
+    /// assert!([0, 4, 17, 27, 30].iter().all(|cell| store.cell(*cell) == &[0; 64]));
+    ///
+    /// // One range that will not do, and none of the others is held.
+    /// store.commit(tile)?;
+    /// let tile = store.create()?;
+    /// store.cell_mut(2).fill(9);
+    /// assert_eq!(store.add_ranges(tile, &TILE), Err(Refusal::MemoryDiffers));
+    /// assert_eq!(store.delete(tile, 4..5), Err(Refusal::NotHeld));
+    /// # Ok::<(), Box<dyn std::error::Error>>(())
+    /// ```
+    ///
+    /// What a later range finds:
+    ///
+    /// ```
+    /// use domain_store::{Buffers, Place, Range, Refusal, Rule};
+    ///
+    /// let mut buffers = Buffers::allocate(4, 8, 8)?;
+    /// let mut store = buffers.store();
+    /// store.make()?;
+    /// let cycle = store.create()?;
+    /// // The zeros of cell 1 are held by their rule, and the copy finds it held; it becomes read-write.
+    /// let steps = store.add_ranges(
+    ///     cycle,
+    ///     &[Range::by_rule(Rule::Zeros, 1..2), Range::copy(0..3).read_write()],
+    /// )?;
+    /// assert_eq!(steps, 2 * 64 + 3 * 6 + 2);
+    /// assert_eq!(store.look_place(cycle, 1)?, Place::Rule(Rule::Zeros));
+    /// assert_eq!(store.add_ranges(cycle, &[]), Err(Refusal::NumberOfRanges));
+    /// assert_eq!(store.add_ranges(cycle, &[Range::copy(0..1); 65]), Err(Refusal::NumberOfRanges));
+    /// # Ok::<(), Box<dyn std::error::Error>>(())
+    /// ```
+    pub fn add_ranges(
+        &mut self,
+        domain: impl Into<Domain>,
+        ranges: &[Range],
+    ) -> Result<u64, Refusal> {
+        self.add_ranges_with_budget(domain, ranges, UNSTOPPED)
+            .map(whole)
+    }
+
+    /// As [`add_ranges`](Store::add_ranges), with a budget.
+    ///
+    /// ```
+    /// # use domain_store::{Buffers, Range, Refusal};
+    /// # let mut buffers = Buffers::allocate(4, 8, 8)?;
+    /// # let mut store = buffers.store();
+    /// # store.make()?;
+    /// let cycle = store.create()?;
+    /// let ranges = [Range::copy(0..1).read_write(), Range::copy(2..3).read_write()];
+    ///
+    /// // 142 steps: 128 bytes and one journal. Stopped in the middle, it holds both or neither.
+    /// assert!(store.add_ranges_with_budget(cycle, &ranges, 100)?.is_stopped());
+    /// store.open()?;
+    /// assert_eq!(store.delete(cycle, 0..1), Err(Refusal::NotHeld));
+    /// assert!(store.add_ranges_with_budget(cycle, &ranges, 140)?.is_stopped());
+    /// store.open()?;
+    /// store.delete(cycle, 0..1)?;
+    /// store.delete(cycle, 2..3)?;
+    /// # Ok::<(), Box<dyn std::error::Error>>(())
+    /// ```
+    pub fn add_ranges_with_budget(
+        &mut self,
+        domain: impl Into<Domain>,
+        ranges: &[Range],
+        budget: u64,
+    ) -> Result<Outcome, Refusal> {
+        let handle = domain.into().number();
+        outcome(self.lent.add_ranges(handle, ranges, budget))
     }
 
     /// Frees cells that a domain holds, in that domain only. A restore of it leaves them alone from
@@ -430,7 +551,11 @@ impl<'a> Store<'a> {
     /// store.delete(cycle, 1..2)?;
     /// # Ok::<(), Box<dyn std::error::Error>>(())
     /// ```
-    pub fn delete(&mut self, domain: impl Into<Domain>, cells: Range<u32>) -> Result<u64, Refusal> {
+    pub fn delete(
+        &mut self,
+        domain: impl Into<Domain>,
+        cells: ops::Range<u32>,
+    ) -> Result<u64, Refusal> {
         self.delete_with_budget(domain, cells, UNSTOPPED).map(whole)
     }
 
@@ -438,7 +563,7 @@ impl<'a> Store<'a> {
     pub fn delete_with_budget(
         &mut self,
         domain: impl Into<Domain>,
-        cells: Range<u32>,
+        cells: ops::Range<u32>,
         budget: u64,
     ) -> Result<Outcome, Refusal> {
         let (first, count) = first_and_count(cells);
@@ -727,8 +852,8 @@ fn as_cell(part: &[u8]) -> &[u8; CELL] {
     part.try_into().expect("the part has 64 bytes")
 }
 
-/// A range as the C functions take it. An empty or reversed one has no cells, which they refuse.
-fn first_and_count(cells: Range<u32>) -> (u32, u32) {
+/// Cells as the C functions take them. An empty or reversed range has none, which they refuse.
+fn first_and_count(cells: ops::Range<u32>) -> (u32, u32) {
     (cells.start, cells.end.saturating_sub(cells.start))
 }
 

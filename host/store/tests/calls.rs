@@ -2,8 +2,8 @@
 //! safe interface.
 
 use domain_store::{
-    Buffers, Domain, Handle, Innermost, Kind, Label, Outcome, Place, Refusal, Rule, Store,
-    ffi::Lent,
+    Buffers, Domain, Handle, Innermost, Kind, Label, Outcome, Place, Range, Refusal, Rule, Store,
+    ffi::{self, Lent},
 };
 
 fn fresh() -> Buffers {
@@ -178,6 +178,223 @@ fn ranges_are_handed_on() {
     assert_eq!(add(0..u32::MAX), Err(Refusal::Range));
     assert_eq!(add(u32::MAX - 1..u32::MAX), Err(Refusal::Range));
     assert!(add(0..4).is_ok());
+}
+
+/// The nine ranges of a tile: 21 cells, of which 9 are copies.
+const TILE: [Range; 9] = [
+    Range::via_parent(0..2),
+    Range::via_parent(2..4).read_write(),
+    Range::copy(16..18).read_write(),
+    Range::copy(12..14).read_write(),
+    Range::copy(8..10).read_write(),
+    Range::copy(4..6).read_write(),
+    Range::by_rule(Rule::Scale, 20..24).read_write(),
+    Range::by_rule(Rule::Zeros, 24..28).read_write(),
+    Range::copy(30..31),
+];
+
+/// A cycle that holds the first four cells, and a tile inside it that holds nothing yet.
+fn before_the_tile(buffers: &mut Buffers) -> (Store<'_>, Handle) {
+    let mut store = buffers.store();
+    store.memory_mut().fill(7);
+    for (rule, cells) in [(Rule::Scale, 20..24), (Rule::Zeros, 24..28)] {
+        for cell in cells {
+            *store.cell_mut(cell) = rule.bytes();
+        }
+    }
+    let cycle = store.create().unwrap();
+    store
+        .add(cycle, 0..4, Kind::Copy, Label::ReadWrite)
+        .unwrap();
+    let tile = store.create().unwrap();
+    (store, tile)
+}
+
+#[test]
+fn nine_ranges_are_held_together() {
+    let mut buffers = sized(32, 32, 16);
+    let (mut store, tile) = before_the_tile(&mut buffers);
+    assert_eq!(store.add_ranges(tile, &TILE), Ok(9 * 64 + 21 * 6 + 2));
+    let before = store.memory().to_vec();
+    for cell in TILE.iter().flat_map(Range::cells) {
+        store.cell_mut(cell).fill(99);
+    }
+    assert!(store.memory() != before);
+    store.restore(tile).unwrap();
+    assert_eq!(store.memory(), before);
+    // Once more: nothing is new.
+    assert_eq!(store.add_ranges(Innermost, &TILE), Ok(0));
+}
+
+/// Each range, and how it is held, as single adds hold it.
+#[test]
+fn ranges_are_held_as_single_adds_hold_them() {
+    let mut buffers = sized(32, 32, 16);
+    let (mut store, tile) = before_the_tile(&mut buffers);
+    store.add_ranges(tile, &TILE).unwrap();
+    let mut others = sized(32, 32, 16);
+    let (mut other, _) = before_the_tile(&mut others);
+    for range in TILE {
+        other
+            .add(tile, range.cells(), range.kind(), range.label())
+            .unwrap();
+    }
+    for cell in 0..32 {
+        assert_eq!(store.look(tile, cell), other.look(tile, cell));
+        let rule = |place| match place {
+            Ok(Place::Rule(rule)) => Some(rule),
+            _ => None,
+        };
+        let places = [&store, &other].map(|store| store.look_place(tile, cell));
+        assert_eq!(rule(places[0]), rule(places[1]), "cell {cell}");
+    }
+    // The parent's cells that are held via parent, and read-write cells: the same in both.
+    let deleted = [&mut store, &mut other].map(|store| {
+        store.memory_mut().fill(50);
+        let cycle = store.list().unwrap()[0];
+        (store.delete(cycle, 0..1), store.advance(tile))
+    });
+    assert_eq!(deleted[0], deleted[1]);
+}
+
+/// Whichever store the list is cut at, all nine ranges are held or none.
+#[test]
+fn every_cut_of_a_list_is_all_or_none() {
+    let need = 9 * 64 + 21 * 6 + 2;
+    let mut held = [0, 0];
+    for budget in 0..=need {
+        let mut buffers = sized(32, 32, 16);
+        let (mut store, tile) = before_the_tile(&mut buffers);
+        let outcome = store.add_ranges_with_budget(tile, &TILE, budget).unwrap();
+        assert_eq!(
+            (outcome.steps(), outcome.is_done()),
+            (budget, budget == need)
+        );
+        store.open().unwrap();
+        let held_now = TILE
+            .map(|range| store.delete(tile, range.cells()).is_ok())
+            .iter()
+            .filter(|held| **held)
+            .count();
+        assert!(
+            held_now == 0 || held_now == 9,
+            "budget {budget}: {held_now}"
+        );
+        held[held_now / 9] += 1;
+    }
+    // From word 6 on, which is stored after 576 bytes and 84 words of pairs.
+    assert_eq!(held, [9 * 64 + 84 + 1, 42 + 2]);
+}
+
+#[test]
+fn a_list_of_one_is_the_plain_add() {
+    for range in TILE {
+        for budget in [0, 1, 64, 130, 135, 140, u64::MAX] {
+            let (mut one, mut other) = (sized(32, 32, 16), sized(32, 32, 16));
+            let (mut store, tile) = before_the_tile(&mut one);
+            let listed = store.add_ranges_with_budget(tile, &[range], budget);
+            let (mut plain, _) = before_the_tile(&mut other);
+            let (cells, kind, label) = (range.cells(), range.kind(), range.label());
+            let added = plain.add_with_budget(tile, cells, kind, label, budget);
+            assert_eq!(listed, added, "{range:?}");
+            assert_eq!(store.table(), plain.table());
+            assert_eq!(store.bodies(), plain.bodies());
+        }
+    }
+}
+
+#[test]
+fn a_list_has_from_1_to_64_ranges() {
+    let mut buffers = sized(128, 64, 64);
+    let mut store = buffers.store();
+    let one = store.create().unwrap();
+    let cells: Vec<Range> = (0..70).map(|cell| Range::copy(cell..cell + 1)).collect();
+    for (many, answer) in [
+        (0, Err(Refusal::NumberOfRanges)),
+        (65, Err(Refusal::NumberOfRanges)),
+        (70, Err(Refusal::NumberOfRanges)),
+        (64, Ok(64 * 70 + 2)),
+        (1, Ok(0)),
+    ] {
+        assert_eq!(store.add_ranges(one, &cells[..many]), answer, "{many}");
+    }
+    // The handle comes first, and the ranges after.
+    let dead = Handle::new(9).unwrap();
+    assert_eq!(store.add_ranges(dead, &[]), Err(Refusal::NoSuchDomain));
+    store.create().unwrap();
+    assert_eq!(store.add_ranges(one, &[]), Err(Refusal::NotInnermost));
+    let past = [Range::copy(128..129); 65];
+    let added = store.add_ranges(Innermost, &past);
+    assert_eq!(added, Err(Refusal::NumberOfRanges));
+    let added = store.add_ranges(Innermost, &past[..64]);
+    assert_eq!(added, Err(Refusal::Range));
+}
+
+#[test]
+fn a_later_range_finds_what_an_earlier_one_took() {
+    let mut buffers = fresh();
+    let mut store = buffers.store();
+    store.memory_mut().fill(7);
+    let one = store.create().unwrap();
+    // By a copy, so that neither a parent nor a rule is asked for; and read-write by the last.
+    let ranges = [
+        Range::copy(0..2),
+        Range::via_parent(1..2),
+        Range::by_rule(Rule::Ones, 0..2).read_write(),
+        Range::copy(0..1),
+    ];
+    assert_eq!(store.add_ranges(one, &ranges), Ok(2 * 70 + 2));
+    store.memory_mut().fill(9);
+    assert_eq!(store.advance(one), Ok(2 * 70 + 2));
+    // The other way round they are asked for.
+    let turned = [Range::via_parent(2..3), Range::copy(2..3)];
+    let added = store.add_ranges(one, &turned);
+    assert_eq!(added, Err(Refusal::ParentLacksCell));
+    let turned = [Range::by_rule(Rule::Ones, 2..3), Range::copy(2..3)];
+    let added = store.add_ranges(one, &turned);
+    assert_eq!(added, Err(Refusal::PatternDiffers));
+}
+
+#[test]
+fn where_one_range_is_refused_none_is_held() {
+    let mut buffers = fresh();
+    let mut store = buffers.store();
+    store.memory_mut().fill(7);
+    let one = store.create().unwrap();
+    for (last, refusal) in [
+        (Range::copy(4..5), Refusal::Range),
+        (Range::copy(2..2), Refusal::Range),
+        (Range::via_parent(3..4), Refusal::ParentLacksCell),
+        (Range::by_rule(Rule::Ones, 3..4), Refusal::PatternDiffers),
+    ] {
+        let ranges = [Range::copy(0..1), Range::copy(1..3).read_write(), last];
+        assert_eq!(store.add_ranges(one, &ranges), Err(refusal));
+        assert_eq!(store.delete(one, 0..1), Err(Refusal::NotHeld));
+    }
+}
+
+#[test]
+fn room_is_asked_for_all_ranges_and_last() {
+    let four = [0, 1, 2, 3].map(|cell| Range::copy(cell..cell + 1));
+    for (entries, bodies, answer) in [
+        (4, 4, Ok(4 * 70 + 2)),
+        (3, 8, Err(Refusal::NoFreeEntry)),
+        (8, 3, Err(Refusal::NoFreeBody)),
+    ] {
+        let mut buffers = sized(4, entries, bodies);
+        let mut store = buffers.store();
+        let one = store.create().unwrap();
+        // A range that is refused comes first, also where there is no room for those before it.
+        let past = [&four[..], &[Range::copy(4..5)]].concat();
+        assert_eq!(store.add_ranges(one, &past), Err(Refusal::Range));
+        assert_eq!(store.add_ranges(one, &four), answer);
+        // Cells that come twice take room once.
+        let mut buffers = sized(4, 4, 4);
+        let mut store = buffers.store();
+        let one = store.create().unwrap();
+        let twice = [four, four].concat();
+        assert_eq!(store.add_ranges(one, &twice), Ok(4 * 70 + 2));
+    }
 }
 
 #[test]
@@ -568,6 +785,11 @@ fn wrong_lengths_are_refused_by_every_call() {
             store.add(one, cells.clone(), Kind::Copy, Label::ReadOnly),
             Err(Refusal::Lengths)
         );
+        let ranges = [Range::copy(cells.clone()); 65];
+        for many in [0, 2, 65] {
+            let added = store.add_ranges(one, &ranges[..many]);
+            assert_eq!(added, Err(Refusal::Lengths));
+        }
         assert_eq!(store.delete(one, cells), Err(Refusal::Lengths));
         assert_eq!(store.commit(one), Err(Refusal::Lengths));
         assert_eq!(store.advance(one), Err(Refusal::Lengths));
@@ -644,5 +866,80 @@ fn the_raw_functions_set_their_out_parameters() {
         (place, offset, rule) = (77, 77, 77);
         assert_eq!(lent.look(0, 0, &mut place, &mut offset, &mut rule), 0);
         assert_eq!((place, offset, rule), (3, 0, 0));
+    }
+}
+
+/// A list by its numbers: NULL where it has no ranges, wrong numbers in any of them, and far more than
+/// there may be.
+#[test]
+fn the_raw_list_is_taken_as_it_is() {
+    let (mut memory, mut bodies, mut table) = ([0_u8; 256], [0_u8; 256], [0_u32; 60]);
+    let lent = Lent::new(&mut memory, &mut bodies, &mut table);
+    let none = std::ptr::null();
+    let good = ffi::Range::from(Range::copy(0..1).read_write());
+    let (mut steps, mut handle) = (77, 77);
+    // SAFETY: the arrays are as long as is said, and nothing overlaps.
+    unsafe {
+        assert_eq!(lent.add_ranges(0, none, 0, u64::MAX, &mut steps), 2);
+        assert_eq!(steps, 0);
+        assert_eq!(lent.make(u64::MAX, &mut steps), 0);
+        assert_eq!(lent.add_ranges(0, none, 0, u64::MAX, &mut steps), 5);
+        assert_eq!(lent.create(u64::MAX, &mut steps, &mut handle), 0);
+        steps = 77;
+        assert_eq!(lent.add_ranges(handle, none, 0, u64::MAX, &mut steps), 20);
+        assert_eq!(steps, 0);
+        // The lowest bits of a length say nothing of it.
+        let many = vec![good; (1 << 16) + 1];
+        for len in [65, 128, 256, 257, 1 << 16, many.len()] {
+            steps = 77;
+            let number = lent.add_ranges(handle, many.as_ptr(), len, u64::MAX, &mut steps);
+            assert_eq!((number, steps), (20, 0), "{len} ranges");
+        }
+        for (wrong, answer) in [
+            (ffi::Range { kind: 3, ..good }, 7),
+            (ffi::Range { label: 2, ..good }, 7),
+            (
+                ffi::Range {
+                    kind: 2,
+                    rule: 4,
+                    ..good
+                },
+                18,
+            ),
+            (
+                ffi::Range {
+                    first: u32::MAX,
+                    count: 2,
+                    ..good
+                },
+                8,
+            ),
+            (ffi::Range { count: 0, ..good }, 8),
+        ] {
+            for list in [
+                vec![wrong, good],
+                vec![good, wrong],
+                vec![good, wrong, good],
+            ] {
+                steps = 77;
+                let (ranges, len) = (list.as_ptr(), list.len());
+                let number = lent.add_ranges(handle, ranges, len, u64::MAX, &mut steps);
+                assert_eq!((number, steps), (answer, 0), "{list:?}");
+            }
+        }
+        // A rule number that a copy ignores.
+        let list = [
+            ffi::Range {
+                rule: u32::MAX,
+                ..good
+            },
+            good,
+        ];
+        assert_eq!(
+            lent.add_ranges(handle, list.as_ptr(), 2, u64::MAX, &mut steps),
+            0
+        );
+        assert_eq!(steps, 72);
+        assert_eq!(list[1], good);
     }
 }

@@ -1,9 +1,12 @@
 //! The numbers: document 01's questions, the header's constants and this crate say the same, and the library answers by them.
 
-use domain_store::{Buffers, Handle, Innermost, Kind, Label, Refusal, Rule, Store, ffi};
+use domain_store::{
+    Buffers, Handle, Innermost, Kind, Label, MAX_RANGES, Range, Refusal, Rule, Store, ffi,
+};
 use std::collections::BTreeMap;
 
-/// Document 01, "Questions put to every call, in this order", with request A.1's: the number, the question, and what a no is called here.
+/// Document 01, "Questions put to every call, in this order", with those of requests A.1 and A.3: the number, the question, and what a no is
+/// called here.
 #[rustfmt::skip]
 const QUESTIONS: &[(u32, &str, Refusal)] = &[
     (1, "Are the three lengths allowed?", Refusal::Lengths),
@@ -25,6 +28,7 @@ const QUESTIONS: &[(u32, &str, Refusal)] = &[
     (17, "Are copies in use plus new bodies at most B?", Refusal::NoFreeBody),
     (18, "Is the rule at most 3, and memory like it in every newly held cell?", Refusal::PatternDiffers),
     (19, "Does the next domain out hold none of them by a rule?", Refusal::ParentHoldsByRule),
+    (20, "Are there at least 1 and at most 64 records?", Refusal::NumberOfRanges),
 ];
 
 /// The header's constants: name and number.
@@ -183,6 +187,12 @@ fn provoked(number: u32) -> Option<Refusal> {
             store.add(one, 0..1, zeros, rw).unwrap();
             store.create().unwrap();
             store.add(Innermost, 0..1, Kind::ViaParent, rw).err()
+        }
+        20 => {
+            let most = vec![Range::copy(0..1); MAX_RANGES + 1];
+            assert_eq!(store.add_ranges(two, &most), store.add_ranges(two, &[]));
+            assert!(store.add_ranges(two, &most[1..]).is_ok());
+            store.add_ranges(two, &most).err()
         }
         _ => None,
     }

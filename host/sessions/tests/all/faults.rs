@@ -5,6 +5,7 @@ use crate::library;
 use domain_model::{Fault, Store};
 use domain_sessions::StandIn;
 use domain_sessions::run::{Failure, Plan, run};
+use domain_sessions::session::Input;
 use std::time::Duration;
 
 /// How an error was found: after so many sessions and calls, at this difference. None if it was
@@ -62,10 +63,11 @@ fn each_error_in_a_store_is_found() {
 }
 
 /// The errors that document 01 names break demand 3, and so does an advance that leaves a changed cell
-/// at its old value: the notebook, which sees neither table nor bodies, finds them by itself.
+/// at its old value, and an add that holds a part of its ranges: the notebook, which sees neither table
+/// nor bodies, finds them by itself.
 #[test]
 fn the_named_errors_are_found_by_zero_counts_alone() {
-    let faults = [&Fault::NAMED[..], &Fault::STALE[..]].concat();
+    let faults = [&Fault::NAMED[..], &Fault::STALE, &Fault::HALF_HELD].concat();
     let missed = missed("in a store by zero counts alone", &faults, |fault| {
         found(&StandIn { fault: Some(fault) }, None, true, 6000)
     });
@@ -82,6 +84,8 @@ fn a_failing_session_is_shrunk() {
         (Fault::NewestWinsInRestore, 8),
         (Fault::CommitForgetsRaise, 7),
         (Fault::NoQuestion12, 7),
+        (Fault::LaterRecordWins, 4),
+        (Fault::SixtyFourthLeftOut, 4),
     ] {
         let plan = Plan {
             fault: Some(fault),
@@ -95,6 +99,15 @@ fn a_failing_session_is_shrunk() {
             "{} inputs are left",
             failure.shrunk.session.inputs.len()
         );
+        // Of a list only the records are left that it takes to show the error.
+        if fault == Fault::LaterRecordWins {
+            let last = failure.shrunk.session.inputs.last();
+            let Some(Input::Call(made)) = last else {
+                panic!("{last:?}");
+            };
+            let (_, records) = made.call.records().expect("an add");
+            assert_eq!(records.len(), 2, "{}", made.call);
+        }
         // The seed by itself leads to the failure again.
         let again = Plan {
             fault: Some(fault),

@@ -4,7 +4,7 @@
 use crate::found;
 use domain_model::calls::PATTERN;
 use domain_model::reply::{BY_RULE, IN_BODIES};
-use domain_model::{Add, Buffers, Call, Reply, STOPPED, Store};
+use domain_model::{Buffers, Call, Record, Reply, STOPPED, Store};
 use domain_sessions::StandIn;
 use domain_sessions::run::{Plan, run};
 use std::time::Duration;
@@ -55,7 +55,7 @@ fn is_still(call: &Call, reply: &Reply) -> bool {
 
 #[test]
 fn each_small_thing_is_seen() {
-    let list: [(&str, Meddle); 24] = [
+    let list: [(&str, Meddle); 29] = [
         ("one byte past memory", |b, c, _| {
             if matches!(c, Call::Restore { .. }) {
                 past(&mut b.memory, |v| v ^ 1)
@@ -175,8 +175,47 @@ fn each_small_thing_is_seen() {
             },
         ),
         ("a body byte in an add by a rule", |b, c, r| {
-            if matches!(c, Call::Add(Add { kind: PATTERN, .. })) && r.code == 0 {
+            let by_rule = |record: &Record| record.kind == PATTERN;
+            if matches!(c, Call::Add { record, .. } if by_rule(record)) && r.code == 0 {
                 flip(&mut b.bodies, 0, |v| v ^ 1);
+            }
+        }),
+        ("a body byte in a list without copies", |b, c, r| {
+            let copies = |records: &[Record]| records.iter().any(|record| record.kind == 0);
+            let last = b.bodies.len().saturating_sub(1);
+            if let Call::AddRanges { records, .. } = c
+                && r.code == 0
+                && !copies(records)
+            {
+                flip(&mut b.bodies, last, |v| v ^ 1);
+            }
+        }),
+        ("a spare pair in a list of too many records", |b, _, r| {
+            let last = b.table.len().saturating_sub(1);
+            if r.code == 20 {
+                flip(&mut b.table, last, |v| v ^ 1);
+            }
+        }),
+        ("a body byte in a list that is refused late", |b, c, r| {
+            if let Call::AddRanges { records, .. } = c
+                && records.len() > 1
+                && r.code == 18
+            {
+                flip(&mut b.bodies, 0, |v| v ^ 1);
+            }
+        }),
+        ("steps told by a refused list", |_, c, r| {
+            if matches!(c, Call::AddRanges { .. }) && r.code == 16 {
+                r.steps = 8
+            }
+        }),
+        ("a list of several that stores one byte more", |b, c, r| {
+            if let Call::AddRanges { records, .. } = c
+                && records.len() > 1
+                && r.code == STOPPED
+            {
+                let last = b.bodies.len().saturating_sub(1);
+                flip(&mut b.bodies, last, |v| v ^ 1);
             }
         }),
         ("a store beside an out parameter", |_, c, r| {

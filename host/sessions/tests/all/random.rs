@@ -45,6 +45,19 @@ fn the_store_and_the_model_agree() {
     assert!(met.like_parent >= 30 && met.unlike_parent >= 200);
     assert!(met.exact >= 10 && met.one_short >= 30 && met.nothing_and_full >= 30);
     assert!(met.lacks_unchanged >= 200);
+    let met = tally.lists;
+    assert!(met.several >= 400 && met.nine >= 30 && met.sixty_four >= 10 && met.kinds >= 10);
+    assert!(met.falling >= 100 && met.touching >= 200 && met.overlapping >= 200);
+    assert!(met.other_kind >= 200 && met.raised_new >= 200 && met.kept_label >= 100);
+    assert!(met.raised_twice >= 50 && met.cut >= 100);
+    // 11, 12, 18 and 19 for cells that an earlier record took; 7, 8, 11, 12, 18 and 19 of a later record.
+    assert!(met.spared.iter().all(|times| *times >= 10));
+    assert!(met.later.iter().all(|times| *times >= 10));
+    assert!(met.before_entries >= 50 && met.before_bodies >= 20);
+    assert!(met.exact_entries >= 20 && met.exact_bodies >= 20);
+    assert!(met.short_entries >= 20 && met.short_bodies >= 20);
+    assert!(met.empty >= 20 && met.too_many >= 50 && met.too_many_wrong >= 10);
+    assert!(met.dead_handle >= 20 && met.outer_handle >= 10);
     assert!(tally.cuts >= 10_000 && tally.stopped_openings >= 2_000 && tally.counts >= 2_000);
 }
 

@@ -5,7 +5,7 @@
 
 use crate::{agreed, library};
 use domain_model::rules::{SCALE, ZEROS};
-use domain_model::{Buffers, Call, FULL, Holding, Kept, Model, Notebook, Sizes, Store};
+use domain_model::{Buffers, Call, FULL, Holding, Kept, Model, Notebook, Record, Sizes, Store};
 use domain_sessions::check::{Checker, Line, Mismatch};
 use domain_sessions::run::short;
 use std::collections::{BTreeSet, VecDeque};
@@ -36,6 +36,26 @@ fn key(line: &Line) -> Key {
         domains,
         line.buffers.memory.chunks(64).map(|c| c[0]).collect(),
     )
+}
+
+/// Every list of two records by every kind and label, and lists that are refused for their number.
+fn lists(ranges: &[(u32, u32)]) -> Vec<Call> {
+    let mut records = Vec::new();
+    for (first, count) in ranges {
+        for label in [0, 1] {
+            records.push(Record::copy(*first, *count, label));
+            records.push(Record::via_parent(*first, *count, label));
+            records.push(Record::pattern(*first, *count, ZEROS, label));
+        }
+    }
+    let pairs = |one: &Record| {
+        let one = *one;
+        records.iter().map(move |other| Call::ranges([one, *other]))
+    };
+    let mut calls: Vec<Call> = records.iter().flat_map(pairs).collect();
+    calls.push(Call::ranges([]));
+    calls.push(Call::ranges(vec![records[0]; 65]));
+    calls
 }
 
 fn walk(
@@ -72,6 +92,12 @@ fn walk(
                 );
             }
         }
+        // With more than one cell there are hundreds of lists: a seventh of them in each state, others in
+        // the next.
+        let apart = if sizes.m > 1 { 7 } else { 1 };
+        let lists = lists(&ranges).into_iter().enumerate();
+        let chosen = lists.filter(|(at, _)| (at + seen.len()).is_multiple_of(apart));
+        calls.extend(chosen.map(|(_, list)| list));
         for handle in live.iter().map(|d| d.handle).chain([0, 1000]) {
             calls.push(Call::Restore { handle });
             for (first, count) in &ranges {
