@@ -26,7 +26,7 @@ use Rattle.model.specs.Holdings.{rangeOk}
 use Rattle.store.specs.Checks.{storeCheck, lent}
 use Rattle.store.proofs.Checks.{ask-go, ask-stop, store-lengths}
 use Rattle.store.proofs.Raw.{raw-rule}
-use Rattle.add.specs.Walking.{lacks, parentCheck, ruleCheck, valueCheck, partCheck, roomCheck, backed, alike, unruled, valueNumber, cellNumber, rangeNumber, follows, Source}
+use Rattle.add.specs.Walking.{parentCheck, ruleCheck, valueCheck, partCheck, roomCheck, backed, alike, unruled, valueNumber, cellNumber, rangeNumber, follows, Source}
 
 -- ---- Bools
 

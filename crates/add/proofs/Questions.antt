@@ -1,25 +1,25 @@
 -- Add's questions on ranges, as the code puts them on words, are the model's on the state; and what is counted on the way. Assumes nothing.
-use Prim.Native.Nat.{ℕ, zero, suc, _+_, _-_, _≤_, _<_}
+use Prim.Native.Nat.{ℕ, zero, suc, _+_, _-_, _≤_}
 use mathlib.Core.Bool.{Bool, true, false, cond, not, _&&_, _||_}
 use mathlib.Core.List.{List, [], _∷_, _++_}
-use mathlib.Core.Path.{_≡_, refl, sym, ap, subst, _∙_}
+use mathlib.Core.Path.{_≡_, refl, sym, ap, _∙_}
 use native.Mathlib.Omega.{arith}
-use borrow.Author.Tests.{eq-eqb, ne-eqb, leb-true}
+use borrow.Author.Tests.{leb-true}
 use lib.Dec.{leb, eqb}
 use lib.ListN.{length}
-use Rattle.words.specs.Layout.{cellsOf, slotsOf, bodiesOf}
+use Rattle.words.specs.Layout.{cellsOf}
 use Rattle.words.specs.Scan.{all, count}
 use Rattle.words.specs.Cells.{cellBytes, sameCell}
 use Rattle.words.proofs.Scan.{by-bool, and-split, and-join, true≢, all-at, all-ext, count-ext, count-or, count-none}
-use Rattle.patterns.specs.Pattern.{maxRule, pattern}
+use Rattle.patterns.specs.Pattern.{maxRule}
 use Rattle.ranges.specs.declared.Range.{Range}
-use Rattle.ranges.specs.Ranges.{inRange, covers, named, kindFor}
+use Rattle.ranges.specs.Ranges.{covers, named, kindFor}
 use Rattle.ranges.proofs.Ranges.{named-append, kind-append}
 use Rattle.table.specs.Entry.{live, holdsIn, parentHas}
-use Rattle.table.specs.Marks.{markOf, has, Marked}
+use Rattle.table.specs.Marks.{Marked}
 use Rattle.table.proofs.Marks.{marked-holds}
 use Rattle.table.proofs.Rule.{Rule}
-use Rattle.model.specs.State.{Kind, State}
+use Rattle.model.specs.State.{State}
 use Rattle.model.specs.Answer.{ask, orElse}
 use Rattle.model.specs.Holdings.{innerHolding, outerHolding, isHeld, isVia, isSome, ruleOf, heldByRule, valueOr, rangeOk, kindNumbered}
 use Rattle.model.specs.Holdings.{parentHolds, parentSame, ruleFits, parentPlain, addRange, addRanges, rangeChecks, listChecks}
@@ -28,7 +28,7 @@ use Rattle.store.specs.State.{stateIn}
 use Rattle.store.proofs.Domains.{domains-count}
 use Rattle.store.proofs.Checks.{orElse-go, orElse-stop}
 use Rattle.add.specs.Add.{isNew, isNewCopy}
-use Rattle.add.specs.Walking.{lacks, newTo, freshTo, parentCheck, ruleCheck, valueCheck, partCheck, copiesOf, Counted}
+use Rattle.add.specs.Walking.{newTo, freshTo, parentCheck, ruleCheck, valueCheck, partCheck, copiesOf, Counted}
 use Rattle.add.proofs.Asking.{or-right, covered, agreed, plain, fitting}
 use Rattle.add.proofs.Numbers.{inner-held, outer-held, outer-value, outer-ruled}
 use Rattle.add.proofs.Counting.{count-range}

@@ -1,10 +1,10 @@
 -- What is staged once every cell is taken and every label raised is the call's change of the entries. Assumes nothing.
 use Prim.Native.Nat.{ℕ, _+_, _-_, _≤_, _<_}
-use mathlib.Core.Bool.{Bool, true, false, cond, not}
+use mathlib.Core.Bool.{Bool, true, false}
 use mathlib.Core.List.{List}
 use mathlib.Core.Path.{_≡_, refl, sym, ap, _∙_}
 use native.Mathlib.Omega.{arith}
-use borrow.Author.Tests.{eq-eqb, ne-eqb, eqb-true, eqb-false, lt-ltb, le-ltb, ltb-true, not-true}
+use borrow.Author.Tests.{eq-eqb, eqb-true, eqb-false, lt-ltb, le-ltb, ltb-true, not-true}
 use lib.Dec.{ltb, eqb}
 use lib.ListN.{length, take}
 use Rattle.words.specs.Layout.{cellsOf, bodiesOf, slotsOf, pairsAt}
@@ -12,22 +12,22 @@ use Rattle.words.specs.Scan.{count, nth}
 use Rattle.words.specs.Stores.{stores, gather}
 use Rattle.words.specs.Journal.{journal}
 use Rattle.words.proofs.Scan.{by-bool, by-le, is-false, true≢}
-use Rattle.words.proofs.Nth.{count-mono, nth-below, nth-rank}
+use Rattle.words.proofs.Nth.{count-mono, nth-below}
 use Rattle.words.proofs.Gather.{gather-ext}
 use Rattle.ranges.specs.declared.Range.{Range}
 use Rattle.ranges.specs.Ranges.{labelFor}
 use Rattle.table.specs.Entry.{live, word1, word2, cellOf}
-use Rattle.table.specs.Marks.{markOf, has, Marked, EndsAt}
+use Rattle.table.specs.Marks.{Marked, EndsAt}
 use Rattle.table.specs.Changes.{Change, keep, put, entryStores, entryChanges}
-use Rattle.search.specs.Free.{slotFree, bodyFree, lowestFree}
+use Rattle.search.specs.Free.{slotFree}
 use Rattle.search.proofs.Taking.{taken-free, lowest-free, lowest-taken, lowest-taker}
-use Rattle.changes.specs.Staged.{Restaged, Stages, but, Journaled}
+use Rattle.changes.specs.Staged.{Stages, Journaled}
 use Rattle.changes.proofs.Staging.{stages-skip, stages-ext, stages-but}
 use Rattle.model.specs.Answer.{stepsOf}
 use Rattle.store.proofs.Changes.{steps-needed}
 use Rattle.add.specs.declared.Cursors.{Cursors}
-use Rattle.add.specs.Add.{isNew, rises, raiseChange, cellFor, changeWith, slotFor, bodyFor, addWords, addBytes, bytesWith}
-use Rattle.add.specs.Walking.{lacks, bytesAt, takeChange, listChange, Takeable, Standing, Copied, Restages, Lifts, bytesOf, wordsOf}
+use Rattle.add.specs.Add.{isNew, rises, raiseChange, cellFor, changeWith, slotFor, bodyFor, addWords, addBytes}
+use Rattle.add.specs.Walking.{lacks, bytesAt, takeChange, listChange, Takeable, Standing, Copied, Restages, bytesOf, wordsOf}
 use Rattle.add.proofs.Choices.{rises-facts, rises-free, raise-no}
 use Rattle.add.proofs.Taken.{slots-enough}
 

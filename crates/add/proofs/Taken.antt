@@ -1,39 +1,38 @@
 -- Cells taken in their order, each with the next free slot and, as a copy, the next free body: cell by cell, over the whole list. Assumes nothing.
-use Prim.Native.Nat.{ℕ, zero, suc, _+_, _-_, _*_, _≤_, _<_, min}
-use mathlib.Core.Bool.{Bool, true, false, cond, not, _&&_}
+use Prim.Native.Nat.{ℕ, zero, suc, _+_, _-_, _≤_, _<_}
+use mathlib.Core.Bool.{Bool, true, false, cond, not}
 use mathlib.Core.List.{List, [], _++_}
 use mathlib.Core.Path.{_≡_, refl, sym, ap, subst, _∙_}
 use native.Mathlib.Omega.{arith}
-use borrow.Author.Tests.{eq-eqb, ne-eqb, eqb-true, eqb-false, lt-ltb, le-ltb, ltb-true}
-use lib.Dec.{ltb, eqb}
+use borrow.Author.Tests.{eq-eqb, ne-eqb, eqb-true, eqb-false, lt-ltb}
+use lib.Dec.{eqb}
 use lib.ListN.{length, take, length-append}
-use Rattle.words.specs.Layout.{cellsOf, bodiesOf, slotsOf, maxBodies, maxCells, cellSize}
+use Rattle.words.specs.Layout.{cellsOf, bodiesOf, slotsOf, cellSize}
 use Rattle.words.specs.Scan.{count, nth}
 use Rattle.words.specs.Cells.{cellPlan}
 use Rattle.words.specs.Stores.{Store, store, gather, stores}
-use Rattle.words.proofs.Scan.{by-bool, by-le, is-false, true≢, and-split, and-join, count-more, count-stop, count-not, count-le, count-ext}
-use Rattle.words.proofs.Nth.{count-below, count-mono, nth-of, nth-rank}
+use Rattle.words.proofs.Scan.{by-bool, by-le, and-join, count-more, count-stop, count-not, count-le, count-ext}
+use Rattle.words.proofs.Nth.{count-below, nth-of, nth-rank}
 use Rattle.words.proofs.Gather.{gather-ext, gather-none, gather-split}
 use Rattle.words.proofs.Plans.{length-cellPlan, length-stores, run-take-append, stores-none}
 use Rattle.ranges.specs.declared.Range.{Range}
 use Rattle.ranges.specs.declared.Segment.{Segment}
-use Rattle.ranges.specs.Ranges.{named, kindFor, ruleFor, labelFor}
+use Rattle.ranges.specs.Ranges.{named, kindFor}
 use Rattle.ranges.specs.Batch.{Asks}
 use Rattle.table.specs.Entry.{live, word1, holdsIn, entryWord, secondWord}
-use Rattle.table.specs.Marks.{markOf, has, EndsAt}
+use Rattle.table.specs.Marks.{EndsAt}
 use Rattle.table.proofs.Marks.{marked-holds}
 use Rattle.table.specs.Changes.{Change, keep, put}
 use Rattle.search.specs.Free.{slotFree, bodyFree, lowestFree, unmarked, unmarkedFrom}
-use Rattle.search.proofs.From.{firstFrom, from-le, from-ge, from-miss, next-nth, next-below, next-passed}
+use Rattle.search.proofs.From.{from-le, from-ge, from-miss, next-nth, next-below, next-passed}
 use Rattle.search.proofs.Free.{slots-all, bodies-all, unmarked-free, unmarked-nth, unmarked-below, unmarked-passed}
 use Rattle.search.proofs.Taking.{lowest-ext}
-use Rattle.changes.specs.Staged.{RoomFor, Restaged, Stages}
+use Rattle.changes.specs.Staged.{Restaged, Stages}
 use Rattle.changes.proofs.Staging.{stages-skip, stages-put}
 use Rattle.store.proofs.Raw.{raw-rule}
 use Rattle.add.specs.declared.Cursors.{Cursors}
 use Rattle.add.specs.Add.{isNew, isNewCopy, takenFirst, takenSecond, bodyFor}
-use Rattle.add.specs.Ready.{Ready}
-use Rattle.add.specs.Walking.{lacks, freeFrom, bodyBeyond, bytesAt, takeChange, listChange, Takeable, endOf, RoomToTake, Standing, Copied, tookCell, passedCell, cellBytesOf, TookEntry, RoomForCell}
+use Rattle.add.specs.Walking.{lacks, freeFrom, bodyBeyond, bytesAt, takeChange, Takeable, endOf, RoomToTake, Standing, Copied, tookCell, passedCell, cellBytesOf, TookEntry, RoomForCell}
 
 -- a second word has the body of a copy alone
 second-body : (k r v w : ℕ) → (k ≡ 0 → v ≡ w) → secondWord k r v ≡ secondWord k r w

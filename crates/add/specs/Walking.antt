@@ -6,31 +6,30 @@ use mathlib.Core.Bool.{Bool, true, false, cond, not, _&&_, _||_}
 use mathlib.Core.List.{List, []}
 use lib.Dec.{ltb, leb, eqb}
 use lib.ListN.{length, take}
-use Rattle.words.specs.Layout.{cellAt, cellsOf, bodiesOf, slotsOf, pairsAt, tableWords, maxLive, maxSlots, maxCells, maxBodies, cellSize}
+use Rattle.words.specs.Layout.{cellAt, cellsOf, bodiesOf, slotsOf, pairsAt, maxLive, maxSlots, maxCells, maxBodies, cellSize}
 use Rattle.words.specs.Scan as scan
 use Rattle.words.specs.Scan.{all, count, nth}
 use Rattle.words.specs.Cells.{cellBytes, sameCell, cellPlan}
 use Rattle.words.specs.Stores.{Store, gather, stores}
 use Rattle.ranges.specs.declared.Range.{Range}
 use Rattle.ranges.specs.declared.Segment.{Segment}
-use Rattle.ranges.specs.Ranges.{covers, named, kindFor, ruleFor, labelFor, maxRanges}
+use Rattle.ranges.specs.Ranges.{covers, named, maxRanges}
 use Rattle.ranges.specs.Batch.{rangeAt, rangesIn, recordSize}
 use Rattle.patterns.specs.Pattern.{maxRule, pattern}
 use Rattle.table.specs.Entry.{live, word1, word2, entryWord, secondWord, isPattern, innermost, parent, parentHas, holdsIn}
 use Rattle.marks.specs.Blocks.{cellsIn}
 use Rattle.table.specs.Marks.{markOf, has, Marked, CellsOnce, EndsAt, AllMarked}
-use Rattle.table.specs.Changes.{Change, keep, put, entryChanges}
+use Rattle.table.specs.Changes.{Change, keep, put}
 use Rattle.search.specs.Search.{sourceIn, valueIn, ruledIn}
 use Rattle.search.specs.Free.{slotFree, bodyFree, usedSlots, copies, unmarkedFrom}
 use Rattle.changes.specs.Staged.{RoomFor, Restaged, Stages}
-use Rattle.model.specs.Answer.{ask, orElse}
+use Rattle.model.specs.Answer.{ask}
 use Rattle.model.specs.Holdings.{askRange}
 use Rattle.store.specs.Checks.{storeCheck, lent}
 use Rattle.add.specs.Add.{isNew, isNewCopy, raiseChange, takenFirst, takenSecond, bodyFor, addBytes, addWords}
 use Rattle.add.specs.Ready.{Ready}
 use Rattle.add.specs.declared.Cursors.{Cursors}
 use Rattle.add.specs.declared.Part.{Part}
-use Rattle.add.specs.declared.Tally.{Tally}
 
 -- ---- which cells are new to a range that stands behind the ranges rs: those that the domain lacks and none of rs names
 
@@ -216,7 +215,7 @@ pub record Standing (memory bodies t : List ℕ) (rs : List Range) (w : Cursors)
   pub made : w .made ≤ cellSize * (w .at)
   pub staged : Stages (w .slot) (takeChange (cellsOf (length memory)) (slotsOf (length t)) (bodiesOf (length bodies)) t rs) words bits
 
--- from cell a to cell c so many bytes, which are stored as far as the budget goes
+-- the bytes of the cells from v .at to before w .at, which are stored as far as the budget goes
 pub record Copied (memory t : List ℕ) (rs : List Range) (budget : ℕ) (v w : Cursors) (bodies bodies′ : List ℕ) : Type 0 where
   pub on : v .at ≤ w .at
   pub made : w .made ≡ v .made + length (gather (w .at - v .at) (λ j. bytesAt (bodiesOf (length bodies)) memory t rs (v .at + j)))

@@ -38,6 +38,7 @@ use ranges::kind_at;
 use ranges::label_at;
 use ranges::label_for;
 use ranges::next_segment;
+use ranges::order_of;
 use ranges::rule_at;
 use search::Held;
 use search::count_used;
@@ -80,27 +81,25 @@ ghost use mathlib.Core.List.{[]};
 ghost use Prim.Native.Nat.{ℕ, _+_, _-_, _*_, _<_, _≤_};
 ghost use lib.ListN.{length, take};
 ghost use lib.Dec.{eqb};
-ghost use Rattle.words.specs.Layout.{cellAt, cellsOf, bodiesOf, slotsOf, pairsAt, handleAt, maxLive, maxSlots, maxCells, maxBodies, cellSize};
+ghost use Rattle.words.specs.Layout.{cellAt, cellsOf, bodiesOf, slotsOf, pairsAt, maxLive, maxSlots, maxCells, maxBodies, cellSize};
 ghost use Rattle.words.specs.Scan.{all, count};
 ghost use Rattle.words.specs.Cells.{cellPlan};
 ghost use Rattle.words.specs.Stores.{stores};
 ghost use Rattle.words.specs.Journal.{journal};
-ghost use Rattle.ranges.specs.Ranges.{labelFor, oneRange, maxRanges};
-ghost use Rattle.ranges.specs.Batch.{rangeAt, rangesIn, batchRanges, recordSize, Listed, Within, NoneEmpty, Rising, Passed};
+ghost use Rattle.ranges.specs.Ranges.{labelFor, oneRange};
+ghost use Rattle.ranges.specs.Batch.{rangeAt, rangesIn, batchRanges, Listed, Within, NoneEmpty, Orders, RisingBy, Passed};
 ghost use Rattle.table.specs.Entry.{live, word1, word2, parent};
 ghost use Rattle.table.specs.Changes.{Change};
 ghost use Rattle.marks.specs.Blocks.{cellsIn, Enough};
 ghost use Rattle.table.specs.Marks.{CellsOnce, EndsAt, Reached, RoomForMarks, Marked, AllMarked};
-ghost use Rattle.search.specs.Free.{unmarkedFrom};
-ghost use Rattle.changes.specs.Staged.{RoomFor, Restaged, Stages, Journaled};
+ghost use Rattle.changes.specs.Staged.{RoomFor, Stages};
 ghost use Rattle.model.specs.Answer.{ask, orElse, stepsOf};
 ghost use Rattle.model.specs.Holdings.{listChecks};
-ghost use Rattle.store.specs.Checks.{storeCheck, lent};
+ghost use Rattle.store.specs.Checks.{lent};
 ghost use Rattle.store.specs.Outcome.{buffers, report, Makes};
 ghost use Rattle.store.specs.Means.{Shows};
 ghost use Rattle.store.specs.State.{stateIn};
-ghost use Rattle.add.specs.Add.{isNew, isNewCopy, addCheck, addCall, addMeans, rises, raiseChange, addBytes, addWords};
-ghost use Rattle.add.specs.Ready.{Ready};
+ghost use Rattle.add.specs.Add.{isNew, isNewCopy, addCheck, addCall, addMeans, rises, raiseChange};
 ghost use Rattle.add.specs.Walking.{lacks, freshTo, PartOf, Given, Askable, Comparable, Asking, Counted, Source, copiesOf};
 ghost use Rattle.add.specs.Walking.{parentCheck, ruleCheck, valueCheck, partCheck, roomCheck, backed, follows, valueNumber, cellNumber, rangeNumber};
 ghost use Rattle.add.specs.Walking.{freeFrom, bodyBeyond, listChange, Takeable, RoomToTake, Standing, Copied, tookCell, passedCell, cellBytesOf, TookEntry, RoomForCell, Restages, Lifts, endOf, bytesOf, wordsOf};
@@ -115,7 +114,7 @@ pub struct Part {
     pub seen: usize,
 }
 
-// The number of the first no among the questions on ranges, or 0; how many cells are newly held, and how many of them by copy.
+// The number of the first no, or 0; how many cells are newly held, and how many of them by copy.
 pub struct Tally {
     pub no: u32,
     pub new: usize,
@@ -805,7 +804,7 @@ fn beyond(walk: Cursors, kind: u32, slot: usize, body: usize) -> Cursors
     }
 }
 
-// A new cell of a part of the list takes the next free slot and, as a copy, the next free body, into which its bytes go.
+// A new cell of a segment of the list takes the next free slot and, as a copy, the next free body, into which its bytes go.
 fn take_new(
     memory: &[u8],
     bodies: &mut [u8],
@@ -845,7 +844,7 @@ fn take_new(
     beyond(walk, asked.kind, slot, body)
 }
 
-// One cell of a part of the list; one that is held is passed over.
+// One cell of a segment of the list; one that is held is passed over.
 fn take_cell(
     memory: &[u8],
     bodies: &mut [u8],
@@ -896,7 +895,7 @@ fn take_cell(
     )
 }
 
-// The next part of the list, in the order of the cells.
+// The next segment of the list, in the order of the cells: cells beside each other for which the same is asked.
 fn take_part(
     memory: &[u8],
     bodies: &mut [u8],
@@ -906,6 +905,7 @@ fn take_part(
     used: &[u8],
     list: &[u32],
     n: usize,
+    order: &[u32],
     rising: bool,
     walk: Cursors,
     words: &mut [u32],
@@ -916,12 +916,21 @@ fn take_part(
     requires room { ⌜ RoomToTake (now memory) (now table) (rangesIn n (now list)) (now words) (now changed) ⌝ }
     requires stands { ⌜ Standing (now memory) (now bodies) (now table) (rangesIn n (now list)) walk (now words) (now changed) ⌝ }
     requires list { ⌜ (slots ≡ slotsOf (length (now table))) × (walk .at < cellsOf (length (now memory))) × Listed n (now list)
-        × Within (cellsOf (length (now memory))) n (now list) × NoneEmpty n (now list) × (rising ≡ true → Rising n (now list)) × Passed n (now list) rising (walk .next) (walk .at) ⌝ }
+        × Within (cellsOf (length (now memory))) n (now list) × NoneEmpty n (now list) × Orders n (now order)
+        × (rising ≡ true → RisingBy n (now list) (now order)) × Passed n (now list) (now order) rising (walk .next) (walk .at) ⌝ }
     ensures stands { λ r. ⌜ Standing (now (memory .entry)) (now (bodies .entry)) (now (table .entry)) (rangesIn n (now (list .entry))) r (now (words .exit)) (now (changed .exit)) ⌝ }
     ensures copied { λ r. ⌜ Copied (now (memory .entry)) (now (table .entry)) (rangesIn n (now (list .entry))) budget walk r (now (bodies .entry)) (now (bodies .exit)) ⌝ }
-    ensures moved { λ r. ⌜ (walk .at < r .at) × (r .at < cellsOf (length (now (memory .entry))) → Passed n (now (list .entry)) rising (r .next) (r .at)) ⌝ }
+    ensures moved { λ r. ⌜ (walk .at < r .at) × (r .at < cellsOf (length (now (memory .entry))) → Passed n (now (list .entry)) (now (order .entry)) rising (r .next) (r .at)) ⌝ }
 {
-    let part = next_segment(list, n, rising, walk.next, walk.at, cells_of(memory.len()));
+    let part = next_segment(
+        list,
+        n,
+        order,
+        rising,
+        walk.next,
+        walk.at,
+        cells_of(memory.len()),
+    );
     let mut w = Cursors {
         at: part.at,
         next: part.next,
@@ -972,7 +981,8 @@ fn take_cells(
     ensures steps { λ r. ⌜ (r ≡ length (bytesOf (now (memory .entry)) (now (bodies .entry)) (now (table .entry)) (rangesIn n (now (list .entry)))))
         × (r ≤ cellSize * cellsOf (length (now (memory .entry)))) ⌝ }
 {
-    let rising = is_rising(list, n);
+    let order = order_of(list, n);
+    let rising = is_rising(list, n, &order);
     let cells = cells_of(memory.len());
     let mut walk = Cursors {
         at: 0,
@@ -991,6 +1001,7 @@ fn take_cells(
             used,
             list,
             n,
+            &order,
             rising,
             walk,
             words,
@@ -1030,7 +1041,7 @@ fn is_still(held: &[u8], depth: u32, list: &[u32], i: usize) -> bool
     range_lacks(held, depth, first_at(list, i), count_at(list, i))
 }
 
-// Is no cell held of any read-write range? Then no label rises.
+// Is no cell held of any read-write range? Then no label rises. A no costs time alone, so nothing is promised of it.
 fn none_rises(held: &[u8], depth: u32, list: &[u32], n: usize) -> bool
     requires { ⌜ (maxCells ≤ cellsIn (now held)) × (depth ≤ maxLive) × Listed n (now list) × Within maxCells n (now list) ⌝ }
     ensures { λ r. ⌜ (r ≡ true → (c : ℕ) → labelFor (rangesIn n (now (list .entry))) c ≡ 1 → lacks (now (held .entry)) depth c ≡ true) ⌝ }
@@ -1413,7 +1424,7 @@ fn add_many(
     )
 }
 
-// The call on the numbers of a list: of as many ranges as it has, but for one with more than it may have.
+// The call on the numbers of n ranges; where n is above 64 it is refused, and the numbers are not read.
 fn add_list(
     memory: &[u8],
     bodies: &mut [u8],
@@ -1484,7 +1495,7 @@ pub fn add(
     add_list(memory, bodies, table, handle, &list, 1, budget)
 }
 
-// Adds the ranges of a lent list to the innermost domain: all of them, or none. A walk proved by hand, since the borrow checker covers no slice of
+// Adds the ranges of a lent list to the innermost domain: all of them, or none. Proved by hand, since the borrow checker covers no slice of
 // structs: it does no more than gather the list and hand it on.
 pub fn add_ranges(
     memory: &[u8],

@@ -4,6 +4,7 @@ use Rattle.begin.proofs.open.Met as open-proof
 use Rattle.begin.proofs.create.Met as create-proof
 use Rattle.begin.proofs.list.Met as list-proof
 use Rattle.add.proofs.add.Met as add-proof
+use Rattle.add.proofs.add_batch.Met as add-batch-proof
 use Rattle.add.proofs.add_ranges.Met as add-ranges-proof
 use Rattle.delete.proofs.delete.Met as delete-proof
 use Rattle.commit.proofs.commit.Met as commit-proof
@@ -34,6 +35,7 @@ proved M = record {
   of-open = open-proof.met;
   of-create = create-proof.met;
   of-add = add-proof.met;
+  of-add-batch = add-batch-proof.met;
   of-add-ranges = add-ranges-proof.met;
   of-delete = delete-proof.met;
   of-commit = commit-proof.met;

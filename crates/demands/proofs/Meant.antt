@@ -15,6 +15,7 @@ use Rattle.ranges.specs.Ranges.{oneRange}
 use Rattle.table.proofs.Checks.{lengths-facts}
 use Rattle.model.specs.State.{State}
 use Rattle.model.specs.Answer.{isDone, isStopped, isRefused, ended, View, stepsOf}
+use Rattle.model.proofs.Ranged.{one-range}
 use Rattle.model.specs.Calls.{Effect, refuse, change, makeSteps, listed, viewedWith}
 use Rattle.model.specs.History.{Request}
 use Rattle.model.specs.Session.{effectOf, memoryAfter, memoryAt, viewOf, Mixed}
@@ -24,7 +25,7 @@ use Rattle.store.specs.Outcome.{Buffers, buffers, inTable, perform, Outcome, ou
 use Rattle.store.specs.Checks.{makeCheck}
 use Rattle.store.specs.State.{stateOf, standing, slots}
 use Rattle.store.specs.Calls.{makePlan, makeCall, openCall}
-use Rattle.store.specs.Means.{listMeans, roomOf}
+use Rattle.store.specs.Means.{callMeans, listMeans, roomOf}
 use Rattle.store.proofs.Checks.{store-shape, shape-lengths}
 use Rattle.store.proofs.Outcome.{table-after}
 use Rattle.store.proofs.Making.{make-none}
@@ -128,7 +129,9 @@ demand-2 = record {
   look-tells = look-tells;
   look-within = look-within;
   list-shows = list-shows;
-  plain-shows = λ h first n kind rule label k b. add-means h (oneRange first n kind rule label) k b;
+  plain-shows = λ h first n kind rule label k b.
+      add-means h (oneRange first n kind rule label) k b
+      ∙ ap (λ (f : State → Effect). callMeans f k b) (λ i s. one-range (roomOf b) (b .memory) h first n kind rule label s i);
   make-stepped = λ b. stepped (makeCall b) b;
   open-stepped = λ b. stepped (openCall b) b;
   call-stepped = call-stepped;

@@ -20,10 +20,9 @@ use Rattle.table.specs.Rule.{tableOk}
 use Rattle.model.specs.State.{State}
 use Rattle.model.specs.Answer.{Status, isDone, isStopped, isRefused, done, refused, ended, View}
 use Rattle.model.specs.Calls.{change, makeSteps, listed}
-use Rattle.model.specs.Holdings.{named, isLive, isInnermost, rangeOk, listChecks}
+use Rattle.model.specs.Holdings.{named, isLive, isInnermost, rangeOk, listChecks, plainEffect}
 use Rattle.model.specs.History.{create, add, delete, advance, commit, list, look, Request, changes, restore, reads, History, Tracked, begun, finished, trackedAt, mismatches, counts, historyAfter}
 use Rattle.model.specs.Session.{Input, make, call, opening, write, effectOf, memoryAfter, viewOf, Mixed, AllZero, Agrees}
-use Rattle.model.proofs.Ranged.{plainEffect}
 use Rattle.store.specs.Outcome.{Buffers, Step, step, steps, Call, Outcome, outcome, leaves}
 use Rattle.store.specs.Checks.{openCheck, storeCheck, lentOf}
 use Rattle.store.specs.State.{StandsFor, slots, effectiveTable, stateOf, standing}
@@ -40,6 +39,7 @@ use Rattle.begin.proofs.open.Statement as open-contract
 use Rattle.begin.proofs.create.Statement as create-contract
 use Rattle.begin.proofs.list.Statement as list-contract
 use Rattle.add.proofs.add.Statement as add-contract
+use Rattle.add.proofs.add_batch.Statement as add-batch-contract
 use Rattle.add.proofs.add_ranges.Statement as add-ranges-contract
 use Rattle.delete.proofs.delete.Statement as delete-contract
 use Rattle.commit.proofs.commit.Statement as commit-contract
@@ -68,6 +68,7 @@ pub record Proved (M : Type 1) : Type 2 where
   pub of-open : open-contract.statement M
   pub of-create : create-contract.statement M
   pub of-add : add-contract.statement M
+  pub of-add-batch : add-batch-contract.statement M
   pub of-add-ranges : add-ranges-contract.statement M
   pub of-delete : delete-contract.statement M
   pub of-commit : commit-contract.statement M

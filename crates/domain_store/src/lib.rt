@@ -173,7 +173,7 @@ fn ds_add_batch(
     tell(answer, steps)
 }
 
-// The same for the ranges of a lent list. A walk proved by hand, since the borrow checker covers no slice of structs: it does no more than gather
+// The same for the ranges of a lent list. Proved by hand, since the borrow checker covers no slice of structs: it does no more than gather
 // the list and hand it on.
 #[no_mangle]
 pub extern "C" fn ds_add_ranges(

@@ -84,7 +84,7 @@ const BOTH: u64 = ADD + 2 * N;
 
 const FIVE: u64 = ADD + 5 * N;
 
-const NINE: u64 = ADD + 4 * C + 5 * N;
+const FOUR_MORE: u64 = ADD + 4 * C + 5 * N;
 
 pub const LISTS: [[u64; 5]; 33] = [
     [0, 0, 0, 0, 0],
@@ -111,12 +111,18 @@ pub const LISTS: [[u64; 5]; 33] = [
     [CELL_0, CELL_1, CELL_2 + BY, CELL_2, 0],
     [BOTH, CELL_1 + RW, CELL_3 + RW, 0, 0],
     [CELL_3, CELL_1 + N + RW, BOTH, 0, 0],
-    [FIVE, NINE, CELL_0 + 3 * K, 0, 0],
-    [FIVE, NINE, CELL_0 + 10 * C + VIA, 0, 0],
-    [FIVE, NINE, CELL_0 + 9 * C + VIA, 0, 0],
-    [FIVE, NINE, CELL_0 + 9 * C + BY, 0, 0],
-    [FIVE, NINE, CELL_0 + 11 * C + VIA, 0, 0],
-    [FIVE, NINE, CELL_0 + 8 * C + VIA + RW, ADD + 9 * N + BY, 0],
+    [FIVE, FOUR_MORE, CELL_0 + 3 * K, 0, 0],
+    [FIVE, FOUR_MORE, CELL_0 + 10 * C + VIA, 0, 0],
+    [FIVE, FOUR_MORE, CELL_0 + 9 * C + VIA, 0, 0],
+    [FIVE, FOUR_MORE, CELL_0 + 9 * C + BY, 0, 0],
+    [FIVE, FOUR_MORE, CELL_0 + 11 * C + VIA, 0, 0],
+    [
+        FIVE,
+        FOUR_MORE,
+        CELL_0 + 8 * C + VIA + RW,
+        ADD + 9 * N + BY,
+        0,
+    ],
     [CELL_0 + RW, BOTH + VIA + RW, CELL_2, CELL_2 + RW, 0],
     [
         CELL_0 + 14 * C + RW,

@@ -1,5 +1,5 @@
 -- Laws of a list of ranges: the state that it leaves, cell by cell, and what its questions leave of a cell that it names. Assumes nothing.
-use Prim.Native.Nat.{ℕ, zero, suc, _+_, _-_, _*_, _≤_, _<_}
+use Prim.Native.Nat.{ℕ, zero, suc, _+_, _-_, _≤_, _<_}
 use mathlib.Core.Bool.{Bool, true, false, cond, not, _&&_, _||_, true≢false, false≢true}
 use mathlib.Core.List.{List, [], _∷_, _++_}
 use mathlib.Core.Option.{Option, none, some}
@@ -9,7 +9,6 @@ use native.Mathlib.Omega.{arith}
 use borrow.Author.Tests.{leb-true, ltb-true, eqb-true, not-true}
 use lib.Dec.{leb, eqb, eqb·suc-zero}
 use lib.ListN.{length}
-use Rattle.words.specs.Layout.{cellSize}
 use Rattle.words.specs.Scan.{count}
 use Rattle.words.specs.Cells.{cellBytes, sameCell}
 use Rattle.words.proofs.Scan.{by-bool, and-split, count-ext}
@@ -19,16 +18,11 @@ use Rattle.ranges.specs.Ranges.{named as namedBy}
 use Rattle.patterns.specs.Pattern.{maxRule, pattern}
 use Rattle.model.specs.State.{Label, readOnly, readWrite, Kind, Holding, Domain, State}
 use Rattle.model.specs.Answer.{ask}
-use Rattle.model.specs.Calls.{Effect, change, orRefuse}
-use Rattle.model.specs.Holdings.{Room, deeper, depthIn, named, isLive, isInnermost, askInnermost, askRange, rangeOk, liveEntries, copiesInUse, holdingAt, innerHolding, outerHolding, isHeld, isWritable, heldWritable, heldReadOnly, isVia, hasBody, heldInBody, ruleOf, isSome, heldByRule, valueOr, onInnermost, holding, labelNumbered, kindNumbered, raised, added, givenValue, addTo, addRange, addRanges, parentHolds, parentSame, ruleFits, parentPlain, rangeChecks, listChecks, newlyHeld, newBodies, relabelled, roomChecks, addChecks, addEffect}
+use Rattle.model.specs.Holdings.{Room, deeper, depthIn, named, isLive, isInnermost, rangeOk, holdingAt, innerHolding, outerHolding, isHeld, isWritable, heldWritable, heldReadOnly, isVia, hasBody, heldInBody, ruleOf, isSome, heldByRule, valueOr, onInnermost, holding, labelNumbered, kindNumbered, raised, added, givenValue, addRange, addRanges, parentHolds, parentSame, ruleFits, parentPlain, rangeChecks, listChecks, newlyHeld, newBodies, relabelled, roomChecks, addChecks, addEffect, plainEffect}
 use Rattle.model.proofs.Asking.{ask-yes, ask-rest}
 use Rattle.model.proofs.Ranges.{range-both, range-facts, new-cell}
 
 -- ---- a list after another
-
-pub ranges-append : (memory : List ℕ) (ps qs : List Range) (s : State) → addRanges memory (ps ++ qs) s ≡ addRanges memory qs (addRanges memory ps s)
-ranges-append memory [] qs s = refl
-ranges-append memory (r ∷ ps) qs s = ranges-append memory ps qs (addRange memory r s)
 
 pub checks-append : (m : ℕ) (memory : List ℕ) (ps qs : List Range) (s : State) (rest : ℕ)
     → listChecks m memory (ps ++ qs) s rest ≡ listChecks m memory ps s (listChecks m memory qs (addRanges memory ps s) rest)
@@ -383,24 +377,7 @@ add-asked room memory h rs s q =
       fits = list-rest (room .cells) memory rs s _ on-ranges;
     }
 
--- ---- the plain add: questions 5, 6, 7, 8, 11, 12, 18 and 19 on its range, then 16 and 17 on room
-
-abbrev pub plainEffect : Room → List ℕ → (h first n k u l : ℕ) → State → Effect
-plainEffect room memory h first n k u l s =
-    let m = room .cells in
-    let kind = kindNumbered k u in
-    let t = addTo memory first n kind (labelNumbered l) s in
-    orRefuse
-    (askInnermost h s
-    (ask (leb k 2 && leb l 1) 7
-    (askRange m first n
-    (ask (not (isVia kind) || parentHolds first n s) 11
-    (ask (not (isVia kind) || parentSame memory first n s) 12
-    (ask (not (isSome (ruleOf kind)) || ruleFits memory u first n s) 18
-    (ask (not (isVia kind) || parentPlain first n s) 19
-    (ask (leb (liveEntries m s + newlyHeld m s t) (room .slots)) 16
-    (ask (leb (copiesInUse m s + newBodies m s t) (room .bodies)) 17 0)))))))))
-    (change (cellSize * newBodies m s t) (2 * (newlyHeld m s t + relabelled m s t)) 0 t)
+-- ---- the plain add
 
 -- it is the list of one record
 pub one-range : (room : Room) (memory : List ℕ) (h first n k u l : ℕ) (s : State)

@@ -295,6 +295,24 @@ addEffect room memory h rs s =
     let t = addRanges memory rs s in
     orRefuse (addChecks room memory h rs s) (change (cellSize * newBodies m s t) (2 * (newlyHeld m s t + relabelled m s t)) 0 t)
 
+-- the plain add's effect is that of the list of its one range; here it is written out, as document 01 and A.1 put its questions
+abbrev pub plainEffect : Room → List ℕ → (h first n k u l : ℕ) → State → Effect
+plainEffect room memory h first n k u l s =
+    let m = room .cells in
+    let kind = kindNumbered k u in
+    let t = addTo memory first n kind (labelNumbered l) s in
+    orRefuse
+    (askInnermost h s
+    (ask (leb k 2 && leb l 1) 7
+    (askRange m first n
+    (ask (not (isVia kind) || parentHolds first n s) 11
+    (ask (not (isVia kind) || parentSame memory first n s) 12
+    (ask (not (isSome (ruleOf kind)) || ruleFits memory u first n s) 18
+    (ask (not (isVia kind) || parentPlain first n s) 19
+    (ask (leb (liveEntries m s + newlyHeld m s t) (room .slots)) 16
+    (ask (leb (copiesInUse m s + newBodies m s t) (room .bodies)) 17 0)))))))))
+    (change (cellSize * newBodies m s t) (2 * (newlyHeld m s t + relabelled m s t)) 0 t)
+
 -- ---- delete: "frees the named cells of the named domain only"
 
 abbrev pub deleteFrom : (d first n : ℕ) → State → State

@@ -1,7 +1,7 @@
 -- Laws of a batch. For the code: the five stores of one record (`five-stores`), one record more and no record left (`gathered-next`,
--- `gathered-end`). For the calls over it: a batch of 64 records or fewer tells of those records (`gathered-all`), one record gives one (`one-range`),
--- and of more than 64 it tells that they are more (`gathered-more`). Assumes nothing.
-use mathlib.Core.Path.{_≡_, refl, sym, ap, _∙_, subst}
+-- `gathered-end`). For the calls over it: a batch of 64 records or fewer tells of those records (`gathered-all`),
+-- and of more than 64 that they are more (`gathered-more`). Assumes nothing.
+use mathlib.Core.Path.{_≡_, refl, sym, ap, _∙_}
 use mathlib.Core.Logic.{_⊎_, inl, inr, ⊎-elim}
 use mathlib.Core.Bool.{Bool, true, false}
 use Prim.Native.Nat.{ℕ, zero, suc, _+_, _*_, _<_, _≤_}
@@ -16,7 +16,7 @@ use lib.Seq.{drop-cons, sets, length-sets, getD-set-same, getD-set-other}
 use Rattle.words.specs.Stores.{tab}
 use Rattle.ranges.specs.declared.Range.{Range}
 use Rattle.ranges.specs.declared.Batch.{Batch}
-use Rattle.ranges.specs.Ranges.{maxRanges, oneRange}
+use Rattle.ranges.specs.Ranges.{maxRanges}
 use Rattle.ranges.specs.Batch.{noBatch, kept, keptRange, gathered, rangeAt, rangesIn, batchRanges}
 use Rattle.words.proofs.Plans.{length-tab, tab-last, tab-below}
 
@@ -132,9 +132,6 @@ no-ranges = refl
 
 pub gathered-all : (rs : List Range) → length rs ≤ maxRanges → batchRanges (gathered noBatch rs) ≡ rs
 gathered-all rs h = let z = no-count in gathered-ranges rs noBatch no-fits (omega arith) ∙ ap (λ (l : List Range). l ++ rs) no-ranges
-
-pub one-range : (f n k r l : ℕ) → batchRanges (kept noBatch f n k r l) ≡ range f n k r l ∷ []
-one-range f n k r l = let z = no-count in kept-ranges noBatch no-fits (omega arith) (range f n k r l) ∙ ap (λ (x : List Range). x ++ range f n k r l ∷ []) no-ranges
 
 -- ---- more than 64
 

@@ -1,18 +1,20 @@
 -- Laws of the parts that a list falls into: what a cell found, a turn found and a record passed tell of the cells between them. Assumes nothing.
-use Prim.Native.Nat.{ℕ, _+_, _≤_, _<_}
+use Prim.Native.Nat.{ℕ, _+_, _%_, _≤_, _<_}
 use mathlib.Core.Bool.{Bool, true, false, cond, _&&_, _||_, false≢true}
 use mathlib.Core.List.{List, [], _∷_}
-use mathlib.Core.Path.{_≡_, refl, sym, ap, _∙_}
+use mathlib.Core.Path.{_≡_, refl, sym, ap, subst, _∙_}
 use native.Mathlib.Omega.{arith}
 use borrow.Author.Tests.{eqb-true, eqb-false, lt-ltb, le-ltb, ltb-true}
 use lib.Dec.{eqb, ltb}
+use lib.ListN.{length, getD, set, length-set}
+use lib.Seq.{getD-set-same, getD-set-other}
 use mir.Val.{boolByte}
 use Rattle.words.proofs.Plans.{Each, each-tab}
 use Rattle.words.proofs.Scan.{by-bool, by-le, and-join, and-split, is-false, true≢}
 use Rattle.ranges.specs.declared.Range.{Range}
 use Rattle.ranges.specs.declared.Segment.{Segment}
 use Rattle.ranges.specs.Ranges.{covers, named, kindFor, ruleFor, labelFor}
-use Rattle.ranges.specs.Batch.{rangeAt, rangesIn, Within, NoneEmpty, Rising, Lowest, NextNamed, FirstNaming, AllOrNone, Asks, Passed, Next}
+use Rattle.ranges.specs.Batch.{rangeAt, rangesIn, Within, NoneEmpty, recordBy, PlaceIn, Orders, RisingBy, Lowest, NextNamed, FirstNaming, AllOrNone, Asks, Passed, Next}
 use Rattle.ranges.proofs.Ranges.{or-none, covers-bounds, covers-make, covers-not, named-more, named-make, named-none, raises, kind-at, rule-at, label-make, label-none}
 
 -- ---- one record
@@ -34,6 +36,55 @@ apart p q e c h =
     let b = covers-bounds q c h in
     covers-not p c (λ l u. true≢ (and-join _ _ (lt-ltb (p .first) (q .first + q .count) (omega arith)) (lt-ltb (q .first) (p .first + p .count) (omega arith))) e)
 
+-- ---- orders
+
+-- what holds of every record that a key names holds of all of them
+pub by-order : (n : ℕ) (order : List ℕ) → Orders n order → (Q : ℕ → Type 0) → ((j : ℕ) → j < n → Q (recordBy order j)) → (i : ℕ) → i < n → Q i
+by-order n order names Q h i l =
+    let p = names .all i l in
+    subst Q (p .here) (h (p .key) (p .low))
+
+-- keys in the order of the list
+pub orders-keys : (n : ℕ) (keys : List ℕ) → n ≤ length keys → ((k : ℕ) → k < n → recordBy keys k ≡ k) → Orders n keys
+orders-keys n keys room h = record {
+  room = room;
+  low = λ k l. omega (arith, h k l);
+  all = λ i l. record { key = i; low = l; here = h i l };
+}
+
+-- two keys exchanged
+module _ (n : ℕ) (s : List ℕ) (names : Orders n s) (i j x y : ℕ) (p : i < n) (q : j < n) (ne : i ≡ j → ⊥) (is-x : getD s i 0 ≡ x) (is-y : getD s j 0 ≡ y) where
+  abbrev t : List ℕ
+  t = set (set s j x) i y
+
+  at-i : getD t i 0 ≡ getD s j 0
+  at-i = getD-set-same (set s j x) i y 0 (omega (arith, names .room, length-set s j x)) ∙ sym is-y
+
+  at-j : getD t j 0 ≡ getD s i 0
+  at-j = getD-set-other (set s j x) i j y 0 (λ e. ne (sym e)) ∙ getD-set-same s j x 0 (omega (arith, names .room)) ∙ sym is-x
+
+  at-other : (k : ℕ) → (k ≡ i → ⊥) → (k ≡ j → ⊥) → getD t k 0 ≡ getD s k 0
+  at-other k a b = getD-set-other (set s j x) i k y 0 a ∙ getD-set-other s j k x 0 b
+
+  by-key : (k : ℕ) (Q : Type 0) → (k ≡ i → Q) → (k ≡ j → Q) → ((k ≡ i → ⊥) → (k ≡ j → ⊥) → Q) → Q
+  by-key k Q a b o = by-bool (eqb k i) (λ e. a (eqb-true k i e)) (λ e. by-bool (eqb k j) (λ f. b (eqb-true k j f)) (λ f. o (eqb-false k i e) (eqb-false k j f)))
+
+  pub orders-exchanged : Orders n t
+  orders-exchanged = record {
+    room = omega (arith, names .room, length-set s j x, length-set (set s j x) i y);
+    low = λ k l.
+        by-key k (recordBy t k < n)
+        (λ e. rw e (rw at-i (names .low j q)))
+        (λ e. rw e (rw at-j (names .low i p)))
+        (λ a b. rw (at-other k a b) (names .low k l));
+    all = λ r l.
+        let f = names .all r l in
+        by-key (f .key) (PlaceIn n t r)
+        (λ e. record { key = j; low = q; here = ap (λ (v : ℕ). v % 64) at-j ∙ ap (recordBy s) (sym e) ∙ f .here })
+        (λ e. record { key = i; low = p; here = ap (λ (v : ℕ). v % 64) at-i ∙ ap (recordBy s) (sym e) ∙ f .here })
+        (λ a b. record { key = f .key; low = f .low; here = ap (λ (v : ℕ). v % 64) (at-other (f .key) a b) ∙ f .here });
+  }
+
 module _ (ws : List ℕ) where
   -- ---- searches over the records
 
@@ -44,8 +95,9 @@ module _ (ws : List ℕ) where
   earlier-less i j k q none h c e =
       sym (ap (λ (m : ℕ). named (rangesIn m ws) c) q ∙ named-more ws c k ∙ ap (λ (x : Bool). named (rangesIn k ws) c || x) (none c e) ∙ or-none (named (rangesIn k ws) c)) ∙ h c e
 
-  pub rising-more : (i : ℕ) → Rising i ws → ((k : ℕ) → k < i → rangeAt ws k .first + rangeAt ws k .count ≤ rangeAt ws i .first) → Rising (i + 1) ws
-  rising-more i r h k j a b =
+  pub rising-more : (order : List ℕ) (i : ℕ) → RisingBy i ws order
+      → ((k : ℕ) → k < i → rangeAt ws (recordBy order k) .first + rangeAt ws (recordBy order k) .count ≤ rangeAt ws (recordBy order i) .first) → RisingBy (i + 1) ws order
+  rising-more order i r h k j a b =
       by-bool (eqb j i)
       (λ q. let e = eqb-true j i q in rw e (h k (omega arith)))
       (λ q. r k j a (omega (arith, eqb-false j i q)))
@@ -97,9 +149,9 @@ module _ (ws : List ℕ) where
 
   -- ---- segments
 
-  module _ (m n : ℕ) (rising : Bool) (from : ℕ) (low : from ≤ m) where
+  module _ (order : List ℕ) (m n : ℕ) (rising : Bool) (from : ℕ) (low : from ≤ m) where
     -- no cell is left
-    pub segment-none : (s : Segment) → s .at ≡ m → s .end ≡ m → ((c : ℕ) → from ≤ c → c < m → named (rangesIn n ws) c ≡ false) → Next m n ws rising from s
+    pub segment-none : (s : Segment) → s .at ≡ m → s .end ≡ m → ((c : ℕ) → from ≤ c → c < m → named (rangesIn n ws) c ≡ false) → Next m n ws order rising from s
     segment-none s a e h = record {
       low = omega arith;
       high = omega arith;
@@ -109,54 +161,65 @@ module _ (ws : List ℕ) where
       passed = λ l. absurd (omega arith);
     }
 
-  -- of a rising list, the record that follows those passed
-  module _ (m n k from : ℕ) (l : k < n) (within : Within m n ws) (filled : NoneEmpty n ws) (up : Rising n ws) (p : Passed n ws true k from) where
+  -- of a list that rises in this order, the record that follows those passed
+  module _ (order : List ℕ) (m n k from : ℕ) (l : k < n) (within : Within m n ws) (filled : NoneEmpty n ws) (names : Orders n order) (up : RisingBy n ws order)
+      (p : Passed n ws order true k from) where
+    -- the record, which is one of the first n
+    abbrev r : ℕ
+    r = recordBy order k
+
+    is-one : r < n
+    is-one = names .low k l
+
     -- no other record names one of its cells
-    alone : (c : ℕ) → covers (rangeAt ws k) c ≡ true → (i : ℕ) → i < n → (i ≡ k → ⊥) → covers (rangeAt ws i) c ≡ false
+    alone : (c : ℕ) → covers (rangeAt ws r) c ≡ true → (i : ℕ) → i < n → (i ≡ r → ⊥) → covers (rangeAt ws i) c ≡ false
     alone c h i b ne =
-        let e = covers-bounds (rangeAt ws k) c h in
-        by-le k i
-        (λ a. covers-not (rangeAt ws i) c (λ x y. omega (arith, ne, up k i (omega (arith, ne)) b)))
-        (λ a. covers-not (rangeAt ws i) c (λ x y. omega (arith, up i k a l)))
+        let e = covers-bounds (rangeAt ws r) c h in
+        by-order n order names (λ i. (i ≡ r → ⊥) → covers (rangeAt ws i) c ≡ false)
+        (λ j u other.
+        let apart : j ≡ k → ⊥ = λ q. other (ap (recordBy order) q) in
+        by-le k j
+        (λ a. covers-not (rangeAt ws (recordBy order j)) c (λ x y. omega (arith, apart, up k j (omega (arith, apart)) u)))
+        (λ a. covers-not (rangeAt ws (recordBy order j)) c (λ x y. omega (arith, up j k a l)))) i b ne
 
-    label-alone : (c : ℕ) → covers (rangeAt ws k) c ≡ true → labelFor (rangesIn n ws) c ≡ boolByte (eqb (rangeAt ws k .label) 1)
+    label-alone : (c : ℕ) → covers (rangeAt ws r) c ≡ true → labelFor (rangesIn n ws) c ≡ boolByte (eqb (rangeAt ws r .label) 1)
     label-alone c h =
-        let x = covers (rangeAt ws k) c in
-        let y = eqb (rangeAt ws k .label) 1 in
+        let x = covers (rangeAt ws r) c in
+        let y = eqb (rangeAt ws r .label) 1 in
         by-bool y
-        (λ e. rw e (label-make ws c n k l (and-join x y h e)))
+        (λ e. rw e (label-make ws c n r is-one (and-join x y h e)))
         (λ e. rw e (label-none ws c n (λ i b.
-        by-bool (eqb i k)
-        (λ q. let z = eqb-true i k q in rw z (is-false (raises ws c k) (λ t. true≢ (and-split x y t .1) e)))
-        (λ q. ap (λ (x : Bool). x && eqb (rangeAt ws i .label) 1) (alone c h i b (eqb-false i k q))))))
+        by-bool (eqb i r)
+        (λ q. let z = eqb-true i r q in rw z (is-false (raises ws c r) (λ t. true≢ (and-split x y t .1) e)))
+        (λ q. ap (λ (x : Bool). x && eqb (rangeAt ws i .label) 1) (alone c h i b (eqb-false i r q))))))
 
-    pub rising-next : Next m n ws true from (record {
-      at = rangeAt ws k .first;
-      end = rangeAt ws k .first + rangeAt ws k .count;
-      kind = rangeAt ws k .kind;
-      rule = rangeAt ws k .rule;
-      label = boolByte (eqb (rangeAt ws k .label) 1);
+    pub rising-next : Next m n ws order true from (record {
+      at = rangeAt ws r .first;
+      end = rangeAt ws r .first + rangeAt ws r .count;
+      kind = rangeAt ws r .kind;
+      rule = rangeAt ws r .rule;
+      label = boolByte (eqb (rangeAt ws r .label) 1);
       next = k + 1;
     })
     rising-next =
-        let start : from ≤ rangeAt ws k .first = p .after refl k (omega arith) l in
-        let fits = within k l in
+        let start : from ≤ rangeAt ws r .first = p .after refl k (omega arith) l in
+        let fits = within r is-one in
         record {
           low = start;
           high = omega (arith, fits);
           none = λ c a b.
-              named-none ws c n (λ i h.
-              by-le k i
-              (λ u. covers-not (rangeAt ws i) c (λ x y. omega (arith, from-here i h u)))
-              (λ u. covers-not (rangeAt ws i) c (λ x y. omega (arith, p .before refl i u h))));
-          some = λ h. (omega (arith, filled k l), fits);
+              named-none ws c n (by-order n order names (λ i. covers (rangeAt ws i) c ≡ false) (λ j h.
+              by-le k j
+              (λ u. covers-not (rangeAt ws (recordBy order j)) c (λ x y. omega (arith, from-here j h u)))
+              (λ u. covers-not (rangeAt ws (recordBy order j)) c (λ x y. omega (arith, p .before refl j u h)))));
+          some = λ h. (omega (arith, filled r is-one), fits);
           asks = λ c a b.
-              let here = covers-make (rangeAt ws k) c a b in
-              let none = named-none ws c k (λ i h. alone c here i (omega arith) (λ q. omega arith)) in
+              let here = covers-make (rangeAt ws r) c a b in
+              let none = named-none ws c r (λ i h. alone c here i (omega (arith, is-one)) (λ q. omega arith)) in
               record {
-                named = named-make ws c n k l here;
-                kind = kind-at ws c k none here n l;
-                rule = rule-at ws c k none here n l;
+                named = named-make ws c n r is-one here;
+                kind = kind-at ws c r none here n is-one;
+                rule = rule-at ws c r none here n is-one;
                 label = label-alone c here;
               };
           passed = λ h. record {
@@ -168,15 +231,15 @@ module _ (ws : List ℕ) where
           };
         }
       where
-        from-here : (i : ℕ) → i < n → k ≤ i → rangeAt ws k .first ≤ rangeAt ws i .first
-        from-here i h u =
-            by-bool (eqb i k)
-            (λ q. let e = eqb-true i k q in rw e (omega arith))
-            (λ q. omega (arith, up k i (omega (arith, eqb-false i k q)) h))
+        from-here : (j : ℕ) → j < n → k ≤ j → rangeAt ws r .first ≤ rangeAt ws (recordBy order j) .first
+        from-here j h u =
+            by-bool (eqb j k)
+            (λ q. let e = eqb-true j k q in rw e (omega arith))
+            (λ q. omega (arith, up k j (omega (arith, eqb-false j k q)) h))
 
   -- of any list, the lowest cell that is named, up to where a record begins or ends
-  pub mixed-next : (m n from at e k : ℕ) → NextNamed m n ws from at → at < m → (at < e) × (e ≤ m) × ((i : ℕ) → i < n → AllOrNone (rangeAt ws i) at e) → FirstNaming n ws at k
-      → Next m n ws false from (record {
+  pub mixed-next : (order : List ℕ) (m n from at e k : ℕ) → NextNamed m n ws from at → at < m → (at < e) × (e ≤ m) × ((i : ℕ) → i < n → AllOrNone (rangeAt ws i) at e) → FirstNaming n ws at k
+      → Next m n ws order false from (record {
         at = at;
         end = e;
         kind = rangeAt ws k .kind;
@@ -184,7 +247,7 @@ module _ (ws : List ℕ) where
         label = labelFor (rangesIn n ws) at;
         next = 0;
       })
-  mixed-next m n from at e k found l run f =
+  mixed-next order m n from at e k found l run f =
       let below = naming-below at n k f (found .some l) in
       record {
         low = found .low;

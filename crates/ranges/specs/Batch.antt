@@ -1,5 +1,5 @@
 -- Records gathered into plain numbers, five for each; and the parts of memory that a list of them falls into.
-use Prim.Native.Nat.{ℕ, _+_, _*_, _≤_, _<_}
+use Prim.Native.Nat.{ℕ, _+_, _*_, _%_, _≤_, _<_}
 use mathlib.Core.Bool.{Bool, true, false, cond}
 use mathlib.Core.List.{List, [], _∷_}
 use mathlib.Core.Path.{_≡_}
@@ -66,9 +66,25 @@ Within m n ws = (i : ℕ) → i < n → rangeAt ws i .first + rangeAt ws i .coun
 abbrev pub NoneEmpty : ℕ → List ℕ → Type 0
 NoneEmpty n ws = (i : ℕ) → i < n → 1 ≤ rangeAt ws i .count
 
--- every record ends before the next one begins
-abbrev pub Rising : ℕ → List ℕ → Type 0
-Rising n ws = (i j : ℕ) → i < j → j < n → rangeAt ws i .first + rangeAt ws i .count ≤ rangeAt ws j .first
+-- the record that the k-th key of an order names, and its place there
+abbrev pub recordBy : List ℕ → ℕ → ℕ
+recordBy order k = getD order k 0 % maxRanges
+
+pub record PlaceIn (n : ℕ) (order : List ℕ) (i : ℕ) : Type 0 where
+  pub key : ℕ
+  pub low : key < n
+  pub here : recordBy order key ≡ i
+
+-- the first n keys name n records, and all of them
+pub record Orders (n : ℕ) (order : List ℕ) : Type 0 where
+  pub room : n ≤ length order
+  pub low : (k : ℕ) → k < n → recordBy order k < n
+  pub all : (i : ℕ) → i < n → PlaceIn n order i
+
+-- so ordered, every record ends before the next one begins
+abbrev pub RisingBy : ℕ → List ℕ → List ℕ → Type 0
+RisingBy n ws order = (i j : ℕ) → i < j → j < n
+    → rangeAt ws (recordBy order i) .first + rangeAt ws (recordBy order i) .count ≤ rangeAt ws (recordBy order j) .first
 
 -- x is the lowest cell of a record from cell `from` on, or `other` where that is lower or there is none
 pub record Lowest (r : Range) (from other x : ℕ) : Type 0 where
@@ -101,16 +117,16 @@ pub record Asks (rs : List Range) (c k u l : ℕ) : Type 0 where
   pub rule : ruleFor rs c ≡ u
   pub label : labelFor rs c ≡ l
 
--- of a rising list the first k records lie before cell c, and the others not
-pub record Passed (n : ℕ) (ws : List ℕ) (rising : Bool) (k c : ℕ) : Type 0 where
-  pub before : rising ≡ true → (i : ℕ) → i < k → i < n → rangeAt ws i .first + rangeAt ws i .count ≤ c
-  pub after : rising ≡ true → (i : ℕ) → k ≤ i → i < n → c ≤ rangeAt ws i .first
+-- of a list that rises in this order the first k records lie before cell c, and the others not
+pub record Passed (n : ℕ) (ws order : List ℕ) (rising : Bool) (k c : ℕ) : Type 0 where
+  pub before : rising ≡ true → (i : ℕ) → i < k → i < n → rangeAt ws (recordBy order i) .first + rangeAt ws (recordBy order i) .count ≤ c
+  pub after : rising ≡ true → (i : ℕ) → k ≤ i → i < n → c ≤ rangeAt ws (recordBy order i) .first
 
 -- the next cells that the list names, from cell `from` of m on, for each of which it asks the same; none where they begin at m
-pub record Next (m n : ℕ) (ws : List ℕ) (rising : Bool) (from : ℕ) (s : Segment) : Type 0 where
+pub record Next (m n : ℕ) (ws order : List ℕ) (rising : Bool) (from : ℕ) (s : Segment) : Type 0 where
   pub low : from ≤ s .at
   pub high : s .at ≤ m
   pub none : (c : ℕ) → from ≤ c → c < s .at → named (rangesIn n ws) c ≡ false
   pub some : s .at < m → (s .at < s .end) × (s .end ≤ m)
   pub asks : (c : ℕ) → s .at ≤ c → c < s .end → Asks (rangesIn n ws) c (s .kind) (s .rule) (s .label)
-  pub passed : s .at < m → Passed n ws rising (s .next) (s .end)
+  pub passed : s .at < m → Passed n ws order rising (s .next) (s .end)

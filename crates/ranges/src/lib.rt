@@ -3,18 +3,18 @@
 // The borrow checker does not cover a slice of structs, so one thin walk, proved by hand, reads it: it takes each record apart and gives its
 // numbers to `keep`, which puts them into a batch, five numbers for each record. All that follows reads these numbers. No table is known here.
 //
-// A list is stored in the order of the cells and not of the records, so it is told in parts: cells that lie beside each other and of which the
-// same is asked. Where each record ends before the next one begins, the parts are the records; else each is looked for among all of them.
+// A list is stored in the order of the cells and not of the records, so it is told in segments: cells that lie beside each other and of which
+// the same is asked. The records are put into the order of their first cells. Where, so ordered, each ends before the next one begins, the
+// segments are the records; else each is looked for among all of them.
 use std::num::wrapping_sub_usize;
 use words::least;
 use words::wide;
 ghost use mathlib.Core.Path.{_≡_};
 ghost use mathlib.Core.Bool.{true, false};
-ghost use mathlib.Core.List.{List};
-ghost use Prim.Native.Nat.{ℕ, _+_, _*_, _≤_, _<_, max};
+ghost use Prim.Native.Nat.{ℕ, _+_, _*_, _%_, _≤_, _<_, max};
 ghost use lib.ListN.{length};
-ghost use Rattle.ranges.specs.Ranges.{covers, named, labelFor};
-ghost use Rattle.ranges.specs.Batch.{rangeAt, rangesIn, recordSize, Listed, noBatch, kept, gathered, Within, NoneEmpty, Rising, Passed, Lowest, NextNamed, FirstNaming, AllOrNone, Next};
+ghost use Rattle.ranges.specs.Ranges.{covers, named, labelFor, maxRanges};
+ghost use Rattle.ranges.specs.Batch.{rangeAt, rangesIn, recordSize, Listed, noBatch, kept, gathered, Within, NoneEmpty, recordBy, Orders, RisingBy, Passed, Lowest, NextNamed, FirstNaming, AllOrNone, Next};
 
 // What an add names: `count` cells from `first` on, to be held as copies (kind 0), via parent (kind 1) or by a rule (kind 2), which other kinds
 // ignore, read-only (label 0) or read-write (label 1).
@@ -190,7 +190,7 @@ pub fn label_for(list: &[u32], n: usize, cell: usize) -> u32
 }
 
 // How many of the records before the i-th must be asked whether they name one of its cells: up to the last that shares one with it. In most
-// lists none does, and then no cell of it needs to be asked about.
+// lists none does, and then no cell of it needs to be asked about. More than needed costs time alone.
 pub fn earlier(list: &[u32], i: usize) -> usize
     requires { ⌜ Listed (i + 1) (now list) ⌝ }
     ensures { λ r. ⌜ (r ≤ i) × ((c : ℕ) → covers (rangeAt (now (list .entry)) i) c ≡ true → named (rangesIn r (now (list .entry))) c ≡ named (rangesIn i (now (list .entry))) c) ⌝ }
@@ -210,19 +210,82 @@ pub fn earlier(list: &[u32], i: usize) -> usize
 
 // ---- the list in the order of the cells
 
-// Does each record end before the next one begins?
-pub fn is_rising(list: &[u32], n: usize) -> bool
-    requires { ⌜ Listed n (now list) ⌝ }
-    ensures { λ r. ⌜ (r ≡ true → Rising n (now (list .entry))) ⌝ }
+// What a record is ordered by: its first cell, then its number, which the key so names.
+fn key_of(list: &[u32], i: usize) -> u32
+    requires { ⌜ (recordSize * i + 4 < length (now list)) × (i < maxRanges) × (rangeAt (now list) i .first ≤ 65536) ⌝ }
+    ensures { λ r. ⌜ r % maxRanges ≡ i ⌝ }
 {
-    let mut end: usize = 0;
+    (MAX_RANGES * first_at(list, i) + i) as u32
+}
+
+// The keys of the first n records, in the order of the list.
+fn keys_of(list: &[u32], n: usize) -> [u32; 64]
+    requires { ⌜ Listed n (now list) × Within 65536 n (now list) ⌝ }
+    ensures { λ r. ⌜ Orders n r × (length r ≡ maxRanges) ⌝ }
+{
+    let mut keys = [0u32; 64];
     let mut i: usize = 0;
     while i < n {
+        keys[i] = key_of(list, i);
+        i += 1;
+    }
+    keys
+}
+
+// Moves the j-th key down, by exchanges of neighbours, to behind the next one that is no greater.
+fn sink(keys: &mut [u32], j: usize)
+    requires { ⌜ j < length (now keys) ⌝ }
+    ensures { λ _. ⌜ ((n : ℕ) → j < n → Orders n (now (keys .entry)) → Orders n (now (keys .exit))) ⌝ }
+{
+    let key = keys[j];
+    let mut k = j;
+    while 0 < k {
+        let other = keys[k - 1];
+        if other <= key {
+            return;
+        }
+        keys[k] = other;
+        keys[k - 1] = key;
+        k -= 1;
+    }
+}
+
+// The keys of the records in the order of the cells. Only that they name every record is promised; whether they rise is asked below.
+pub fn order_of(list: &[u32], n: usize) -> [u32; 64]
+    requires { ⌜ Listed n (now list) × Within 65536 n (now list) ⌝ }
+    ensures { λ r. ⌜ Orders n r ⌝ }
+{
+    let mut keys = keys_of(list, n);
+    let mut j: usize = 1;
+    while j < n {
+        sink(&mut keys, j);
+        j += 1;
+    }
+    keys
+}
+
+// The record that the k-th key names.
+fn record_by(order: &[u32], k: usize) -> usize
+    requires { ⌜ k < length (now order) ⌝ }
+    ensures { λ r. ⌜ r ≡ recordBy (now (order .entry)) k ⌝ }
+{
+    wide(order[k]) % MAX_RANGES
+}
+
+// Does, in this order, each record end before the next one begins? A no costs time alone, so nothing is promised of it.
+pub fn is_rising(list: &[u32], n: usize, order: &[u32]) -> bool
+    requires { ⌜ Listed n (now list) × Orders n (now order) ⌝ }
+    ensures { λ r. ⌜ (r ≡ true → RisingBy n (now (list .entry)) (now (order .entry))) ⌝ }
+{
+    let mut end: usize = 0;
+    let mut k: usize = 0;
+    while k < n {
+        let i = record_by(order, k);
         if first_at(list, i) < end {
             return false;
         }
         end = end_at(list, i);
-        i += 1;
+        k += 1;
     }
     true
 }
@@ -302,20 +365,22 @@ fn no_segment(cells: usize) -> Segment
     }
 }
 
-// Of a rising list whose first `next` records are passed: the next record.
-fn rising_segment(list: &[u32], n: usize, next: usize, cells: usize) -> Segment
-    requires { ⌜ Listed n (now list) × Within cells n (now list) × NoneEmpty n (now list) × Rising n (now list) ⌝ }
-    ensures { λ r. ⌜ ((from : ℕ) → from ≤ cells → Passed n (now (list .entry)) true next from → Next cells n (now (list .entry)) true from r) ⌝ }
+// Of a list that rises in this order, and whose first `next` records are passed: the next record.
+fn rising_segment(list: &[u32], n: usize, order: &[u32], next: usize, cells: usize) -> Segment
+    requires { ⌜ Listed n (now list) × Within cells n (now list) × NoneEmpty n (now list) × Orders n (now order) × RisingBy n (now list) (now order) ⌝ }
+    ensures { λ r. ⌜ ((from : ℕ) → from ≤ cells → Passed n (now (list .entry)) (now (order .entry)) true next from
+        → Next cells n (now (list .entry)) (now (order .entry)) true from r) ⌝ }
 {
     if n <= next {
         return no_segment(cells);
     }
+    let i = record_by(order, next);
     Segment {
-        at: first_at(list, next),
-        end: end_at(list, next),
-        kind: kind_at(list, next),
-        rule: rule_at(list, next),
-        label: (label_at(list, next) == 1) as u32,
+        at: first_at(list, i),
+        end: end_at(list, i),
+        kind: kind_at(list, i),
+        rule: rule_at(list, i),
+        label: (label_at(list, i) == 1) as u32,
         next: next + 1,
     }
 }
@@ -323,7 +388,7 @@ fn rising_segment(list: &[u32], n: usize, next: usize, cells: usize) -> Segment
 // Of any other list: the lowest cell that is named, with those behind it up to where a record begins or ends, each looked for among all records.
 fn mixed_segment(list: &[u32], n: usize, from: usize, cells: usize) -> Segment
     requires { ⌜ Listed n (now list) × (from ≤ cells) ⌝ }
-    ensures { λ r. ⌜ Next cells n (now (list .entry)) false from r ⌝ }
+    ensures { λ r. ⌜ ((order : List ℕ) → Next cells n (now (list .entry)) order false from r) ⌝ }
 {
     let at = next_named(list, n, from, cells);
     if cells <= at {
@@ -341,21 +406,22 @@ fn mixed_segment(list: &[u32], n: usize, from: usize, cells: usize) -> Segment
 }
 
 // The next cells that the list names, from cell `from` of `cells` on, and what it asks for them; a segment that begins at `cells` where there are
-// none. Of a rising list the first `next` records are passed.
+// none. Of a list that rises in this order the first `next` records are passed.
 pub fn next_segment(
     list: &[u32],
     n: usize,
+    order: &[u32],
     rising: bool,
     next: usize,
     from: usize,
     cells: usize,
 ) -> Segment
-    requires { ⌜ Listed n (now list) × Within cells n (now list) × NoneEmpty n (now list) × (rising ≡ true → Rising n (now list)) ⌝ }
-    requires { ⌜ (from ≤ cells) × Passed n (now list) rising next from ⌝ }
-    ensures { λ r. ⌜ Next cells n (now (list .entry)) rising from r ⌝ }
+    requires { ⌜ Listed n (now list) × Within cells n (now list) × NoneEmpty n (now list) × Orders n (now order) × (rising ≡ true → RisingBy n (now list) (now order)) ⌝ }
+    requires { ⌜ (from ≤ cells) × Passed n (now list) (now order) rising next from ⌝ }
+    ensures { λ r. ⌜ Next cells n (now (list .entry)) (now (order .entry)) rising from r ⌝ }
 {
     if rising {
-        return rising_segment(list, n, next, cells);
+        return rising_segment(list, n, order, next, cells);
     }
     mixed_segment(list, n, from, cells)
 }

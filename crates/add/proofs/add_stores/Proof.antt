@@ -1,6 +1,5 @@
 -- `add::add_stores` meets its contract. Assumes nothing.
 use native.Mathlib.Omega.{arith}
-use Rattle.store.proofs.Checks.{store-lengths}
 use borrow.Author.Needs.{needs}
 use Rattle.add.proofs.add_stores.Statement.{statement}
 use Rattle.add.proofs.add_stores.Tie as tie

@@ -1,5 +1,4 @@
 -- `add::is_raised` meets its contract. Assumes nothing.
-use mathlib.Core.Path.{sym, _∙_}
 use borrow.Author.Tests.{eq-eqb, ne-eqb}
 use Rattle.words.proofs.Scan.{by-bool}
 use lib.Dec.{eqb}

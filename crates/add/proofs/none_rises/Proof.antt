@@ -1,9 +1,9 @@
 -- `add::none_rises` meets its contract. Assumes nothing.
 use Prim.Native.Nat.{ℕ, _+_, _-_, _≤_, _<_}
 use mathlib.Core.Path.{_≡_, sym, ap, subst, _∙_}
-use mathlib.Core.Bool.{true, false, not, _||_, true≢false}
+use mathlib.Core.Bool.{true, not, _||_, true≢false}
 use native.Mathlib.Omega.{arith}
-use borrow.Author.Tests.{not-false, eqb-true}
+use borrow.Author.Tests.{not-false}
 use borrow.Author.Count.{below-none, below-more}
 use lib.Dec.{eqb}
 use Rattle.words.specs.Scan.{all}

@@ -1,12 +1,11 @@
 -- `add::raise_entry` meets its contract. Assumes nothing.
 use Prim.Native.Nat.{ℕ}
-use mathlib.Core.Path.{_≡_, refl, sym, ap, _∙_, subst}
+use mathlib.Core.Path.{_≡_, refl, sym, ap, _∙_}
 use native.Mathlib.Omega.{arith}
 use borrow.Author.Tests.{not-true, not-false}
 use Rattle.ranges.specs.Batch.{rangesIn}
 use Rattle.table.specs.Entry.{writable}
-use Rattle.table.specs.Changes.{Change, put, keep}
-use Rattle.changes.specs.Staged.{Restaged}
+use Rattle.table.specs.Changes.{put, keep}
 use Rattle.add.specs.Add.{raiseChange}
 use Rattle.add.proofs.Choices.{rises-facts}
 use borrow.Author.Needs.{needs}

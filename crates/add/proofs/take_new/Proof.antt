@@ -1,11 +1,10 @@
 -- `add::take_new` meets its contract. Assumes nothing.
-use mathlib.Core.Path.{_≡_, refl, sym, ap, subst, _∙_}
-use Prim.Native.Nat.{ℕ, _+_}
+use mathlib.Core.Path.{_≡_, _∙_}
+use Prim.Native.Nat.{ℕ}
 use native.Mathlib.Omega.{arith}
 use lib.ListN.{length}
 use Rattle.words.specs.Layout.{bodiesOf}
-use Rattle.table.specs.Changes.{Change, put}
-use Rattle.changes.specs.Staged.{Restaged}
+use Rattle.table.specs.Changes.{put}
 use Rattle.add.proofs.Taken.{body-small, took-body, took-bytes, took-is}
 use borrow.Author.Needs.{needs}
 use Rattle.add.proofs.take_new.Statement.{statement}

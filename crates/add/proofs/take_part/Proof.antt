@@ -1,16 +1,15 @@
 -- `add::take_part` meets its contract. Assumes nothing.
-use Prim.Native.Nat.{ℕ, _+_, _-_, _≤_, _<_}
-use mathlib.Core.Path.{_≡_, refl, sym, ap, subst, _∙_}
+use Prim.Native.Nat.{_-_, _≤_, _<_}
+use mathlib.Core.Path.{_≡_, refl, sym, _∙_}
 use native.Mathlib.Omega.{arith}
 use lib.ListN.{length}
-use Rattle.words.specs.Layout.{cellsOf, slotsOf}
-use Rattle.ranges.specs.Ranges.{labelFor}
-use Rattle.ranges.specs.Batch.{rangesIn, Next}
+use Rattle.words.specs.Layout.{cellsOf}
+use Rattle.ranges.specs.Batch.{rangesIn}
 use Rattle.ranges.proofs.Ranges.{label-low}
 use Rattle.store.proofs.Checks.{store-lengths}
 use Rattle.store.proofs.Raw.{raw-rule}
 use Rattle.words.proofs.Scan.{by-le}
-use Rattle.add.specs.Walking.{Takeable, Standing, Copied}
+use Rattle.add.specs.Walking.{Standing, Copied}
 use Rattle.add.proofs.Taken.{cell-room, cell-turn, same-able, same-room, same-stands, skip-stands, copied-none, copied-join, copied-length}
 use borrow.Author.Needs.{needs}
 use Rattle.add.proofs.take_part.Statement.{statement}
@@ -20,25 +19,25 @@ use Rattle.ranges.proofs.next_segment.Reads as next-segment-reads
 use Rattle.words.proofs.layout.cells_of.Reads as cells-of-reads
 
 abbrev Inv-loop : tie.InvT-loop
-Inv-loop memory bodies₀ table slots held used list n rising words₀ changed₀ budget part w₀ bodies words changed w = (part .at ≤ w .at) × (part .at < cellsOf (length memory) → w .at ≤ part .end) × (w .next ≡ part .next)
+Inv-loop memory bodies₀ table slots held used list n order rising words₀ changed₀ budget part w₀ bodies words changed w = (part .at ≤ w .at) × (part .at < cellsOf (length memory) → w .at ≤ part .end) × (w .next ≡ part .next)
     × Standing memory bodies table (rangesIn n list) w words changed × Copied memory table (rangesIn n list) budget w₀ w bodies₀ bodies
     × (length bodies ≡ length bodies₀) × (length words ≡ length words₀) × (length changed ≡ length changed₀)
 
 abbrev μ-loop : tie.MeasureT-loop
-μ-loop memory bodies₀ table slots held used list n rising words₀ changed₀ budget part w₀ bodies words changed w = part .end - w .at
+μ-loop memory bodies₀ table slots held used list n order rising words₀ changed₀ budget part w₀ bodies words changed w = part .end - w .at
 
 cells-of-requires : tie.Need-cells-of-requires Inv-loop μ-loop
 cells-of-requires c κs = search needs
 
 next-segment-requires : tie.Need-next-segment-requires Inv-loop μ-loop
 next-segment-requires c κs =
-    let l = c .before .before .before .before .before .before .before .before .before .pre .1 .1 .1 in
-    rw (c .cells-of .ensures) ((l .2, l .3, l .4, l .5), (omega (arith, l .1), l .6))
+    let l = c .before .before .before .before .before .before .before .before .before .before .pre .1 .1 .1 in
+    rw (c .cells-of .ensures) ((l .2, l .3, l .4, l .5, l .6), (omega (arith, l .1), l .7))
 
 loop-holds : tie.Need-loop-holds Inv-loop μ-loop
 loop-holds c =
-    let a = c .before .before .before .before .before .before .before .before .before .before .args in
-    let p = c .before .before .before .before .before .before .before .before .before .before .pre in
+    let a = c .before .before .before .before .before .before .before .before .before .before .before .args in
+    let p = c .before .before .before .before .before .before .before .before .before .before .before .pre in
     let x = rw (c .before .cells-of .ensures) at (c .next-segment .ensures) in (
       omega arith,
       λ h. omega (arith, x .some h .0),
@@ -52,8 +51,8 @@ loop-holds c =
 
 take-cell-requires : tie.Need-take-cell-requires Inv-loop μ-loop
 take-cell-requires c κs =
-    let a = c .before .before .before .before .before .before .before .before .before .before .before .before .before .before .before .before .before .args in
-    let p = c .before .before .before .before .before .before .before .before .before .before .before .before .before .before .before .before .before .pre in
+    let a = c .before .before .before .before .before .before .before .before .before .before .before .before .before .before .before .before .before .before .args in
+    let p = c .before .before .before .before .before .before .before .before .before .before .before .before .before .before .before .before .before .before .pre in
     let i = c .before .before .before .before .before .before .loop .inv in
     let x = rw (c .before .before .before .before .before .before .before .before .cells-of .ensures) at (c .before .before .before .before .before .before .before .next-segment .ensures) in
     let asks = x .asks (c .before .before .before .before .before .before .loop .w .at) (i .0) (c .before .before .before .if1 .taken) in
@@ -78,8 +77,8 @@ take-cell-requires c κs =
 
 loop-less : tie.Need-loop-less Inv-loop μ-loop
 loop-less c =
-    let a = c .before .before .before .before .before .before .before .before .before .before .before .before .before .before .before .before .before .before .before .before .before .before .before .before .args in
-    let p = c .before .before .before .before .before .before .before .before .before .before .before .before .before .before .before .before .before .before .before .before .before .before .before .before .pre in
+    let a = c .before .before .before .before .before .before .before .before .before .before .before .before .before .before .before .before .before .before .before .before .before .before .before .before .before .args in
+    let p = c .before .before .before .before .before .before .before .before .before .before .before .before .before .before .before .before .before .before .before .before .before .before .before .before .before .pre in
     let i = c .before .before .before .before .before .before .before .before .before .before .before .before .before .loop .inv in
     let x = rw (c .before .before .before .before .before .before .before .before .before .before .before .before .before .before .before .cells-of .ensures) at (c .before .before .before .before .before .before .before .before .before .before .before .before .before .before .next-segment .ensures) in
     let asks = x .asks (c .before .before .before .before .before .before .before .before .before .before .before .before .before .loop .w .at) (i .0) (c .before .before .before .before .before .before .before .before .before .before .if1 .taken) in
@@ -91,8 +90,8 @@ loop-less c =
 
 loop-again : tie.Need-loop-again Inv-loop μ-loop
 loop-again c =
-    let a = c .before .before .before .before .before .before .before .before .before .before .before .before .before .before .before .before .before .before .before .before .before .before .before .before .args in
-    let p = c .before .before .before .before .before .before .before .before .before .before .before .before .before .before .before .before .before .before .before .before .before .before .before .before .pre in
+    let a = c .before .before .before .before .before .before .before .before .before .before .before .before .before .before .before .before .before .before .before .before .before .before .before .before .before .args in
+    let p = c .before .before .before .before .before .before .before .before .before .before .before .before .before .before .before .before .before .before .before .before .before .before .before .before .before .pre in
     let i = c .before .before .before .before .before .before .before .before .before .before .before .before .before .loop .inv in
     let x = rw (c .before .before .before .before .before .before .before .before .before .before .before .before .before .before .before .cells-of .ensures) at (c .before .before .before .before .before .before .before .before .before .before .before .before .before .before .next-segment .ensures) in
     let asks = x .asks (c .before .before .before .before .before .before .before .before .before .before .before .before .before .loop .w .at) (i .0) (c .before .before .before .before .before .before .before .before .before .before .if1 .taken) in
@@ -122,8 +121,8 @@ same-length-3 c = c .before .before .before .loop .inv .7
 
 returns : tie.Need-returns Inv-loop μ-loop
 returns c =
-    let a = c .before .before .before .before .before .before .before .before .before .before .before .before .before .before .args in
-    let p = c .before .before .before .before .before .before .before .before .before .before .before .before .before .before .pre in
+    let a = c .before .before .before .before .before .before .before .before .before .before .before .before .before .before .before .args in
+    let p = c .before .before .before .before .before .before .before .before .before .before .before .before .before .before .before .pre in
     let i = c .before .before .before .loop .inv in
     let x = rw (c .before .before .before .before .before .cells-of .ensures) at (c .before .before .before .before .next-segment .ensures) in
     let front = copied-none (a .memory .now) (a .table .now) (rangesIn (a .n) (a .list .now)) (a .budget) (a .walk) (record { at = c .before .before .before .before .next-segment .result .at; next = c .before .before .before .before .next-segment .result .next; slot = a .walk .slot; body = a .walk .body; made = a .walk .made }) (a .bodies .now) (x .low) refl (λ y lo hi. x .none y lo hi) in (

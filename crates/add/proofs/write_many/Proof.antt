@@ -1,5 +1,4 @@
 -- `add::write_many` meets its contract. Assumes nothing.
-use native.Mathlib.Omega.{arith}
 use Rattle.store.proofs.Checks.{store-lengths}
 use Rattle.changes.proofs.Staging.{stages-start}
 use borrow.Author.Needs.{needs}

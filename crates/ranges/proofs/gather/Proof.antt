@@ -28,7 +28,7 @@ use mir.Table.{spell}
 use mir.Syntax.{Ty, named, imm, w32, w64, tyInt, tyBool, tyPtr, tyRef, tyNamed, loop}
 use mir.Val.{Val, vint, vptr, vbool}
 use base.Logic.{SProp, ent, id⊢, emp, via, fst∗, snd∗, exE}
-use base.Fml.{Lft, Share, GName, Fml, ftrue, fat, froom, fdies, flft, fres, fshr-bor}
+use base.Fml.{Lft, Share, GName, ftrue, fat, froom, fdies, flft, fres, fshr-bor}
 use prog.Memory.{Memory}
 use prog.Routine.{Routine}
 use prog.Wp.{Heap, Env, Out, Wp, WpFn, Tables, afterSeq, afterBlock, afterTurn, atReturn}

@@ -1,46 +1,52 @@
 -- `ranges::is_rising` meets its contract. The loop's invariant: the records passed rise, and none of them ends behind `end`. Assumes nothing.
+use borrow.Author.Needs.{needs}
 use Prim.Native.Nat.{ℕ, _+_, _-_, _≤_, _<_}
 use mathlib.Core.Bool.{false≢true}
+use mathlib.Core.Path.{sym}
 use native.Mathlib.Omega.{arith}
-use borrow.Author.Needs.{needs}
 use borrow.Author.Count.{below-none, below-more}
-use Rattle.ranges.specs.Batch.{rangeAt, Rising}
+use Rattle.ranges.specs.Batch.{rangeAt, recordBy, RisingBy}
 use Rattle.ranges.proofs.Segments.{rising-more}
 use Rattle.ranges.proofs.is_rising.Statement.{statement}
 use Rattle.ranges.proofs.is_rising.Tie as tie
 
 abbrev Inv-loop : tie.InvT-loop
-Inv-loop list n end₀ i₀ end i = (i ≤ n) × Rising i list × ((k : ℕ) → k < i → rangeAt list k .first + rangeAt list k .count ≤ end)
+Inv-loop list n order end₀ k₀ end k = (k ≤ n) × RisingBy k list order × ((i : ℕ) → i < k → rangeAt list (recordBy order i) .first + rangeAt list (recordBy order i) .count ≤ end)
 
 abbrev μ-loop : tie.MeasureT-loop
-μ-loop list n end₀ i₀ end i = n - i
+μ-loop list n order end₀ k₀ end k = n - k
 
 loop-holds : tie.Need-loop-holds Inv-loop μ-loop
 loop-holds c = (search needs, λ x y a b. absurd (omega arith), below-none _)
 
+record-by-requires : tie.Need-record-by-requires Inv-loop μ-loop
+record-by-requires c κs = omega (arith, c .before .before .before .before .pre .1 .room)
+
 first-at-requires : tie.Need-first-at-requires Inv-loop μ-loop
-first-at-requires c κs = search needs
+first-at-requires c κs = omega (arith, c .before .before .before .before .before .pre .1 .low (c .before .before .loop .k) (c .before .loop-test .taken))
 
 returns : tie.Need-returns Inv-loop μ-loop
 returns c = λ e. absurd (false≢true e)
 
 end-at-requires : tie.Need-end-at-requires Inv-loop μ-loop
-end-at-requires c κs = search needs
+end-at-requires c κs = omega (arith, c .before .before .before .before .before .before .before .pre .1 .low (c .before .before .before .before .loop .k) (c .before .before .before .loop-test .taken))
 
-add-i : tie.Need-add-i Inv-loop μ-loop
-add-i c = search needs
+add-k : tie.Need-add-k Inv-loop μ-loop
+add-k c = search needs
 
 loop-less : tie.Need-loop-less Inv-loop μ-loop
 loop-less c = search needs
 
 loop-again : tie.Need-loop-again Inv-loop μ-loop
 loop-again c =
-    let ws = c .before .before .before .before .before .before .args .list .now in
-    let i = c .before .before .before .before .loop .i in
-    let h : (k : ℕ) → k < i → rangeAt ws k .first + rangeAt ws k .count ≤ rangeAt ws i .first = λ k l. omega (arith, c .before .before .before .before .loop .inv .2 k l) in (
+    let ws = c .before .before .before .before .before .before .before .before .args .list .now in
+    let order = c .before .before .before .before .before .before .before .before .args .order .now in
+    let k = c .before .before .before .before .before .loop .k in
+    let h : (i : ℕ) → i < k → rangeAt ws (recordBy order i) .first + rangeAt ws (recordBy order i) .count ≤ rangeAt ws (recordBy order k) .first = λ i l. rw (sym (c .before .before .before .record-by .ensures)) (omega (arith, c .before .before .before .before .before .loop .inv .2 i l)) in
+    let end = rw (c .before .before .before .record-by .ensures) at (c .end-at .ensures) in (
       search needs,
-      rising-more ws i (c .before .before .before .before .loop .inv .1) h,
-      below-more _ _ (λ k l. omega (arith, h k l)) (omega arith),
+      rising-more ws order k (c .before .before .before .before .before .loop .inv .1) h,
+      below-more _ _ (λ i l. omega (arith, h i l, end)) (omega (arith, end)),
     )
 
 returns-2 : tie.Need-returns-2 Inv-loop μ-loop
@@ -53,10 +59,11 @@ is-rising-spec =
     Inv-loop
     μ-loop
     loop-holds
+    record-by-requires
     first-at-requires
     returns
     end-at-requires
-    add-i
+    add-k
     loop-less
     loop-again
     returns-2)

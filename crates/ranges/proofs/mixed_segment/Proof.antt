@@ -15,7 +15,7 @@ no-segment-requires c κs = search needs
 returns : tie.Need-returns
 returns c =
     let a = c .before .before .before .before .args in
-    segment-none (a .list .now) (a .cells) (a .n) false (a .from) (c .before .before .before .before .pre .1) (c .no-segment .result) (c .no-segment .ensures .0) (c .no-segment .ensures .1)
+    λ order. segment-none (a .list .now) order (a .cells) (a .n) false (a .from) (c .before .before .before .before .pre .1) (c .no-segment .result) (c .no-segment .ensures .0) (c .no-segment .ensures .1)
     (λ x l b. c .before .before .next-named .ensures .none x l (omega arith))
 
 first-naming-requires : tie.Need-first-naming-requires
@@ -40,8 +40,8 @@ label-for-requires c κs = search needs
 returns-2 : tie.Need-returns-2
 returns-2 c =
     let a = c .before .before .before .before .before .before .before .before .args in
-    rw (c .before .before .kind-at .ensures, c .before .rule-at .ensures, c .label-for .ensures)
-    (mixed-next (a .list .now) (a .cells) (a .n) (a .from) (c .before .before .before .before .before .before .next-named .result) (c .before .before .before .run-end .result) (c .before .before .before .before .first-naming .result) (c .before .before .before .before .before .before .next-named .ensures) (c .before .before .before .before .before .if1 .left) (c .before .before .before .run-end .ensures) (c .before .before .before .before .first-naming .ensures))
+    λ order. rw (c .before .before .kind-at .ensures, c .before .rule-at .ensures, c .label-for .ensures)
+    (mixed-next (a .list .now) order (a .cells) (a .n) (a .from) (c .before .before .before .before .before .before .next-named .result) (c .before .before .before .run-end .result) (c .before .before .before .before .first-naming .result) (c .before .before .before .before .before .before .next-named .ensures) (c .before .before .before .before .before .if1 .left) (c .before .before .before .run-end .ensures) (c .before .before .before .before .first-naming .ensures))
 
 pub mixed-segment-spec : {M : Type 1} → statement M
 mixed-segment-spec =
