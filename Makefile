@@ -7,7 +7,7 @@ RELEASE := cargo run --quiet --release --offline --manifest-path host/Cargo.toml
 .PHONY: help demo test library host-test bench
 
 help:
-	@echo "make demo        proves and builds the library, then shows an advance that is cut at every store, and a channel held by a rule"
+	@echo "make demo        proves and builds the library, then shows an advance that is cut at every store, a channel held by a rule, and a tile of nine ranges"
 	@echo "make test        the gate: proves every function, tries every wrong program, runs the programs (bash .ci/run)"
 	@echo "make host-test   the compiled library against an independent model, and cut on the real machine"
 	@echo "make bench       the library beside plain copies and beside an unproved version of it"

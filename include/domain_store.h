@@ -147,7 +147,7 @@ uint32_t ds_add(const uint8_t *memory, size_t memory_len, uint8_t *bodies, size_
 /* Holds several ranges of cells, `ranges_len` of them (1 to 64) from `ranges` on, each as ds_add does, and
  * all of them or none, also where the call was cut. They act in their order, so a later one finds the cells
  * that an earlier one has just taken: these keep kind and value of the first range that names them, and
- * become read-write if a later one is. Where one range is refused nothing is held. Ranges may touch,
+ * become read-write if a later one is. Where one range is refused nothing changes. Ranges may touch,
  * overlap and stand in any order. Takes 64 steps for each new copy, 6 for each entry taken or made
  * read-write, and 2 for the call; none where there is no such entry. */
 uint32_t ds_add_ranges(const uint8_t *memory, size_t memory_len, uint8_t *bodies, size_t bodies_len,

@@ -8,9 +8,9 @@ use std::fmt;
 ///
 /// A call puts its questions in the order of these numbers, save that 20 comes right after 6, and 18
 /// and 19 right after 12, and is refused by the first that is answered by no. (An add of several
-/// ranges puts 7, 8, 11, 12, 18 and 19 to one range after the other, and then 16 and 17 for all.) The text of a refusal says what was
-/// wrong and what to do about it. The header has them by the same names: `NoStore` is
-/// `DS_REFUSED_NO_STORE` in C.
+/// ranges puts 7, 8, 11, 12, 18 and 19 to one range after the other, and then 16 and 17 for all.)
+/// The text of a refusal says what was wrong and what to do about it. The header has them by the
+/// same names: `NoStore` is `DS_REFUSED_NO_STORE` in C.
 ///
 /// ```
 /// use domain_store::{Buffers, Refusal};

@@ -413,7 +413,7 @@ impl<'a> Store<'a> {
     /// any order.
     ///
     /// Gives the steps that it took: 64 for each new copy, 6 for each entry taken or raised, and 2,
-    /// which single adds would take each.
+    /// which single adds would take each; none where there is no such entry.
     ///
     /// # Errors
     ///
