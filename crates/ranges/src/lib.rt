@@ -11,6 +11,7 @@ use words::least;
 use words::wide;
 ghost use mathlib.Core.Path.{_≡_};
 ghost use mathlib.Core.Bool.{true, false};
+ghost use mathlib.Core.List.{List};
 ghost use Prim.Native.Nat.{ℕ, _+_, _*_, _%_, _≤_, _<_, max};
 ghost use lib.ListN.{length};
 ghost use Rattle.ranges.specs.Ranges.{covers, named, labelFor, maxRanges};
