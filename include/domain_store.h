@@ -86,9 +86,10 @@ extern "C" {
 #define DS_REFUSED_NOT_HELD 13u
 /* The next domain in holds, via this one, a cell that is to be deleted. */
 #define DS_REFUSED_CHILD_RELIES 14u
-/* The parent does not hold every read-write cell of the domain that is to advance. */
+/* Retired: no call answers 15 any more. It told that the parent did not hold every read-write cell of the domain that was to advance; an advance now gives
+ * the parent what it lacks (ds_advance). No other number has moved, and this one is not used again. */
 #define DS_REFUSED_PARENT_LACKS_READ_WRITE 15u
-/* Too few free entries for the new cells. */
+/* Too few free entries for the new cells: in an advance one for each cell that is given to the parent. */
 #define DS_REFUSED_NO_FREE_ENTRY 16u
 /* Too few free bodies for the new copies: in an advance one for each read-write cell that changed. */
 #define DS_REFUSED_NO_FREE_BODY 17u
@@ -164,8 +165,10 @@ uint32_t ds_commit(const uint8_t *memory, size_t memory_len, const uint8_t *bodi
                    uint32_t handle, uint64_t budget, uint64_t *steps);
 
 /* Moves the innermost domain's point to now: every read-write cell takes memory's bytes. One whose value memory has no more takes them as a copy, in a
- * body that was free, which costs 70 steps, and 2 for the call. One that did not change keeps how it is held: it costs a comparison of 64 bytes, and no
- * body and no step. Where none changed, the call is done with 0 steps at every budget. */
+ * body that was free, which costs 70 steps, and 2 for the call. Where the parent lacks such a cell, it is given the cell as it was held, with kind, value
+ * and label, in an entry that was free: the old body is then the parent's, and going back to the parent still brings what stood at its own point. That
+ * costs 6 steps more. A cell that did not change is not given and keeps how it is held: it costs a comparison of 64 bytes, and no body, no entry and no
+ * step. Where none changed, the call is done with 0 steps at every budget. */
 uint32_t ds_advance(const uint8_t *memory, size_t memory_len, uint8_t *bodies, size_t bodies_len, uint32_t *table, size_t table_len,
                     uint32_t handle, uint64_t budget, uint64_t *steps);
 

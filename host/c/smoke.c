@@ -1,5 +1,6 @@
 /* The header as a C or C++ program uses it: every function once, preserve, write, restore, a cut and its opening, an advance of changed and of
- * unchanged cells, cells that follow a rule, several ranges in one add, refusals, and buffers that are not the store's or not there at all. */
+ * unchanged cells, an inner advance that keeps the outer point, cells that follow a rule, several ranges in one add, refusals, and buffers that are
+ * not the store's or not there at all. */
 
 #include "domain_store.h"
 
@@ -180,6 +181,31 @@ static void expect_ranges(void) {
     expect("commit, ranges", ds_commit(BUFFERS_LENT, 0, UINT64_MAX, &steps), DS_DONE);
 }
 
+/* An inner advance keeps the outer point: the cycle holds nothing, the tile copies cell 0 = 7 and has written 9. Cut at every store and opened, the cycle
+ * goes back to 7, and the tile to 7 or, once word 6 is stored, to 9. */
+static void expect_inner_advance(void) {
+    uint64_t steps = 77, budget, need = 64 + 3 * 4 + 2;
+    uint32_t cycle = 77, tile = 77;
+
+    for (budget = 0; budget <= need; budget++) {
+        memset(memory, 7, sizeof memory);
+        expect("create, a cycle", ds_create(BUFFERS_LENT, UINT64_MAX, &steps, &cycle), DS_DONE);
+        expect("create, a tile", ds_create(BUFFERS_LENT, UINT64_MAX, &steps, &tile), DS_DONE);
+        expect("add to the tile", ds_add(BUFFERS_LENT, tile, 0, 1, DS_COPY, 0, DS_READ_WRITE, UINT64_MAX, &steps), DS_DONE);
+        expect("advance, unchanged", ds_advance(BUFFERS_LENT, tile, 0, &steps), DS_DONE);
+        memset(memory, 9, 64);
+        expect("advance, with a budget", ds_advance(BUFFERS_LENT, tile, budget, &steps), budget < need ? DS_STOPPED : DS_DONE);
+        expect("its steps", steps, budget);
+        expect("open", ds_open(BUFFERS_LENT, UINT64_MAX, &steps), DS_DONE);
+        memset(memory, 11, 64);
+        expect("restore the tile", ds_restore(BUFFERS_LENT, tile, UINT64_MAX, &steps), DS_DONE);
+        expect("the tile's byte", memory[0], budget > 64 + 2 * 4 ? 9 : 7);
+        expect("restore the cycle", ds_restore(BUFFERS_LENT, cycle, UINT64_MAX, &steps), DS_DONE);
+        expect("the cycle's byte", memory[63], 7);
+        expect("commit the cycle", ds_commit(BUFFERS_LENT, cycle, UINT64_MAX, &steps), DS_DONE);
+    }
+}
+
 int main(void) {
     uint64_t steps = 77, offset = 77;
     uint32_t handle = 77, count = 77, place = 77, rule = 77, handles[8];
@@ -243,6 +269,7 @@ int main(void) {
     expect("restore, nobody live", ds_restore(BUFFERS_LENT, 0, UINT64_MAX, &steps), DS_REFUSED_NO_SUCH_DOMAIN);
     expect_rules();
     expect_ranges();
+    expect_inner_advance();
 
     return failures != 0;
 }

@@ -10,6 +10,7 @@ use lib.Dec.{eqb}
 use lib.ListN.{length, take}
 use Rattle.words.specs.Layout.{pairsAt, slotsOf, cellsOf, bodiesOf}
 use Rattle.words.specs.Scan.{count}
+use Rattle.words.proofs.Scan.{count-both}
 use Rattle.words.specs.Stores.{Store, stores}
 use Rattle.words.specs.Journal.{pending, namesOk, journal}
 use Rattle.words.proofs.Plans.{Each}
@@ -39,7 +40,6 @@ use Rattle.add.specs.Ready.{Ready}
 use Rattle.add.specs.Choice.{Choice, addWith, MayTake}
 use Rattle.add.proofs.Readied.{add-ready}
 use Rattle.add.proofs.Meaning.{rule-after, state-after}
-use Rattle.add.proofs.Counting.{count-both}
 use Rattle.add.proofs.Chosen.{taking, words-told, lowest}
 use Rattle.add.proofs.Filling.{rests-with, plain-with, rule-with, bytes-length, bytes-filled, bytes-spare}
 use Rattle.add.proofs.Numbers.{words-many, bytes-many}

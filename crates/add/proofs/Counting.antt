@@ -1,22 +1,13 @@
--- Laws of counts that add needs. Assumes nothing.
+-- Counts over the numbers of a range. Assumes nothing.
 use Prim.Native.Nat.{ℕ, zero, suc, _+_, _-_, _≤_}
 use mathlib.Core.Bool.{Bool, _&&_}
 use mathlib.Core.Path.{_≡_, ap, _∙_}
 use native.Mathlib.Omega.{arith}
 use borrow.Author.Tests.{lt-ltb, le-ltb, le-leb, lt-leb}
 use Rattle.words.specs.Scan.{count}
-use Rattle.words.proofs.Scan.{by-bool, count-none}
+use Rattle.words.proofs.Scan.{count-none}
 use Rattle.ranges.specs.Ranges.{inRange}
 
--- those that pass a second test too are no more
-pub count-both : (n : ℕ) (f g : ℕ → Bool) → count n (λ i. f i && g i) ≤ count n f
-unfolding count
-count-both zero f g = omega arith
-count-both (suc n) f g =
-    let rest : count n (λ i. f i && g i) ≤ count n f = count-both n f g in
-    by-bool (f n) (λ p. by-bool (g n) (λ q. rw (p, q) (omega arith)) (λ q. rw (p, q) (omega arith))) (λ p. rw p (omega arith))
-
--- the numbers of a range
 module _ (base : ℕ) (f : ℕ → Bool) where
   range-none : (m n : ℕ) → m ≤ base → count m (λ c. inRange base n c && f c) ≡ 0
   range-none m n l = count-none m (λ c. inRange base n c && f c) (λ c b. rw (lt-leb base c (omega arith)))

@@ -8,31 +8,31 @@ use borrow.Author.Tests.{eq-eqb, ne-eqb, eqb-true, eqb-false, lt-ltb}
 use lib.Dec.{eqb}
 use lib.ListN.{length, take, length-append}
 use Rattle.words.specs.Layout.{cellsOf, bodiesOf, slotsOf, cellSize}
-use Rattle.words.specs.Scan.{count, nth}
+use Rattle.words.specs.Scan.{count}
 use Rattle.words.specs.Cells.{cellPlan}
 use Rattle.words.specs.Stores.{Store, store, gather, stores}
-use Rattle.words.proofs.Scan.{by-bool, by-le, and-join, count-more, count-stop, count-not, count-le, count-ext}
-use Rattle.words.proofs.Nth.{count-below, nth-of, nth-rank}
+use Rattle.words.proofs.Scan.{by-bool, and-join, count-more, count-stop, count-ext}
+use Rattle.words.proofs.Nth.{count-below, nth-of}
 use Rattle.words.proofs.Gather.{gather-ext, gather-none, gather-split}
 use Rattle.words.proofs.Plans.{length-cellPlan, length-stores, run-take-append, stores-none}
 use Rattle.ranges.specs.declared.Range.{Range}
 use Rattle.ranges.specs.declared.Segment.{Segment}
 use Rattle.ranges.specs.Ranges.{named, kindFor}
 use Rattle.ranges.specs.Batch.{Asks}
-use Rattle.table.specs.Entry.{live, word1, holdsIn, entryWord, secondWord}
+use Rattle.table.specs.Entry.{live, holdsIn, entryWord, secondWord}
 use Rattle.table.specs.Marks.{EndsAt}
 use Rattle.table.proofs.Marks.{marked-holds}
 use Rattle.table.specs.Changes.{Change, keep, put}
-use Rattle.search.specs.Free.{slotFree, bodyFree, lowestFree, unmarked, unmarkedFrom}
-use Rattle.search.proofs.From.{from-le, from-ge, from-miss, next-nth, next-below, next-passed}
-use Rattle.search.proofs.Free.{slots-all, bodies-all, unmarked-free, unmarked-nth, unmarked-below, unmarked-passed}
+use Rattle.search.specs.Free.{slotFree, bodyFree, lowestFree, freeFrom, endOf, unmarked, unmarkedFrom}
+use Rattle.search.proofs.From.{from-le}
+use Rattle.search.proofs.Free.{slots-all, free-ge, free-miss, free-early, free-nth, free-below, free-passed, free-holds, free-rank, bodies-all, unmarked-free, unmarked-nth, unmarked-below, unmarked-passed}
 use Rattle.search.proofs.Taking.{lowest-ext}
 use Rattle.changes.specs.Staged.{Restaged, Stages}
 use Rattle.changes.proofs.Staging.{stages-skip, stages-put}
 use Rattle.store.proofs.Raw.{raw-rule}
 use Rattle.add.specs.declared.Cursors.{Cursors}
 use Rattle.add.specs.Add.{isNew, isNewCopy, takenFirst, takenSecond, bodyFor}
-use Rattle.add.specs.Walking.{lacks, freeFrom, bodyBeyond, bytesAt, takeChange, Takeable, endOf, RoomToTake, Standing, Copied, tookCell, passedCell, cellBytesOf, TookEntry, RoomForCell}
+use Rattle.add.specs.Walking.{lacks, bodyBeyond, bytesAt, takeChange, Takeable, RoomToTake, Standing, Copied, tookCell, passedCell, cellBytesOf, TookEntry, RoomForCell}
 
 -- a second word has the body of a copy alone
 second-body : (k r v w : ℕ) → (k ≡ 0 → v ≡ w) → secondWord k r v ≡ secondWord k r w
@@ -136,36 +136,24 @@ module _ (memory bodies t held used : List ℕ) (rs : List Range) (a : Takeable 
       ranked : rank < count m new
       ranked = count-below new at m l is-new
 
-      slot-nth : slot ≡ nth e free rank
-      unfolding freeFrom
-      slot-nth = next-nth free e (w .slot) rank (s .slot) (s .slots)
+      slots-left : rank < count e free
+      slots-left = omega (arith, ranked, slots-enough)
 
       slot-below : slot < e
-      unfolding freeFrom
-      slot-below = next-below free e (w .slot) rank (s .slot) (s .slots) (omega (arith, ranked, slots-enough))
+      slot-below = free-below e t (w .slot) rank (s .slot) (s .slots) slots-left
 
       slot-rank : count slot free ≡ rank
-      slot-rank = ap (λ (x : ℕ). count x free) slot-nth ∙ nth-rank e free rank (omega (arith, ranked, slots-enough))
+      slot-rank = free-rank e t (w .slot) rank (s .slot) (s .slots) slots-left
 
       slot-passed : count (slot + 1) free ≡ rank + 1
-      unfolding freeFrom
-      slot-passed = next-passed free e (w .slot) rank (s .slot) (s .slots) (omega (arith, ranked, slots-enough))
+      slot-passed = free-passed e t (w .slot) rank (s .slot) (s .slots) slots-left
 
       slot-free : free slot ≡ true
-      slot-free = by-bool (free slot) (λ p. p) (λ p. absurd (never (rw p at (count-more slot free)) slot-rank slot-passed))
-        where
-          never : {x y z : ℕ} → x ≡ y → y ≡ z → x ≡ z + 1 → ⊥
-          never p q r = omega arith
+      slot-free = free-holds e t (w .slot) rank (s .slot) (s .slots) slots-left
 
       -- it lies before the end: from `top` on every slot is free
       slot-early : (top : ℕ) → EndsAt e t top → slot < endOf e (count m new) top
-      slot-early top ends =
-          by-le top slot
-          (λ y.
-          let same : count slot (λ x. not (free x)) ≡ count top (λ x. not (free x)) =
-          count-stop slot top (λ x. not (free x)) y (λ x p q. ap not (eq-eqb (word1 e t x) 0 (ends .1 x p (omega (arith, q, slot-below)) .0))) in
-          omega (arith, slot-rank, ranked, slot-below, same, count-not slot free, count-le top (λ x. not (free x))))
-          (λ y. omega (arith, slot-below))
+      slot-early top ends = rw (free-nth e t (w .slot) rank (s .slot) (s .slots)) (free-early e t top ends rank (count m new) ranked slots-left)
 
       module _ (k : ℕ) (kind : kindFor rs (w .at) ≡ k) where
         copy-here : k ≡ 0 → copy (w .at) ≡ true
@@ -229,12 +217,11 @@ module _ (memory bodies t held used : List ℕ) (rs : List Range) (a : Takeable 
           change-is = rw (slot-free, slot-rank, lt-ltb rank (count m new) ranked, nth-of m new at l is-new)
 
           skipped : (i : ℕ) → w .slot ≤ i → i < slot → takeChange m e b t rs i ≡ keep
-          unfolding takeChange freeFrom
-          skipped i p q = rw (from-miss e (w .slot) free i p q)
+          unfolding takeChange
+          skipped i p q = rw (free-miss e t (w .slot) i p q)
 
           low : w .slot ≤ slot
-          unfolding freeFrom
-          low = from-ge e (w .slot) free
+          low = free-ge e t (w .slot)
 
           staged-now : Stages (slot + 1) (takeChange m e b t rs) words′ bits′
           staged-now =

@@ -1,13 +1,12 @@
 -- Add's questions and changes as its code goes through them: over marks, one for each cell and one for each body, and over the numbers of the list.
 -- d is the depth of the domain that is added to.
-use Prim.Native.Nat.{ℕ, zero, suc, _+_, _-_, _*_, _≤_, _<_, min}
+use Prim.Native.Nat.{ℕ, zero, suc, _+_, _-_, _*_, _≤_, _<_}
 use mathlib.Core.Path.{_≡_}
 use mathlib.Core.Bool.{Bool, true, false, cond, not, _&&_, _||_}
 use mathlib.Core.List.{List, []}
 use lib.Dec.{ltb, leb, eqb}
 use lib.ListN.{length, take}
 use Rattle.words.specs.Layout.{cellAt, cellsOf, bodiesOf, slotsOf, pairsAt, maxLive, maxSlots, maxCells, maxBodies, cellSize}
-use Rattle.words.specs.Scan as scan
 use Rattle.words.specs.Scan.{all, count, nth}
 use Rattle.words.specs.Cells.{cellBytes, sameCell, cellPlan}
 use Rattle.words.specs.Stores.{Store, gather, stores}
@@ -21,7 +20,7 @@ use Rattle.marks.specs.Blocks.{cellsIn}
 use Rattle.table.specs.Marks.{markOf, has, Marked, CellsOnce, EndsAt, AllMarked}
 use Rattle.table.specs.Changes.{Change, keep, put}
 use Rattle.search.specs.Search.{sourceIn, valueIn, ruledIn}
-use Rattle.search.specs.Free.{slotFree, bodyFree, usedSlots, copies, unmarkedFrom}
+use Rattle.search.specs.Free.{slotFree, bodyFree, usedSlots, copies, freeFrom, endOf, unmarkedFrom}
 use Rattle.changes.specs.Staged.{RoomFor, Restaged, Stages}
 use Rattle.model.specs.Answer.{ask}
 use Rattle.model.specs.Holdings.{askRange}
@@ -163,10 +162,6 @@ pub record Counted (m e : ℕ) (t : List ℕ) (rs : List Range) (new more : ℕ)
 
 -- ---- the bytes and words: cells are taken in their order, each with the next free slot and, as a copy, the next free body
 
--- from a place on the next free slot, or e
-unfoldable pub freeFrom : ℕ → List ℕ → ℕ → ℕ
-freeFrom e t from = from + scan.first (e - from) (λ k. slotFree e t (from + k))
-
 -- the next body for a cell of this kind: without a mark if it is a copy; else the place stays
 abbrev pub bodyBeyond : List ℕ → (b k from : ℕ) → ℕ
 bodyBeyond used b k from = cond (eqb k 0) (unmarkedFrom b used from) from
@@ -195,11 +190,7 @@ pub record Takeable (memory bodies t held used : List ℕ) (rs : List Range) : T
   pub cells : maxCells ≤ cellsIn held
   pub places : length used ≡ maxBodies
 
--- no entry from here on changes: those from `top` on are free, and the lowest free slots are taken, one for each new cell
-abbrev pub endOf : (e new top : ℕ) → ℕ
-endOf e new top = min e (top + new)
-
--- there is room to stage all that changes, `top` being how far entries in use reach
+-- there is room to stage all that changes, `top` being how far entries in use reach: the lowest free slots are taken, one for each new cell
 pub record RoomToTake (memory t : List ℕ) (rs : List Range) (words bits : List ℕ) : Type 0 where
   pub top : ℕ
   pub ends : EndsAt (slotsOf (length t)) t top

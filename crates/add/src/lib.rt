@@ -44,6 +44,7 @@ use search::Held;
 use search::count_used;
 use search::find_value;
 use search::next_free_body;
+use search::next_free_slot;
 use search::notes::few_notes;
 use search::notes::many_notes;
 use search::notes::no_notes;
@@ -92,6 +93,7 @@ ghost use Rattle.table.specs.Entry.{live, word1, word2, parent};
 ghost use Rattle.table.specs.Changes.{Change};
 ghost use Rattle.marks.specs.Blocks.{cellsIn, Enough};
 ghost use Rattle.table.specs.Marks.{CellsOnce, EndsAt, Reached, RoomForMarks, Marked, AllMarked};
+ghost use Rattle.search.specs.Free.{endOf};
 ghost use Rattle.changes.specs.Staged.{RoomFor, Stages};
 ghost use Rattle.model.specs.Answer.{ask, orElse, stepsOf};
 ghost use Rattle.model.specs.Holdings.{listChecks};
@@ -102,7 +104,7 @@ ghost use Rattle.store.specs.State.{stateIn};
 ghost use Rattle.add.specs.Add.{isNew, isNewCopy, addCheck, addCall, addMeans, rises, raiseChange};
 ghost use Rattle.add.specs.Walking.{lacks, freshTo, PartOf, Given, Askable, Comparable, Asking, Counted, Source, copiesOf};
 ghost use Rattle.add.specs.Walking.{parentCheck, ruleCheck, valueCheck, partCheck, roomCheck, backed, follows, valueNumber, cellNumber, rangeNumber};
-ghost use Rattle.add.specs.Walking.{freeFrom, bodyBeyond, listChange, Takeable, RoomToTake, Standing, Copied, tookCell, passedCell, cellBytesOf, TookEntry, RoomForCell, Restages, Lifts, endOf, bytesOf, wordsOf};
+ghost use Rattle.add.specs.Walking.{bodyBeyond, listChange, Takeable, RoomToTake, Standing, Copied, tookCell, passedCell, cellBytesOf, TookEntry, RoomForCell, Restages, Lifts, bytesOf, wordsOf};
 
 // A range taken out of the list, and how many of those before it are to be asked whether they name one of its cells.
 pub struct Part {
@@ -742,21 +744,6 @@ pub struct Cursors {
     pub slot: usize,
     pub body: usize,
     pub made: usize,
-}
-
-// The lowest free entry slot from `from` on, or `slots`.
-fn next_free_slot(table: &[u32], slots: usize, from: usize) -> usize
-    requires { ⌜ (slots ≤ maxSlots) × (pairsAt slots ≤ length (now table)) × (from ≤ slots) ⌝ }
-    ensures { λ r. ⌜ r ≡ freeFrom slots (now (table .entry)) from ⌝ }
-{
-    let mut i = from;
-    while i < slots {
-        if first_word(table, slots, i) == 0 {
-            return i;
-        }
-        i += 1;
-    }
-    i
 }
 
 // The body of a new entry: the lowest without a mark from `from` on; for other kinds than copies the place stays.

@@ -1,7 +1,7 @@
 -- Laws of the list of the entries that advance: it is made in a pass over the entries, and gone through in the order of the cells. Assumes
 -- nothing.
 use Prim.Native.Nat.{ℕ, zero, suc, _+_, _*_, _≤_, _<_}
-use mathlib.Core.Bool.{Bool, true, cond}
+use mathlib.Core.Bool.{Bool, true, cond, _&&_}
 use mathlib.Core.List.{List, [], _++_, append-nil}
 use mathlib.Core.Path.{_≡_, refl, sym, ap, subst, _∙_}
 use native.Mathlib.Nat.{not-suc-le-zero}
@@ -65,6 +65,17 @@ gather-listed f g place (suc m) h =
     by-bool (f m)
     (λ y. rw y (λ i. rest i ++ g (h m (omega arith) y i) (count m f)))
     (λ y. rw y (rest ∙ sym (append-nil _)))
+
+-- and what is counted along the list is what is counted along the cells
+pub count-listed : (f P : ℕ → Bool) (place : ℕ → ℕ) (m : ℕ) → ((c : ℕ) → c < m → f c ≡ true → place (count c f) ≡ c)
+    → count (count m f) (λ r. P (place r)) ≡ count m (λ c. f c && P c)
+unfolding count
+count-listed f P place zero h = refl
+count-listed f P place (suc m) h =
+    let rest = count-listed f P place m (λ c l. h c (omega arith)) in
+    by-bool (f m)
+    (λ y. rw (y, h m (omega arith) y, rest))
+    (λ y. rw (y, rest))
 
 -- what the plan of r cells is long
 pub plans-length : (memory : List ℕ) (from to : ℕ → ℕ) (r : ℕ) → 64 * r ≡ length (gather r (λ k. cellPlan memory (from k) (to k)))

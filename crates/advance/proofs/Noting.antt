@@ -1,34 +1,34 @@
 -- Laws of the questions asked of the entries, and of the list by which the code settles which body each cell gets. Assumes nothing.
 use Prim.Native.Nat.{ℕ, _+_, _≤_, _<_}
-use mathlib.Core.Bool.{Bool, true, false, cond, not, _&&_, _||_}
+use mathlib.Core.Bool.{Bool, true, false, cond, not, _&&_}
 use mathlib.Core.List.{List, []}
 use mathlib.Core.Path.{_≡_, refl, sym, ap, subst, _∙_}
 use native.Mathlib.Omega.{arith}
-use borrow.Author.Tests.{eqb-true, leb-false, lt-ltb}
+use borrow.Author.Tests.{eq-eqb, eqb-true, leb-true, lt-ltb}
 use lib.Dec.{leb, ltb, eqb}
 use lib.ListN.{length, getD}
 use Rattle.words.specs.Layout.{maxCells, cellsOf, bodiesOf, slotsOf}
-use Rattle.words.specs.Scan.{all, count, nth}
+use Rattle.words.specs.Scan.{count, nth}
 use Rattle.words.specs.Stores.{gather}
 use Rattle.words.specs.Cells.{cellPlan}
-use Rattle.words.proofs.Scan.{by-bool, by-le, is-false, is-true, true≢, and-split, all-at, all-make, all-ext, all-stop, count-ext, count-le, count-stop}
+use Rattle.words.proofs.Scan.{by-bool, by-le, is-false, is-true, true≢, and-split, and-join, count-ext, count-le, count-none, count-stop}
 use Rattle.words.proofs.Gather.{gather-ext}
 use Rattle.words.proofs.Nth.{count-below, nth-holds, nth-rank, nth-ext}
-use Rattle.table.specs.Entry.{live, word1, word2, depthOf, writableOf, cellOf, innermost, parent, findIn, holdsIn, writesIn}
-use Rattle.table.specs.Marks.{Marks, Marked, FreeRun, EndsAt, IsCopy, cellIn, has, markAt}
-use Rattle.table.proofs.Entry.{holds-true}
-use Rattle.table.proofs.Rule.{Rule}
-use Rattle.table.proofs.Single.{find-self}
+use Rattle.table.specs.Entry.{live, word1, word2, depthOf, writableOf, cellOf, innermost, parent, hasParent, findIn, holdsIn, writesIn}
+use Rattle.table.specs.Marks.{Marks, Marked, FreeRun, EndsAt, IsCopy, cellIn}
+use Rattle.table.proofs.Entry.{names-make, holds-true}
+use Rattle.table.proofs.Rule.{Rule, ok-facts}
+use Rattle.table.proofs.Single.{only-one, find-self}
 use Rattle.table.proofs.Marks.{marked-holds}
-use Rattle.search.specs.Free.{bodyFree, copies, lowestFree, unmarked}
+use Rattle.search.specs.Free.{bodyFree, usedSlots, copies, lowestFree, unmarked}
 use Rattle.search.proofs.Free.{unmarked-free}
 use Rattle.values.specs.Values.{unchanged, writes, entryChanged}
 use Rattle.changes.specs.Staged.{isSet, Inside}
 use Rattle.model.specs.Answer.{ask}
 use Rattle.store.specs.Outcome.{Buffers, buffers}
-use Rattle.advance.specs.Advance.{advances, bodyFor, turns, turnsAt, changeWith, advanceBytes}
-use Rattle.advance.specs.Notes.{entriesCheck, TurnedBits, ListedSlots, rankOf, InOrder, changeTo}
-use Rattle.advance.proofs.Turning.{entry-of, advances-of, advances-cell, turning-count}
+use Rattle.advance.specs.Advance.{advances, parentLacks, gives, bodyFor, turns, turnsAt, turnWith, advanceBytes}
+use Rattle.advance.specs.Notes.{entryGiven, entriesCheck, givesIt, Comparable, byGroup, hasBit, TurnedBits, ChangedBits, ListedSlots, rankOf, InOrder, changeTo}
+use Rattle.advance.proofs.Turning.{entry-of, advances-of, advances-cell, gives-goes, turning-count}
 use Rattle.advance.proofs.Choosing.{enough}
 use Rattle.advance.proofs.Listing.{gather-listed}
 
@@ -56,11 +56,6 @@ module _ (e : ℕ) (t : List ℕ) (top : ℕ) (within : top ≤ e) (free : FreeR
           found = λ c h. let f = m .found c h in (f .0, omega (arith, f .1), f .2, f .3);
         }
 
-  pub covered-front : (n : ℕ) (P : ℕ → Bool) → all top (λ i. not (writes n (word1 e t i)) || P (word1 e t i)) ≡ all e (λ i. not (writes n (word1 e t i)) || P (word1 e t i))
-  covered-front n P =
-      all-stop e top (λ i. not (writes n (word1 e t i)) || P (word1 e t i)) within
-      (λ k l h. ap (λ (b : Bool). not b || P (word1 e t k)) (free-writes n k l h))
-
   -- an entry that turns is in front of them
   module _ (n : ℕ) (low : 1 ≤ n) (f : ℕ → Bool) where
     pub turns-front : (i : ℕ) → i < e → turns n f (word1 e t i) ≡ true → i < top
@@ -84,31 +79,13 @@ module _ (e : ℕ) (t : List ℕ) (top : ℕ) (within : top ≤ e) (free : FreeR
 
 -- ---- the questions, asked of the entries
 
--- questions 15 and 17, of the cells
+-- questions 16 and 17, of the cells
 abbrev pub cellsCheck : Buffers → ℕ
 cellsCheck b =
     let t = b .table in
     let e = slotsOf (length t) in
-    ask (leb (live t) 1 || all (cellsOf (length (b .memory))) (λ c. not (writesIn e t (live t) c) || holdsIn e t (parent (live t)) c)) 15
+    ask (leb (usedSlots e t + count (cellsOf (length (b .memory))) (gives b)) e) 16
     (ask (leb (copies e t + count (cellsOf (length (b .memory))) (advances b)) (bodiesOf (length (b .bodies)))) 17 0)
-
--- question 15, told by the marks of all entries
-pub covers : (e : ℕ) (t seen : List ℕ) (n : ℕ) → Marked e t e seen
-    → (leb n 1 || all e (λ i. not (writes n (word1 e t i)) || has (parent n) (markAt seen (word1 e t i)))) ≡ (leb n 1 || all e (λ i. not (writes n (word1 e t i)) || holdsIn e t (parent n) (cellOf (word1 e t i))))
-covers e t seen n told =
-    by-bool (leb n 1)
-    (λ y. rw y)
-    (λ y.
-    let outer = leb-false n 1 y in
-    rw y
-    (all-ext e (λ i. not (writes n (word1 e t i)) || has (parent n) (markAt seen (word1 e t i))) (λ i. not (writes n (word1 e t i)) || holdsIn e t (parent n) (cellOf (word1 e t i)))
-    (λ i l. ap (λ (x : Bool). not (writes n (word1 e t i)) || x) (marked-holds e t seen told (parent n) (cellOf (word1 e t i)) (omega arith)))))
-
-or-right : (x y : Bool) → x ≡ true → (not x || y) ≡ true → y ≡ true
-or-right x y z h = rw z at h
-
-or-make : (x y : Bool) → (x ≡ true → y ≡ true) → (not x || y) ≡ true
-or-make x y h = by-bool x (λ z. rw z (h z)) (λ z. rw z)
 
 module _ (m e b : ℕ) (t : List ℕ) (ok : Rule m e b t) (low : 1 ≤ live t) where
   -- the entries of which an entry's own words tell that they advance are those of the innermost domain whose cells do: first of the label
@@ -123,29 +100,52 @@ module _ (m e b : ℕ) (t : List ℕ) (ok : Rule m e b t) (low : 1 ≤ live t) w
       rw (y, holds-true e t (live t) c (rw at l), at))
       (λ y. rw y)
 
-  -- what holds of the cell of each read-write entry of it holds of each such cell, and the other way round
-  module _ (P : ℕ → Bool) where
-    abbrev byEntry : ℕ → Bool
-    byEntry i = not (writes (live t) (word1 e t i)) || P (cellOf (word1 e t i))
+  -- the bits that the entries that advance set tell which these are: no two entries of one depth have one cell
+  module _ (memory bodies groups : List ℕ) (bits : TurnedBits e t (entryChanged memory bodies e t (live t)) e groups) where
+    goes-deep : (i : ℕ) → entryChanged memory bodies e t (live t) i ≡ true → depthOf (word1 e t i) ≡ live t
+    goes-deep i z =
+        let w = word1 e t i in
+        eqb-true _ _ (and-split (eqb (depthOf w) (live t)) (eqb (writableOf w) 1) (and-split (writes (live t) w) _ z .0) .0)
 
-    abbrev byCell : ℕ → Bool
-    byCell c = not (writesIn e t (live t) c) || P c
+    turned-same : (i : ℕ) → i < e → turns (live t) (isSet groups) (word1 e t i) ≡ entryChanged memory bodies e t (live t) i
+    turned-same i l =
+        let w = word1 e t i in
+        by-bool (entryChanged memory bodies e t (live t) i)
+        (λ z.
+        and-join _ _ (eq-eqb _ _ (goes-deep i z)) (is-true (isSet groups (cellOf w)) (λ y. bits .clear (cellOf w) y i l z refl)) ∙ sym z)
+        (λ z.
+        is-false (turns (live t) (isSet groups) w) (λ y.
+        let s = and-split (eqb (depthOf w) (live t)) (isSet groups (cellOf w)) y in
+        let k = bits .found (cellOf w) (s .1) in
+        let j = k .0 in
+        let same : i ≡ j = only-one m e b t ok i j (live t) (cellOf w) low l (k .1) (names-make e t (live t) (cellOf w) w (eqb-true _ _ (s .0)) refl)
+        (names-make e t (live t) (cellOf w) (word1 e t j) (goes-deep j (k .2)) (k .3)) in
+        true≢ (subst (λ (x : ℕ). entryChanged memory bodies e t (live t) x ≡ true) (sym same) (k .2)) z)
+        ∙ sym z)
 
-    covers-cells : all e byEntry ≡ all m byCell
-    covers-cells =
-        by-bool (all m byCell)
+    -- with the marks of the cells held they tell how many cells are given outwards
+    given-told : (seen : List ℕ) → Marked e t e seen
+        → cond (hasParent (live t)) (count e (λ i. givesIt seen (live t) (isSet groups) (word1 e t i))) 0 ≡ count e (entryGiven memory bodies e t)
+    given-told seen marked =
+        by-bool (hasParent (live t))
         (λ y.
-        all-make e byEntry (λ i l. or-make (writes (live t) (word1 e t i)) (P (cellOf (word1 e t i))) (λ z.
-        let goes = advances-of m e b t ok (writesIn e t (live t)) (λ c h. h) low i (sym (writes-cell i l) ∙ z) in
-        or-right (writesIn e t (live t) (cellOf (word1 e t i))) (P (cellOf (word1 e t i))) goes
-        (all-at m byCell y (cellOf (word1 e t i)) (advances-cell m e b t ok (writesIn e t (live t)) (λ c h. h) (cellOf (word1 e t i)) goes))))
-        ∙ sym y)
-        (λ y.
-        is-false (all e byEntry) (λ z.
-        true≢ (all-make m byCell (λ c l. or-make (writesIn e t (live t) c) (P c) (λ a.
-        let s = entry-of m e b t ok (writesIn e t (live t)) (λ c h. h) c a in
-        subst (λ (x : ℕ). P x ≡ true) (s .3) (or-right (writes (live t) (word1 e t (s .0))) (P (cellOf (word1 e t (s .0)))) (writes-cell (s .0) (s .1) ∙ s .2) (all-at e byEntry z (s .0) (s .1)))))) y)
-        ∙ sym y)
+        let two = leb-true 2 (live t) y in
+        rw y
+        (count-ext e (λ i. givesIt seen (live t) (isSet groups) (word1 e t i)) (entryGiven memory bodies e t)
+        (λ i l.
+        let c = cellOf (word1 e t i) in
+        (λ k. turned-same i l k && not (marked-holds e t seen marked (parent (live t)) c (omega arith) k))
+        ∙ ap (λ (x : Bool). entryChanged memory bodies e t (live t) i && (x && not (holdsIn e t (parent (live t)) c))) (sym y))))
+        (λ y. rw y (sym (count-none e (entryGiven memory bodies e t) (λ i l. by-bool (entryChanged memory bodies e t (live t) i) (λ z. rw (z, y)) (λ z. rw z)))))
+
+-- the same where what comparing asks is there
+pub given-entries : (memory bodies : List ℕ) (e : ℕ) (t : List ℕ) (top : ℕ) (seen bits : List ℕ) → Comparable memory bodies e t top (live t) seen
+    → ChangedBits memory bodies e t (live t) seen bits
+    → cond (hasParent (live t)) (count e (λ i. givesIt seen (live t) (hasBit seen bits) (word1 e t i))) 0 ≡ count e (entryGiven memory bodies e t)
+given-entries memory bodies e t top seen bits p changed =
+    let m = cellsOf (length memory) in
+    let b = bodiesOf (length bodies) in
+    given-told m e b t (ok-facts m e b t (p .right)) (p .low) memory bodies (byGroup seen bits) (changed .turned) seen (p .marked)
 
 -- ---- the list, for any cells that the innermost domain holds read-write
 
@@ -196,6 +196,10 @@ room-unmarked m e b t used f ok room marks =
 
 -- ---- the cells that advance
 
+and-assoc : (x y z : Bool) → (x && y && z) ≡ (x && (y && z))
+and-assoc true y z = refl
+and-assoc false y z = refl
+
 -- the innermost domain holds each of them read-write
 pub advances-own : (b : Buffers) (c : ℕ) → advances b c ≡ true → writesIn (slotsOf (length (b .table))) (b .table) (live (b .table)) c ≡ true
 advances-own b c h = and-split (writesIn (slotsOf (length (b .table))) (b .table) (live (b .table)) c) _ h .0
@@ -221,17 +225,23 @@ module _ (memory bodies t : List ℕ) (ok : Rule (cellsOf (length memory)) (slot
   goes-cell i l =
       ap (λ (x : Bool). x && not (unchanged memory bodies e t (live t) (cellIn e t i))) (writes-cell m e b t ok low i l)
       ∙ and-assoc (eqb (depthOf (word1 e t i)) (live t)) (writesIn e t (live t) (cellIn e t i)) _
-    where
-      and-assoc : (x y z : Bool) → (x && y && z) ≡ (x && (y && z))
-      and-assoc true y z = refl
-      and-assoc false y z = refl
 
   goes-count : count e goes ≡ count m f
   goes-count = count-ext e goes (turnsAt e t f) goes-cell ∙ turning-count m e b t ok f (advances-own (buffers memory bodies t)) low
 
+  -- and so with those that are given outwards
+  given-cell : (i : ℕ) → i < e → entryGiven memory bodies e t i ≡ turnsAt e t (gives (buffers memory bodies t)) i
+  given-cell i l =
+      ap (λ (x : Bool). x && parentLacks e t (live t) (cellIn e t i)) (goes-cell i l)
+      ∙ and-assoc (eqb (depthOf (word1 e t i)) (live t)) (f (cellIn e t i)) _
+
+  pub given-count : count (slotsOf (length t)) (entryGiven memory bodies (slotsOf (length t)) t) ≡ count (cellsOf (length memory)) (gives (buffers memory bodies t))
+  given-count =
+      count-ext e (entryGiven memory bodies e t) (turnsAt e t (gives (buffers memory bodies t))) given-cell
+      ∙ turning-count m e b t ok (gives (buffers memory bodies t)) (λ c z. advances-own (buffers memory bodies t) c (gives-goes m e b t ok f (advances-own (buffers memory bodies t)) c z)) low
+
   pub entries-cells : entriesCheck memory bodies (slotsOf (length t)) t ≡ cellsCheck (buffers memory bodies t)
-  entries-cells =
-      λ i. ask (leb (live t) 1 || covers-cells m e b t ok low (holdsIn e t (parent (live t))) i) 15 (ask (leb (copies e t + goes-count i) b) 17 0)
+  entries-cells = λ i. ask (leb (usedSlots e t + given-count i) e) 16 (ask (leb (copies e t + goes-count i) b) 17 0)
 
   -- as many cells advance as entries, and no more than are in front of the free ones at the end
   pub advances-few : (top : ℕ) → EndsAt (slotsOf (length t)) t top → count (cellsOf (length memory)) (advances (buffers memory bodies t)) ≤ top
@@ -274,10 +284,10 @@ module _ (memory bodies t : List ℕ) (ok : Rule (cellsOf (length memory)) (slot
             let same = ap (λ (x : ℕ). getD places (count x f) 0) (sym (s .3)) ∙ list .place (s .0) (s .1) (s .2) in
             ap (cellIn e t) same ∙ s .3
 
-    -- once all are staged, the changes are the call's
+    -- once all are staged, so are all entries that become copies
     pub change-all : (i : ℕ) → i < slotsOf (length t)
         → changeTo (slotsOf (length t)) (bodiesOf (length bodies)) t used (advances (buffers memory bodies t)) n i
-        ≡ changeWith (slotsOf (length t)) t (advances (buffers memory bodies t)) (bodyFor (buffers memory bodies t)) i
+        ≡ turnWith (slotsOf (length t)) t (advances (buffers memory bodies t)) (bodyFor (buffers memory bodies t)) i
     unfolding changeTo lowestFree
     change-all i l =
         by-bool (turnsAt e t f i)

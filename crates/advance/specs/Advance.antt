@@ -1,16 +1,16 @@
 -- Advance: its questions, the bytes and words that it stores, and what it means.
 use Prim.Native.Nat.{ℕ, _+_}
-use mathlib.Core.Bool.{Bool, cond, not, _&&_, _||_}
+use mathlib.Core.Bool.{Bool, cond, not, _&&_}
 use mathlib.Core.List.{List, []}
-use lib.Dec.{leb, eqb}
+use lib.Dec.{leb, ltb, eqb}
 use lib.ListN.{length}
 use Rattle.words.specs.Layout.{cellsOf, bodiesOf, slotsOf, pairsAt}
-use Rattle.words.specs.Scan.{all, count}
+use Rattle.words.specs.Scan.{count}
 use Rattle.words.specs.Cells.{cellPlan}
 use Rattle.words.specs.Stores.{Store, gather}
-use Rattle.table.specs.Entry.{word1, depthOf, cellOf, asCopy, innermost, parent, isOutermost, holdsIn, writesIn}
+use Rattle.table.specs.Entry.{word1, word2, depthOf, cellOf, asCopy, outward, innermost, parent, hasParent, findIn, holdsIn, writesIn}
 use Rattle.table.specs.Changes.{Change, keep, put, entryChanges}
-use Rattle.search.specs.Free.{bodyFree, copies, lowestFree}
+use Rattle.search.specs.Free.{slotFree, bodyFree, usedSlots, copies, lowestFree, takerOf}
 use Rattle.values.specs.Values.{unchanged}
 use Rattle.model.specs.Answer.{ask, orElse, View}
 use Rattle.model.specs.Holdings.{advanceEffect}
@@ -26,16 +26,28 @@ advances b c =
     let e = slotsOf (length t) in
     writesIn e t (innermost t) c && not (unchanged (b .memory) (b .bodies) e t (innermost t) c)
 
--- questions 1 to 6, 15 and 17; 15 is put for every read-write cell, and 17 counts those that advance
+-- has the domain at depth d a parent, which lacks cell c?
+abbrev pub parentLacks : (e : ℕ) (t : List ℕ) → (d c : ℕ) → Bool
+parentLacks e t d c = hasParent d && not (holdsIn e t (parent d) c)
+
+-- "gives the next domain out each changed read-write cell that this one lacks": does cell c go there, where the cells that advance are those of which
+-- f holds?
+abbrev pub givesWith : (e : ℕ) (t : List ℕ) (f : ℕ → Bool) → ℕ → Bool
+givesWith e t f c = f c && parentLacks e t (innermost t) c
+
+abbrev pub gives : Buffers → ℕ → Bool
+gives b = givesWith (slotsOf (length (b .table))) (b .table) (advances b)
+
+-- questions 1 to 6, 16 and 17; 16 counts the cells that are given outwards, 17 those that advance
 unfoldable pub advanceCheck : Buffers → (h : ℕ) → ℕ
 advanceCheck b h =
     let t = b .table in
     let e = slotsOf (length t) in
+    let m = cellsOf (length (b .memory)) in
     orElse (storeCheck (lentOf b))
     (askInnermostIn t h
-    (ask (isOutermost (innermost t)
-    || all (cellsOf (length (b .memory))) (λ c. not (writesIn e t (innermost t) c) || holdsIn e t (parent (innermost t)) c)) 15
-    (ask (leb (copies e t + count (cellsOf (length (b .memory))) (advances b)) (bodiesOf (length (b .bodies)))) 17 0)))
+    (ask (leb (usedSlots e t + count m (gives b)) e) 16
+    (ask (leb (copies e t + count m (advances b)) (bodiesOf (length (b .bodies)))) 17 0)))
 
 -- where the cells that advance are those of which f holds, an entry with first word w advances, d being the innermost depth: it is of that depth,
 -- and its cell advances
@@ -46,22 +58,45 @@ abbrev pub turnsAt : (e : ℕ) (t : List ℕ) (f : ℕ → Bool) → ℕ → Boo
 turnsAt e t f i = turns (innermost t) f (word1 e t i)
 
 -- where `body c` is the one of the new copy of cell c: such an entry becomes a copy in the body of its cell; any other keeps kind and body
-abbrev pub changeWith : (e : ℕ) (t : List ℕ) (f : ℕ → Bool) (body : ℕ → ℕ) → ℕ → Change
-changeWith e t f body i = cond (turnsAt e t f i) (put (asCopy (word1 e t i)) (body (cellOf (word1 e t i)))) keep
+abbrev pub turnWith : (e : ℕ) (t : List ℕ) (f : ℕ → Bool) (body : ℕ → ℕ) → ℕ → Change
+turnWith e t f body i = cond (turnsAt e t f i) (put (asCopy (word1 e t i)) (body (cellOf (word1 e t i)))) keep
 
-abbrev pub wordsWith : Buffers → (body : ℕ → ℕ) → List Store
-wordsWith b body = entryChanges (slotsOf (length (b .table))) (changeWith (slotsOf (length (b .table))) (b .table) (advances b) body)
+-- the words of the entry by which cell c is given outwards: those of the innermost domain's entry, one depth further out. So the label is the old
+-- one, and the body or the rule, too
+abbrev pub givenFirst : ℕ → List ℕ → ℕ → ℕ
+givenFirst e t c = outward (word1 e t (findIn e t (innermost t) c))
+
+abbrev pub givenSecond : ℕ → List ℕ → ℕ → ℕ
+givenSecond e t c = word2 e t (findIn e t (innermost t) c)
+
+-- where `slot c` is the one of cell c: what is changed, `other`, and entry i besides, if its slot is taken by one of m cells, which is given outwards
+unfoldable pub giveWith : (m e : ℕ) (t : List ℕ) (f : ℕ → Bool) (slot : ℕ → ℕ) (other : ℕ → Change) → ℕ → Change
+giveWith m e t f slot other i =
+    let c = takerOf m (givesWith e t f) slot i in
+    cond (ltb c m) (put (givenFirst e t c) (givenSecond e t c)) (other i)
+
+-- the change of entry i: its slot is taken; else it becomes a copy, or stays
+abbrev pub changeWith : (m e : ℕ) (t : List ℕ) (f : ℕ → Bool) (slot body : ℕ → ℕ) → ℕ → Change
+changeWith m e t f slot body = giveWith m e t f slot (turnWith e t f body)
+
+abbrev pub wordsWith : Buffers → (slot body : ℕ → ℕ) → List Store
+wordsWith b slot body =
+    entryChanges (slotsOf (length (b .table)))
+    (changeWith (cellsOf (length (b .memory))) (slotsOf (length (b .table))) (b .table) (advances b) slot body)
 
 -- "bytes first: 64 for each copy taken .., rising by cell and byte"
 abbrev pub bytesWith : Buffers → (body : ℕ → ℕ) → List Store
 bytesWith b body = gather (cellsOf (length (b .memory))) (λ c. cond (advances b c) (cellPlan (b .memory) c (body c)) [])
 
--- the body that the new copy of cell c takes: the lowest free bodies, in the order of the cells
+-- the slot that cell c takes outwards, and the body that its new copy takes: the lowest free ones, in the order of the cells
+abbrev pub slotFor : Buffers → ℕ → ℕ
+slotFor b = lowestFree (slotsOf (length (b .table))) (slotFree (slotsOf (length (b .table))) (b .table)) (gives b)
+
 abbrev pub bodyFor : Buffers → ℕ → ℕ
 bodyFor b = lowestFree (bodiesOf (length (b .bodies))) (bodyFree (slotsOf (length (b .table))) (b .table)) (advances b)
 
 unfoldable pub advanceWords : Buffers → List Store
-advanceWords b = wordsWith b (bodyFor b)
+advanceWords b = wordsWith b (slotFor b) (bodyFor b)
 
 unfoldable pub advanceBytes : Buffers → List Store
 advanceBytes b = bytesWith b (bodyFor b)

@@ -1,34 +1,46 @@
 -- What the parts of advance's code pass on to each other: which cells advance, as bits; the list of the entries that advance, in the order of
 -- their cells; and what is staged for them.
 use Prim.Native.Nat.{ℕ, _+_, _*_, _≤_, _<_}
-use mathlib.Core.Bool.{Bool, true, false, cond, not, _||_}
+use mathlib.Core.Bool.{Bool, true, false, cond, not, _&&_}
 use mathlib.Core.Path.{_≡_}
 use mathlib.Core.List.{List}
 use lib.Dec.{leb, ltb}
 use lib.ListN.{length, getD, set}
-use Rattle.words.specs.Layout.{cellsOf, bodiesOf, slotsOf, pairsAt, maxSlots, groupAt, groupOf, inGroup}
-use Rattle.words.specs.Scan.{all, count}
+use Rattle.words.specs.Layout.{cellsOf, bodiesOf, slotsOf, pairsAt, maxSlots, maxLive, groupAt, groupOf, inGroup}
+use Rattle.words.specs.Scan.{count, nth}
 use Rattle.words.specs.Stores.{tab}
-use Rattle.table.specs.Entry.{live, word1, word2, cellOf, innermost, parent, isOutermost, holdsIn}
+use Rattle.table.specs.Entry.{live, word1, word2, depthOf, cellOf, outward, innermost, parent}
 use Rattle.marks.specs.Blocks.{blockOf, blockAt, maxGroups, Kept}
-use Rattle.table.specs.Marks.{Marks, Marked, IsCopy, EndsAt, cellIn}
+use Rattle.table.specs.Marks.{Marks, Marked, IsCopy, EndsAt, cellIn, has, markAt}
 use Rattle.table.specs.Rule.{ruleOk}
-use Rattle.table.specs.Changes.{Change, keep}
-use Rattle.search.specs.Free.{copies, lowestFree, unmarked}
-use Rattle.values.specs.Values.{writes, entryChanged}
-use Rattle.changes.specs.Staged.{withBit, isSet}
+use Rattle.table.specs.Changes.{Change, keep, put}
+use Rattle.search.specs.Free.{slotFree, usedSlots, copies, lowestFree, freeFrom, unmarked}
+use Rattle.values.specs.Values.{entryChanged}
+use Rattle.changes.specs.Staged.{withBit, isSet, Restaged, Stages}
 use Rattle.model.specs.Answer.{ask}
 use Rattle.store.specs.Outcome.{Buffers, Call, perform, changePlan}
 use Rattle.store.specs.Checks.{storeCheck, lentOf}
-use Rattle.advance.specs.Advance.{advances, turns, changeWith, advanceBytes, advanceWords}
+use Rattle.advance.specs.Advance.{advances, parentLacks, gives, turns, turnWith, advanceBytes, advanceWords}
 
 -- ---- the questions, asked of the entries
 
--- questions 15 and 17, asked of e entries
+-- does entry i advance, and is its cell given outwards?
+abbrev pub entryGiven : (memory bodies : List ℕ) (e : ℕ) → List ℕ → ℕ → Bool
+entryGiven memory bodies e t i = entryChanged memory bodies e t (innermost t) i && parentLacks e t (innermost t) (cellOf (word1 e t i))
+
+-- questions 16 and 17, asked of e entries
 abbrev pub entriesCheck : (memory bodies : List ℕ) (e : ℕ) → List ℕ → ℕ
 entriesCheck memory bodies e t =
-    ask (isOutermost (innermost t) || all e (λ i. not (writes (innermost t) (word1 e t i)) || holdsIn e t (parent (innermost t)) (cellOf (word1 e t i)))) 15
+    ask (leb (usedSlots e t + count e (entryGiven memory bodies e t)) e) 16
     (ask (leb (copies e t + count e (entryChanged memory bodies e t (innermost t))) (bodiesOf (length bodies))) 17 0)
+
+-- by marks of the cells: does the parent of depth d lack the cell of an entry with first word w? Is that cell given outwards, where the cells that
+-- advance are those of which f holds?
+abbrev pub lacksIt : (seen : List ℕ) (d w : ℕ) → Bool
+lacksIt seen d w = not (has (parent d) (markAt seen w))
+
+abbrev pub givesIt : (seen : List ℕ) (d : ℕ) (f : ℕ → Bool) (w : ℕ) → Bool
+givesIt seen d f w = turns d f w && lacksIt seen d w
 
 -- what comparing them asks, where n domains are live and the marks of all entries are in `seen`
 pub record Comparable (memory bodies : List ℕ) (e : ℕ) (t : List ℕ) (top n : ℕ) (seen : List ℕ) : Type 0 where
@@ -84,14 +96,18 @@ pub record CellBits (f : ℕ → Bool) (groups : List ℕ) : Type 0 where
 pub record Ready (b : Buffers) (used : List ℕ) : Type 0 where
   pub stands : storeCheck (lentOf b) ≡ 0
   pub lives : 1 ≤ live (b .table)
+  pub slots : usedSlots (slotsOf (length (b .table))) (b .table) + count (cellsOf (length (b .memory))) (gives b) ≤ slotsOf (length (b .table))
   pub room : copies (slotsOf (length (b .table))) (b .table) + count (cellsOf (length (b .memory))) (advances b) ≤ bodiesOf (length (b .bodies))
   pub marks : Marks (IsCopy (slotsOf (length (b .table))) (b .table)) (word2 (slotsOf (length (b .table))) (b .table)) 1 (slotsOf (length (b .table))) used
 
--- the cells that advance have their bits, at the blocks of their groups, and no entry from `top` on is in use
-pub record Told (b : Buffers) (top : ℕ) (seen bits : List ℕ) : Type 0 where
+-- the cells that advance have their bits, at the blocks of their groups; `given` of them are given outwards; the cells held are marked; and no entry
+-- from `top` on is in use
+pub record Told (b : Buffers) (top given : ℕ) (seen bits : List ℕ) : Type 0 where
   pub cells : CellBits (advances b) (byGroup seen bits)
   pub blocks : BlockBits seen bits
   pub ends : EndsAt (slotsOf (length (b .table))) (b .table) top
+  pub marked : Marked (slotsOf (length (b .table))) (b .table) (slotsOf (length (b .table))) seen
+  pub number : given ≡ count (cellsOf (length (b .memory))) (gives b)
 
 -- it is carried out
 abbrev pub performed : Buffers → Call
@@ -131,4 +147,45 @@ RoomForListed n places words bits = ((r : ℕ) → r < n → getD places r 0 < g
 
 -- the change of entry i once the first r entries of the list are staged: of b bodies, each takes the lowest unmarked one that is left
 unfoldable pub changeTo : (e b : ℕ) → (t used : List ℕ) → (f : ℕ → Bool) → (r i : ℕ) → Change
-changeTo e b t used f r i = cond (ltb (rankOf e t f i) r) (changeWith e t f (lowestFree b (unmarked used) f) i) keep
+changeTo e b t used f r i = cond (ltb (rankOf e t f i) r) (turnWith e t f (lowestFree b (unmarked used) f) i) keep
+
+-- ---- what is given outwards
+
+-- by the marks: does the parent lack the cell of the k-th entry of the list?
+abbrev pub lacksAt : (e : ℕ) (t seen places : List ℕ) → ℕ → Bool
+lacksAt e t seen places k = lacksIt seen (innermost t) (word1 e t (getD places k 0))
+
+-- there is a free slot for the cell of each of the n entries listed that the parent lacks, with room to stage it; `given` tells whether there is any
+pub record Givable (e : ℕ) (t : List ℕ) (n given : ℕ) (places seen words bits : List ℕ) : Type 0 where
+  pub kept : Kept seen
+  pub low : 1 ≤ live t
+  pub high : live t ≤ maxLive
+  pub slot : (r : ℕ) → r < n → getD places r 0 < e
+  pub depth : (r : ℕ) → r < n → depthOf (word1 e t (getD places r 0)) ≡ live t
+  pub enough : (given ≡ 0 → ⊥) → count n (lacksAt e t seen places) ≤ count e (slotFree e t)
+  pub room : (given ≡ 0 → ⊥) → (k : ℕ) → k < count n (lacksAt e t seen places) → nth e (slotFree e t) k < groupAt (length bits)
+  pub long : 2 * groupAt (length bits) ≤ length words
+
+-- the cell of entry i goes to the next free slot, or is passed over; `next` is where the search for the one after it begins
+pub record GivenOne (e : ℕ) (t : List ℕ) (lacks : Bool) (i at next : ℕ) (words bits words′ bits′ : List ℕ) : Type 0 where
+  pub put : lacks ≡ true → Restaged words bits (freeFrom e t at) (put (outward (word1 e t i)) (word2 e t i)) words′ bits′
+  pub on : lacks ≡ true → next ≡ freeFrom e t at + 1
+  pub kept : lacks ≡ false → (next ≡ at) × (words′ ≡ words) × (bits′ ≡ bits)
+
+-- once the first r of the n entries listed are: the k-th free slot takes the k-th of them whose cell the parent lacks; the rest is `other`
+unfoldable pub giveTo : (e : ℕ) (t seen places : List ℕ) (n r : ℕ) (other : ℕ → Change) → ℕ → Change
+giveTo e t seen places n r other i =
+    let j = getD places (nth n (lacksAt e t seen places) (count i (slotFree e t))) 0 in
+    cond (slotFree e t i && ltb (count i (slotFree e t)) (count r (lacksAt e t seen places))) (put (outward (word1 e t j)) (word2 e t j)) (other i)
+
+-- whatever was staged, what is given outwards is now, too
+pub record GivenListed (e : ℕ) (t : List ℕ) (n given : ℕ) (places seen words bits words′ bits′ : List ℕ) : Type 0 where
+  pub none : given ≡ 0 → (words′ ≡ words) × (bits′ ≡ bits)
+  pub some : (given ≡ 0 → ⊥) → (other : ℕ → Change) → Stages e other words bits → Stages e (giveTo e t seen places n n other) words′ bits′
+
+-- what a call that gives cells outwards has before it: the marks of the cells held, how many it gives, and room to stage the slots that they take
+pub record Outwards (b : Buffers) (given : ℕ) (seen bits : List ℕ) : Type 0 where
+  pub kept : Kept seen
+  pub marked : Marked (slotsOf (length (b .table))) (b .table) (slotsOf (length (b .table))) seen
+  pub number : given ≡ count (cellsOf (length (b .memory))) (gives b)
+  pub room : (k : ℕ) → k < given → nth (slotsOf (length (b .table))) (slotFree (slotsOf (length (b .table))) (b .table)) k < groupAt (length bits)

@@ -1,5 +1,6 @@
 // Advance: every read-write cell of the innermost domain whose value memory has no more gets memory's bytes, as a copy in a body that was free. The
-// others have them already, and keep kind and body.
+// others have them already, and keep kind and body. Of those that change, the next domain out gets what it lacks, as it was: by an entry with the
+// old words, so that the old body changes owner and is not copied.
 //
 // A body in use is never written, so that a cut leaves the old copies whole. The questions are asked of the entries and not of the cells: there
 // may be 65,536 cells, but no more than 4,096 entries. Each innermost read-write entry is compared with memory once (values): by its own body or
@@ -7,7 +8,8 @@
 // a number, and there is a number for each block of the marks that question 4 made: so they cost what the table has and not what memory has. A
 // walk over the groups that have a block notes how many bits there are up to the end of each. That tells the rank of each cell, and a pass over
 // the entries lists the slots of those that advance in the order of their cells. Along the list each cell is copied into the lowest body that is
-// free, and its entry is staged with that body. Then the staged words are written by the journal.
+// free, and its entry is staged with that body; along it, too, the cells that the marks say the parent lacks are staged for the lowest free slots. Then
+// the staged words are written by the journal.
 use changes::few_bits;
 use changes::few_words;
 use changes::many_bits;
@@ -29,6 +31,7 @@ use marks::past_blank;
 use marks::some_marks;
 use search::count_used;
 use search::next_free_body;
+use search::next_free_slot;
 use search::notes::few_notes;
 use search::notes::many_notes;
 use search::notes::no_notes;
@@ -38,16 +41,18 @@ use store::answer_of;
 use store::innermost_check;
 use store::store_check;
 use table::FEW_SLOTS;
+use table::domains::is_inner;
 use table::domains::parent_of;
 use table::fields::cell_of;
 use table::fields::depth_of;
 use table::fields::is_via;
+use table::fields::move_out;
 use table::fields::to_copy;
 use table::first_word;
 use table::no_bodies;
 use table::reach_of;
+use table::second_word;
 use values::entry_changed;
-use values::writes_word;
 use words::copy_cell;
 use words::layout::CELL_SIZE;
 use words::layout::GROUP_SIZE;
@@ -58,7 +63,7 @@ use words::layout::slots_of;
 use words::remaining;
 use words::wide;
 ghost use mathlib.Core.Path.{_≡_};
-ghost use mathlib.Core.Bool.{true, not, _||_};
+ghost use mathlib.Core.Bool.{true, cond};
 ghost use Prim.Native.Nat.{ℕ, _+_, _*_, _≤_, _<_, min};
 ghost use lib.Dec.{eqb};
 ghost use lib.ListN.{length, take, getD};
@@ -66,39 +71,24 @@ ghost use Rattle.words.specs.Layout.{cellAt, cellsOf, bodiesOf, slotsOf, pairsA
 ghost use Rattle.words.specs.Scan.{all, count, nth};
 ghost use Rattle.words.specs.Stores.{stores, gather};
 ghost use Rattle.words.specs.Cells.{cellPlan};
-ghost use Rattle.table.specs.Entry.{live, word1, parent, isOutermost, cellOf, asCopy};
+ghost use Rattle.table.specs.Entry.{live, word1, depthOf, hasParent, cellOf, asCopy};
 ghost use Rattle.marks.specs.Blocks.{blockOf, blockAt, maxGroups, directoryEnd, Kept, Enough};
-ghost use Rattle.table.specs.Marks.{Blank, CellsOnce, EndsAt, Reached, RoomForMarks, cellIn, has, markAt, zeros};
+ghost use Rattle.table.specs.Marks.{Blank, CellsOnce, EndsAt, Reached, RoomForMarks, cellIn, zeros};
 ghost use Rattle.table.specs.Changes.{keep, put};
-ghost use Rattle.search.specs.Free.{unmarked};
-ghost use Rattle.values.specs.Values.{writes, entryChanged};
+ghost use Rattle.search.specs.Free.{freeFrom, endOf, unmarked};
+ghost use Rattle.values.specs.Values.{entryChanged};
 ghost use Rattle.changes.specs.Staged.{RoomFor, Inside, Restaged, Stages};
 ghost use Rattle.store.specs.Outcome.{buffers, report, Makes};
 ghost use Rattle.store.specs.Means.{Shows};
 ghost use Rattle.advance.specs.Advance.{advances, advanceCheck, advanceCall, advanceMeans};
-ghost use Rattle.advance.specs.Notes.{entriesCheck, Comparable, byGroup, hasBit, BlockBits, markTurning, ChangedBits, Ready, Told, performed, Ends, listSlot, ListedSlots, InOrder, RoomForListed, changeTo};
+ghost use Rattle.advance.specs.Notes.{entryGiven, entriesCheck, lacksIt, givesIt, Comparable, byGroup, hasBit, BlockBits, markTurning, ChangedBits, Ready, Told, performed, Ends, listSlot, ListedSlots, InOrder, RoomForListed, changeTo, Givable, GivenOne, GivenListed, Outwards};
 
 // ---- the questions: 0, or the number of the first no
 
-// What question 15 asks: does the parent, if there is one, hold the cell of every innermost read-write entry, as the marks of these cells tell? It
-// takes no branch on what an entry holds. No entry from `top` on is in use.
-fn parent_covers(table: &[u32], slots: usize, top: usize, live: u32, seen: &[u8]) -> bool
-    requires { ⌜ (slots ≤ maxSlots) × (pairsAt slots ≤ length (now table)) × (1 ≤ live) × (live ≤ maxLive) × EndsAt slots (now table) top × Kept (now seen) ⌝ }
-    ensures { λ r. ⌜ r ≡ (isOutermost live
-        || all slots (λ i. not (writes live (word1 slots (now (table .entry)) i)) || has (parent live) (markAt (now (seen .entry)) (word1 slots (now (table .entry)) i)))) ⌝ }
-{
-    if live <= 1 {
-        return true;
-    }
-    let mut good = true;
-    let mut i: usize = 0;
-    while i < top {
-        let word = first_word(table, slots, i);
-        let held = has_depth(mark_of(seen, cell_of(word)), parent_of(live));
-        good = good & (!writes_word(word, live) | held);
-        i += 1;
-    }
-    good
+// What the questions find: 0, or the number of the first no; and, where it is 0, how many cells are given outwards.
+struct Asked {
+    no: u32,
+    given: usize,
 }
 
 // Sets the bit of an entry's cell where the entry advances, in the number of its group's block. Any other entry sets no bit: also a free one, whose
@@ -277,7 +267,53 @@ fn changed_cells(
     changed_many(memory, bodies, table, slots, top, live, seen, bits)
 }
 
-// Questions 15 and 17, asked of the entries: a right table has as many entries that advance as such cells. The bits of the cells of these entries
+// Has a cell its bit?
+fn has_bit(seen: &[u8], bits: &[u64], cell: usize) -> bool
+    requires { ⌜ BlockBits (now seen) (now bits) × (cell < maxCells) ⌝ }
+    ensures { λ r. ⌜ r ≡ hasBit (now (seen .entry)) (now (bits .entry)) cell ⌝ }
+{
+    let b = block_of(seen, group_of(cell));
+    (bits[b] >> (cell % GROUP_SIZE)) % 2 == 1
+}
+
+// Does the parent lack the cell of an entry, as the marks of the cells tell?
+fn parent_lacks(seen: &[u8], word: u32, live: u32) -> bool
+    requires { ⌜ Kept (now seen) × (1 ≤ live) × (live ≤ maxLive) ⌝ }
+    ensures { λ r. ⌜ r ≡ lacksIt (now (seen .entry)) live word ⌝ }
+{
+    !has_depth(mark_of(seen, cell_of(word)), parent_of(live))
+}
+
+// How many cells are given outwards: those of the entries that advance, which have their bits, where there is a parent and it lacks them. It takes no
+// branch on what an entry holds. No entry from `top` on is in use.
+fn count_given(
+    table: &[u32],
+    slots: usize,
+    top: usize,
+    live: u32,
+    seen: &[u8],
+    bits: &[u64],
+) -> usize
+    requires small { ⌜ (slots ≤ maxSlots) × (pairsAt slots ≤ length (now table)) × (1 ≤ live) × (live ≤ maxLive) × EndsAt slots (now table) top ⌝ }
+    requires sized { ⌜ BlockBits (now seen) (now bits) ⌝ }
+    ensures { λ r. ⌜ r ≡ cond (hasParent live)
+        (count slots (λ i. givesIt (now (seen .entry)) live (hasBit (now (seen .entry)) (now (bits .entry))) (word1 slots (now (table .entry)) i))) 0 ⌝ }
+{
+    if !is_inner(live) {
+        return 0;
+    }
+    let mut n: usize = 0;
+    let mut i: usize = 0;
+    while i < top {
+        let word = first_word(table, slots, i);
+        let goes = (depth_of(word) == live) & has_bit(seen, bits, cell_of(word));
+        n += (goes & parent_lacks(seen, word, live)) as usize;
+        i += 1;
+    }
+    n
+}
+
+// Questions 16 and 17, asked of the entries: a right table has as many entries that advance as such cells. The bits of the cells of these entries
 // are set on the way.
 fn entries_check(
     memory: &[u8],
@@ -287,25 +323,28 @@ fn entries_check(
     top: usize,
     seen: &[u8],
     bits: &mut [u64],
-) -> u32
+) -> Asked
     requires { ⌜ Comparable (now memory) (now bodies) slots (now table) top (live (now table)) (now seen) ⌝ }
     requires { ⌜ (length (now seen) ≤ blockAt (length (now bits))) × Blank (now bits) ⌝ }
-    ensures no { λ r. ⌜ r ≡ entriesCheck (now (memory .entry)) (now (bodies .entry)) slots (now (table .entry)) ⌝ }
-    ensures bits { λ r. ⌜ (r ≡ 0 → ChangedBits (now (memory .entry)) (now (bodies .entry)) slots (now (table .entry)) (live (now (table .entry))) (now (seen .entry)) (now (bits .exit))) ⌝ }
+    ensures no { λ r. ⌜ r .no ≡ entriesCheck (now (memory .entry)) (now (bodies .entry)) slots (now (table .entry)) ⌝ }
+    ensures given { λ r. ⌜ r .given ≡ count slots (entryGiven (now (memory .entry)) (now (bodies .entry)) slots (now (table .entry))) ⌝ }
+    ensures bits { λ _. ⌜ ChangedBits (now (memory .entry)) (now (bodies .entry)) slots (now (table .entry)) (live (now (table .entry))) (now (seen .entry)) (now (bits .exit)) ⌝ }
 {
     let live = table[LIVE_AT];
-    if !parent_covers(table, slots, top, live, seen) {
-        return 15;
-    }
     let k = changed_cells(memory, bodies, table, slots, top, live, seen, bits);
+    let given = count_given(table, slots, top, live, seen, bits);
     let used = count_used(table, slots, top);
-    if bodies_of(bodies.len()) < used.copies + k {
-        return 17;
+    if slots < used.entries + given {
+        return Asked { no: 16, given };
     }
-    0
+    if bodies_of(bodies.len()) < used.copies + k {
+        return Asked { no: 17, given };
+    }
+    Asked { no: 0, given }
 }
 
-// The questions put to advance. Once no question refuses the call, the bodies in use are marked, and the cells that advance have their bits.
+// The questions put to advance. Once no question refuses the call, the bodies in use and the cells held are marked, the cells that advance have
+// their bits, and those given outwards are counted.
 fn advance_check(
     memory: &[u8],
     bodies: &[u8],
@@ -315,20 +354,23 @@ fn advance_check(
     seen: &mut [u8],
     used: &mut [u8],
     bits: &mut [u64],
-) -> u32
+) -> Asked
     requires room { ⌜ RoomForMarks (now table) (cellsOf (length (now memory))) top (now seen) (now used) ⌝ }
     requires blank { ⌜ (length (now seen) ≤ blockAt (length (now bits))) × Blank (now bits) ⌝ }
-    ensures no { λ r. ⌜ r ≡ advanceCheck (buffers (now (memory .entry)) (now (bodies .entry)) (now (table .entry))) handle ⌝ }
-    ensures ready { λ r. ⌜ (r ≡ 0 → Ready (buffers (now (memory .entry)) (now (bodies .entry)) (now (table .entry))) (now (used .exit))
-        × Told (buffers (now (memory .entry)) (now (bodies .entry)) (now (table .entry))) top (now (seen .exit)) (now (bits .exit))) ⌝ }
+    ensures no { λ r. ⌜ r .no ≡ advanceCheck (buffers (now (memory .entry)) (now (bodies .entry)) (now (table .entry))) handle ⌝ }
+    ensures ready { λ r. ⌜ (r .no ≡ 0 → Ready (buffers (now (memory .entry)) (now (bodies .entry)) (now (table .entry))) (now (used .exit))
+        × Told (buffers (now (memory .entry)) (now (bodies .entry)) (now (table .entry))) top (r .given) (now (seen .exit)) (now (bits .exit))) ⌝ }
 {
     let no = store_check(memory.len(), bodies.len(), table, top, seen, used);
     if no != 0 {
-        return no;
+        return Asked { no, given: 0 };
     }
     let outer = innermost_check(table, handle);
     if outer != 0 {
-        return outer;
+        return Asked {
+            no: outer,
+            given: 0,
+        };
     }
     entries_check(
         memory,
@@ -372,15 +414,6 @@ fn rank_of(seen: &[u8], bits: &[u64], ends: &[u16], cell: usize) -> usize
 {
     let b = block_of(seen, group_of(cell));
     ends[b] as usize - wide(u64::count_ones(bits[b] >> (cell % GROUP_SIZE)))
-}
-
-// Has a cell its bit?
-fn has_bit(seen: &[u8], bits: &[u64], cell: usize) -> bool
-    requires { ⌜ BlockBits (now seen) (now bits) × (cell < maxCells) ⌝ }
-    ensures { λ r. ⌜ r ≡ hasBit (now (seen .entry)) (now (bits .entry)) cell ⌝ }
-{
-    let b = block_of(seen, group_of(cell));
-    (bits[b] >> (cell % GROUP_SIZE)) % 2 == 1
 }
 
 // Puts slot i into the list if its entry advances, at the rank of its cell: if it is innermost, and its cell has its bit.
@@ -503,13 +536,82 @@ fn copy_listed(
     }
 }
 
-// Copies the cells of the n entries listed, stages these entries and writes the staged words.
+// ---- the cells that are given outwards
+
+// Gives the cell of entry i outwards, if the parent lacks it: the words of the entry, one depth further out, are staged for the lowest free slot from
+// `at` on. So its body changes owner, and is not copied. Returns where the search for the next free slot begins.
+fn give_one(
+    table: &[u32],
+    slots: usize,
+    live: u32,
+    seen: &[u8],
+    i: usize,
+    at: usize,
+    words: &mut [u32],
+    changed: &mut [u64],
+) -> usize
+    requires small { ⌜ (i < slots) × (slots ≤ maxSlots) × (pairsAt slots ≤ length (now table)) × (at ≤ slots) ⌝ }
+    requires held { ⌜ Kept (now seen) × (1 ≤ live) × (live ≤ maxLive) × (depthOf (word1 slots (now table) i) ≡ live) ⌝ }
+    requires room { ⌜ (lacksIt (now seen) live (word1 slots (now table) i) ≡ true
+        → (freeFrom slots (now table) at < slots) × RoomFor (freeFrom slots (now table) at + 1) (now words) (now changed)) ⌝ }
+    ensures { λ r. ⌜ GivenOne slots (now (table .entry)) (lacksIt (now (seen .entry)) live (word1 slots (now (table .entry)) i)) i at r
+        (now (words .entry)) (now (changed .entry)) (now (words .exit)) (now (changed .exit)) ⌝ }
+{
+    let word = first_word(table, slots, i);
+    if !parent_lacks(seen, word, live) {
+        return at;
+    }
+    let slot = next_free_slot(table, slots, at);
+    stage_entry(
+        words,
+        changed,
+        slot,
+        move_out(word),
+        second_word(table, slots, i),
+    );
+    slot + 1
+}
+
+// Gives the cells of the n entries listed outwards that the parent lacks, `given` of them, in the order of the cells. Most often there is none.
+fn give_listed(
+    table: &[u32],
+    slots: usize,
+    places: &[u16],
+    n: usize,
+    given: usize,
+    seen: &[u8],
+    words: &mut [u32],
+    changed: &mut [u64],
+)
+    requires small { ⌜ (slots ≤ maxSlots) × (pairsAt slots ≤ length (now table)) × (n ≤ slots) × (n ≤ length (now places)) ⌝ }
+    requires listed { ⌜ Givable slots (now table) n given (now places) (now seen) (now words) (now changed) ⌝ }
+    ensures { λ _. ⌜ GivenListed slots (now (table .entry)) n given (now (places .entry)) (now (seen .entry))
+        (now (words .entry)) (now (changed .entry)) (now (words .exit)) (now (changed .exit)) ⌝ }
+{
+    if given == 0 {
+        return;
+    }
+    let live = table[LIVE_AT];
+    let mut at: usize = 0;
+    let mut r: usize = 0;
+    while r < n {
+        let i = places[r] as usize;
+        at = give_one(table, slots, live, seen, i, at, words, changed);
+        r += 1;
+    }
+}
+
+// ---- the call, carried out
+
+// Copies the cells of the n entries listed, stages these entries and those given outwards, and writes the staged words.
 fn store_listed(
     memory: &[u8],
     bodies: &mut [u8],
     table: &mut [u32],
     places: &[u16],
     n: usize,
+    given: usize,
+    seen: &[u8],
     used: &[u8],
     words: &mut [u32],
     changed: &mut [u64],
@@ -518,6 +620,7 @@ fn store_listed(
     requires ready { ⌜ Ready (buffers (now memory) (now bodies) (now table)) (now used) × (length (now used) ≡ maxBodies) ⌝ }
     requires listed { ⌜ InOrder (slotsOf (length (now table))) (now table) (advances (buffers (now memory) (now bodies) (now table))) n (now places) × (n ≤ length (now places)) ⌝ }
     requires counted { ⌜ n ≡ count (cellsOf (length (now memory))) (advances (buffers (now memory) (now bodies) (now table))) ⌝ }
+    requires outwards { ⌜ Outwards (buffers (now memory) (now bodies) (now table)) given (now seen) (now changed) ⌝ }
     requires room { ⌜ RoomForListed n (now places) (now words) (now changed) ⌝ }
     requires blank { ⌜ Stages 0 (λ _. keep) (now words) (now changed) ⌝ }
     ensures { λ r. ⌜ Makes performed budget (buffers (now (memory .entry)) (now (bodies .entry)) (now (table .entry)))
@@ -536,6 +639,7 @@ fn store_listed(
         changed,
         budget,
     );
+    give_listed(table, slots, places, n, given, seen, words, changed);
     let left = remaining(budget, CELL_SIZE * n);
     let steps = write_staged(table, slots, no_head(), words, changed, left);
     answer_of(CELL_SIZE * n + steps, 0, budget)
@@ -543,13 +647,14 @@ fn store_listed(
 
 // ---- the call
 
-// Advance once no question refuses it, with what it is lent: the marks of the bodies in use and the bits of the cells that advance, and room for
-// the numbers of the blocks, for the list and for the staged words.
+// Advance once no question refuses it, with what it is lent: the marks of the cells held and of the bodies in use, the bits of the cells that advance,
+// how many are given outwards, and room for the numbers of the blocks, for the list and for the staged words.
 fn advance_marked(
     memory: &[u8],
     bodies: &mut [u8],
     table: &mut [u32],
     top: usize,
+    given: usize,
     seen: &[u8],
     used: &[u8],
     bits: &[u64],
@@ -560,9 +665,9 @@ fn advance_marked(
     budget: usize,
 ) -> Answer
     requires ready { ⌜ Ready (buffers (now memory) (now bodies) (now table)) (now used) × (length (now used) ≡ maxBodies) ⌝ }
-    requires told { ⌜ Told (buffers (now memory) (now bodies) (now table)) top (now seen) (now bits) ⌝ }
+    requires told { ⌜ Told (buffers (now memory) (now bodies) (now table)) top given (now seen) (now bits) ⌝ }
     requires list { ⌜ (length (now ends) ≡ length (now bits)) × (top ≤ length (now places)) ⌝ }
-    requires room { ⌜ RoomFor top (now words) (now changed) ⌝ }
+    requires room { ⌜ RoomFor top (now words) (now changed) × (endOf (slotsOf (length (now table))) given top ≤ groupAt (length (now changed))) ⌝ }
     requires blank { ⌜ Stages 0 (λ _. keep) (now words) (now changed) ⌝ }
     ensures { λ r. ⌜ Makes performed budget (buffers (now (memory .entry)) (now (bodies .entry)) (now (table .entry)))
         (report r) (buffers (now (memory .entry)) (now (bodies .exit)) (now (table .exit))) ⌝ }
@@ -576,6 +681,8 @@ fn advance_marked(
         table,
         places,
         n,
+        given,
+        seen,
         used,
         words,
         changed,
@@ -630,6 +737,7 @@ fn store_few(
     bodies: &mut [u8],
     table: &mut [u32],
     top: usize,
+    given: usize,
     seen: &[u8],
     used: &[u8],
     bits: &[u64],
@@ -637,8 +745,8 @@ fn store_few(
     budget: usize,
 ) -> Answer
     requires ready { ⌜ Ready (buffers (now memory) (now bodies) (now table)) (now used) × (length (now used) ≡ maxBodies) ⌝ }
-    requires told { ⌜ Told (buffers (now memory) (now bodies) (now table)) top (now seen) (now bits) ⌝ }
-    requires sized { ⌜ (length (now ends) ≡ length (now bits)) × (top ≤ 256) ⌝ }
+    requires told { ⌜ Told (buffers (now memory) (now bodies) (now table)) top given (now seen) (now bits) ⌝ }
+    requires sized { ⌜ (length (now ends) ≡ length (now bits)) × (top + given ≤ 256) ⌝ }
     ensures { λ r. ⌜ Makes performed budget (buffers (now (memory .entry)) (now (bodies .entry)) (now (table .entry)))
         (report r) (buffers (now (memory .entry)) (now (bodies .exit)) (now (table .exit))) ⌝ }
 {
@@ -650,6 +758,7 @@ fn store_few(
         bodies,
         table,
         top,
+        given,
         seen,
         used,
         bits,
@@ -667,6 +776,7 @@ fn store_many(
     bodies: &mut [u8],
     table: &mut [u32],
     top: usize,
+    given: usize,
     seen: &[u8],
     used: &[u8],
     bits: &[u64],
@@ -674,7 +784,7 @@ fn store_many(
     budget: usize,
 ) -> Answer
     requires ready { ⌜ Ready (buffers (now memory) (now bodies) (now table)) (now used) × (length (now used) ≡ maxBodies) ⌝ }
-    requires told { ⌜ Told (buffers (now memory) (now bodies) (now table)) top (now seen) (now bits) ⌝ }
+    requires told { ⌜ Told (buffers (now memory) (now bodies) (now table)) top given (now seen) (now bits) ⌝ }
     requires sized { ⌜ length (now ends) ≡ length (now bits) ⌝ }
     ensures { λ r. ⌜ Makes performed budget (buffers (now (memory .entry)) (now (bodies .entry)) (now (table .entry)))
         (report r) (buffers (now (memory .entry)) (now (bodies .exit)) (now (table .exit))) ⌝ }
@@ -687,6 +797,7 @@ fn store_many(
         bodies,
         table,
         top,
+        given,
         seen,
         used,
         bits,
@@ -718,6 +829,7 @@ fn advance_stored(
     bodies: &mut [u8],
     table: &mut [u32],
     top: usize,
+    given: usize,
     seen: &[u8],
     used: &[u8],
     bits: &[u64],
@@ -725,7 +837,7 @@ fn advance_stored(
     budget: usize,
 ) -> Answer
     requires ready { ⌜ Ready (buffers (now memory) (now bodies) (now table)) (now used) × (length (now used) ≡ maxBodies) ⌝ }
-    requires told { ⌜ Told (buffers (now memory) (now bodies) (now table)) top (now seen) (now bits) ⌝ }
+    requires told { ⌜ Told (buffers (now memory) (now bodies) (now table)) top given (now seen) (now bits) ⌝ }
     requires sized { ⌜ length (now ends) ≡ length (now bits) ⌝ }
     ensures { λ r. ⌜ Makes performed budget (buffers (now (memory .entry)) (now (bodies .entry)) (now (table .entry)))
         (report r) (buffers (now (memory .entry)) (now (bodies .exit)) (now (table .exit))) ⌝ }
@@ -733,10 +845,32 @@ fn advance_stored(
     if none_set(bits) {
         return answer_of(0, 0, budget);
     }
-    if top <= FEW_SLOTS {
-        return store_few(memory, bodies, table, top, seen, used, bits, ends, budget);
+    if top + given <= FEW_SLOTS {
+        return store_few(
+            memory,
+            bodies,
+            table,
+            top,
+            given,
+            seen,
+            used,
+            bits,
+            ends,
+            budget,
+        );
     }
-    store_many(memory, bodies, table, top, seen, used, bits, ends, budget)
+    store_many(
+        memory,
+        bodies,
+        table,
+        top,
+        given,
+        seen,
+        used,
+        bits,
+        ends,
+        budget,
+    )
 }
 
 // Advance with what it is lent: room for marks, and for two numbers of each of their blocks.
@@ -758,11 +892,22 @@ fn advance_asked(
     ensures { λ r. ⌜ Makes (advanceCall handle) budget (buffers (now (memory .entry)) (now (bodies .entry)) (now (table .entry)))
         (report r) (buffers (now (memory .entry)) (now (bodies .exit)) (now (table .exit))) ⌝ }
 {
-    let no = advance_check(memory, bodies, table, top, handle, seen, used, bits);
-    if no != 0 {
-        return Answer::Refused(no);
+    let asked = advance_check(memory, bodies, table, top, handle, seen, used, bits);
+    if asked.no != 0 {
+        return Answer::Refused(asked.no);
     }
-    advance_stored(memory, bodies, table, top, seen, used, bits, ends, budget)
+    advance_stored(
+        memory,
+        bodies,
+        table,
+        top,
+        asked.given,
+        seen,
+        used,
+        bits,
+        ends,
+        budget,
+    )
 }
 
 // Advance with marks for few blocks, where clearing those for the most would take longer than all else.
@@ -858,7 +1003,8 @@ fn advance_many(
     )
 }
 
-// Gives every read-write cell of the innermost domain memory's bytes: as a copy where they are not its value already. Read-only cells keep theirs.
+// Gives every read-write cell of the innermost domain memory's bytes: as a copy where they are not its value already. Read-only cells keep theirs. The
+// next domain out gets each cell that changes and that it lacks, with the old kind, value and label.
 pub fn advance(
     memory: &[u8],
     bodies: &mut [u8],

@@ -17,7 +17,7 @@ use Rattle.store.specs.State.{heldIn, stateIn, stateOf}
 use Rattle.store.specs.Calls.{freshWord, makePlan, makeCall, openCall, createWords, createCall}
 use Rattle.add.specs.Add.{addCheck, raiseChange, changeWith, addWords, addBytes, addCall}
 use Rattle.delete.specs.Delete.{deleteCheck, deleteChange, deleteWords, deleteCall}
-use Rattle.advance.specs.Advance.{advanceCheck, advanceWords, advanceBytes, advanceCall}
+use Rattle.advance.specs.Advance.{giveWith, advanceCheck, advanceWords, advanceBytes, advanceCall}
 use Rattle.restore.specs.Restore.{restoreCheck, restoreBytes, restoreChange, restoreWords, restoreCall}
 use Rattle.demands.specs.Counted.{LinesHold, countedLines}
 
@@ -26,5 +26,5 @@ unfolding all first count nth pairs nameOk namesOk effective journaled applyPlan
     headerOk handleOk headOk entryOk parentOk apart ruleOk pairsOk tableOk stepsIn sourceIn valueIn depthNamed bodyUsed usedSlots
     copies lowestFree takerOf ended outcome shapeCheck tableCheck makeCheck openCheck storeCheck createCheck heldIn stateIn stateOf freshWord makePlan makeCall openCall createWords
     createCall addCheck raiseChange changeWith addWords addBytes addCall deleteCheck deleteChange deleteWords deleteCall advanceCheck
-    advanceWords advanceBytes advanceCall restoreCheck restoreBytes restoreChange restoreWords restoreCall
-lines-hold = ((refl, refl), ((refl, refl), ((refl, refl), ((refl, refl), ((refl, refl), ((refl, refl), ((refl, refl), ((refl, refl), tt))))))))
+    giveWith advanceWords advanceBytes advanceCall restoreCheck restoreBytes restoreChange restoreWords restoreCall
+lines-hold = ((refl, refl), ((refl, refl), ((refl, refl), ((refl, refl), ((refl, refl), ((refl, refl), ((refl, refl), ((refl, refl), ((refl, refl), tt)))))))))

@@ -20,7 +20,7 @@ use Rattle.store.specs.Means.{listMeans}
 use Rattle.add.specs.Add.{addCheck, raiseChange, changeWith, addWords, addBytes, addCall}
 use Rattle.delete.specs.Delete.{deleteCheck, deleteChange, deleteWords, deleteCall}
 use Rattle.commit.specs.Commit.{commitCheck, commitChange, commitWords, commitCall}
-use Rattle.advance.specs.Advance.{advanceCheck, advanceWords, advanceBytes, advanceCall}
+use Rattle.advance.specs.Advance.{giveWith, advanceCheck, advanceWords, advanceBytes, advanceCall}
 use Rattle.restore.specs.Restore.{restoreCheck, restoreBytes, restoreChange, restoreWords, restoreCall}
 use Rattle.demands.specs.Starred.{actsHold, scenarioHolds, allHold, edgeHolds, starred}
 
@@ -29,5 +29,5 @@ unfolding all first count nth pairs namesOk effective journaled sameCell cellPla
     parentOk apart ruleOk pairsOk tableOk stepsIn sourceIn valueIn depthNamed bodyUsed usedSlots copies lowestFree takerOf ended outcome shapeCheck tableCheck
     makeCheck storeCheck createCheck heldIn stateIn stateOf freshWord makePlan makeCall createWords createCall listMeans addCheck raiseChange changeWith addWords
     addBytes addCall deleteCheck deleteChange deleteWords deleteCall commitCheck commitChange commitWords commitCall advanceCheck
-    advanceWords advanceBytes advanceCall restoreCheck restoreBytes restoreChange restoreWords restoreCall actsHold scenarioHolds
+    giveWith advanceWords advanceBytes advanceCall restoreCheck restoreBytes restoreChange restoreWords restoreCall actsHold scenarioHolds
 edges-hold = refl

@@ -1,12 +1,12 @@
 -- Demand 2: what each call leaves to be seen, that every state reached can be opened, and what opening finds after a cut. Assumes nothing.
-use Prim.Native.Nat.{ℕ, zero, suc, _+_, _*_, _<_}
+use Prim.Native.Nat.{ℕ, zero, suc, _+_, _*_, _≤_, _<_}
 use mathlib.Core.Bool.{Bool, true, false, cond}
 use mathlib.Core.List.{List, map}
 use mathlib.Core.Option.{some}
 use mathlib.Core.Path.{_≡_, refl, sym, ap, subst, _∙_}
 use native.Mathlib.Omega.{arith}
 use borrow.Author.Tests.{ltb-true, lt-ltb, leb-false}
-use lib.Dec.{leb, ltb}
+use lib.Dec.{leb, ltb, eqb}
 use lib.ListN.{length}
 use Rattle.words.specs.Layout.{cellsOf, bodiesOf}
 use Rattle.words.specs.Journal.{pending}
@@ -33,11 +33,11 @@ use Rattle.store.proofs.Means.{visibleOf, long, make-means, open-means}
 use Rattle.store.proofs.Pending.{afterPending}
 use Rattle.store.proofs.Standing.{stands-for, only-state}
 use Rattle.add.proofs.Added.{add-means, add-takes, add-is, add-with-means, add-with-reopens}
-use Rattle.advance.proofs.Advanced.{advance-takes, advance-is, advance-steps, advance-with-means, advance-with-reopens}
+use Rattle.advance.proofs.Advanced.{advance-takes, advance-is, gives-few, advance-steps, advance-with-means, advance-with-reopens}
 use Rattle.look.proofs.Placing.{look-means, look-within}
 use Rattle.look.proofs.Shown.{look-tells}
 use Rattle.demands.specs.Session.{callOn}
-use Rattle.demands.specs.Demands.{asked, opens, Found, not-made, wholly-made, lengthsRight, madeFrom, Demand2}
+use Rattle.demands.specs.Demands.{asked, opens, Found, not-made, wholly-made, lengthsRight, advanceSteps, advancing, givenOut, madeFrom, Demand2}
 use Rattle.demands.proofs.Seen.{call-means, call-passed}
 use Rattle.demands.proofs.Calls.{facts}
 use Rattle.demands.proofs.Bounded.{input-bounded}
@@ -50,6 +50,11 @@ exact : (b : Buffers) → asked b ≡ 0 → length (b .memory) ≡ 64 * cellsOf 
 exact b e =
     lengths-facts (length (b .memory)) (length (b .bodies)) (length (b .table))
     (shape-lengths (length (b .memory)) (length (b .bodies)) (b .table) (store-shape (length (b .memory)) (length (b .bodies)) (b .table) e)) .memory-exact
+
+-- ---- the steps of an advance
+
+steps-most : (n g : ℕ) → g ≤ n → advanceSteps n g ≤ 76 * n + 2
+steps-most n g few = by-bool (eqb n 0) (λ z. rw z (omega arith)) (λ z. rw z (omega arith))
 
 -- ---- a make cut after a store: no store is left
 
@@ -144,8 +149,9 @@ demand-2 = record {
   add-any = λ h rs b slot body may. record { shown = add-with-means h rs b slot body may; reopens = add-with-reopens h rs b slot body may };
   advance-takes = advance-takes;
   advance-is = advance-is;
-  advance-any = λ h b body may. record { shown = advance-with-means h b body may; reopens = advance-with-reopens h b body may };
+  advance-any = λ h b slot body may. record { shown = advance-with-means h b slot body may; reopens = advance-with-reopens h b slot body may };
   advance-steps = λ h b pass k. advance-steps b h pass k;
+  advance-most = λ b. steps-most (advancing b) (givenOut b) (gives-few b);
   stands = stands-for;
   one-state = λ b s e. only-state b e s;
   reached = reached;

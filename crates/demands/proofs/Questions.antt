@@ -13,7 +13,7 @@ use Rattle.ranges.specs.Ranges.{listOk}
 use Rattle.model.specs.State.{State}
 use Rattle.model.specs.Answer.{ask, orElse}
 use Rattle.model.specs.Calls.{Effect, refuse, change, orRefuse, createChecks}
-use Rattle.model.specs.Holdings.{Room, named, holdingAt, isHeld, heldVia, isVia, isSome, ruleOf, liveEntries, copiesInUse, isLive, isInnermost, rangeOk, kindNumbered, parentHolds, parentSame, ruleFits, parentPlain, changedCells, parentCovers}
+use Rattle.model.specs.Holdings.{Room, named, holdingAt, isHeld, heldVia, isVia, isSome, ruleOf, liveEntries, copiesInUse, isLive, isInnermost, rangeOk, kindNumbered, parentHolds, parentSame, ruleFits, parentPlain, changedCells, givenCells}
 use Rattle.model.specs.Holdings.{addRange, addRanges, newlyHeld, newBodies, rangeChecks, listChecks, addChecks, deleteChecks, advanceChecks, commitChecks}
 use Rattle.model.specs.Restore.{restoreChecks, lookChecks}
 use Rattle.store.specs.Outcome.{Buffers}
@@ -120,7 +120,7 @@ module _ (room : Room) (memory : List ℕ) (s : State) where
   advance-fine h =
       fine-ask (isLive h s) 5 _ refl
       (fine-ask (isInnermost h s) 6 _ refl
-      (fine-ask (parentCovers (room .cells) s) 15 _ refl
+      (fine-ask (leb (liveEntries (room .cells) s + givenCells (room .cells) memory s) (room .slots)) 16 _ refl
       (fine-ask (leb (copiesInUse (room .cells) s + changedCells (room .cells) memory s) (room .bodies)) 17 0 refl fine-none)))
 
   pub commit-fine : (h : ℕ) → Fine (commitChecks h s)

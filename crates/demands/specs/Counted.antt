@@ -138,5 +138,13 @@ twoRanges =
     line (creates ∷ call (changes (add 1 (copied 1 1 ∷ copied 0 1 ∷ []))) 138 ∷ opening 100 ∷ fills 0 9 ∷ fills 1 9 ∷ call (restore 1) 200 ∷ [])
     (0 ∷ []) (64 ∷ []) (64 ∷ [])
 
+-- 1 holds nothing, 2 inside it holds cell 0 at 7, and write 9; the advance of 2 is cut in its table part and carried out by opening; after a write of 11
+-- each time, the restore of 2 and then that of 1 have their counts
+abbrev pub innerAdvance : Line
+innerAdvance =
+    line (fills 0 7 ∷ creates ∷ creates ∷ adds 2 0 1 ∷ fills 0 9 ∷ call (changes (advance 2)) 74 ∷ opening 100 ∷ fills 0 11 ∷ call (restore 2) 100
+    ∷ fills 0 11 ∷ call (restore 1) 100 ∷ [])
+    (0 ∷ 0 ∷ []) (0 ∷ 64 ∷ []) (0 ∷ 64 ∷ [])
+
 abbrev pub countedLines : List Line
-countedLines = wroteBoth ∷ twoRestores ∷ lateRestore ∷ deletedCell ∷ deletedAround ∷ deletedInside ∷ cutInside ∷ twoRanges ∷ []
+countedLines = wroteBoth ∷ twoRestores ∷ lateRestore ∷ deletedCell ∷ deletedAround ∷ deletedInside ∷ cutInside ∷ twoRanges ∷ innerAdvance ∷ []

@@ -31,8 +31,8 @@ use Rattle.store.specs.Means.{visibleOf, orRefused, Reopens, makeMeans, openMea
 use Rattle.add.specs.Add as add-calls
 use Rattle.add.specs.Add.{addCall, addMeans}
 use Rattle.add.specs.Choice as adding
-use Rattle.advance.specs.Advance.{advances, advanceCheck, advanceCall, bodyFor, advanceMeans}
-use Rattle.advance.specs.Choice as advancing
+use Rattle.advance.specs.Advance.{advances, gives, advanceCheck, advanceCall, slotFor, bodyFor, advanceMeans}
+use Rattle.advance.specs.Choice as advance-choice
 use Rattle.look.specs.Look.{lookPlace, placeByState, placeWithin, shownAt, lookMeans}
 use Rattle.begin.proofs.make.Statement as make-contract
 use Rattle.begin.proofs.open.Statement as open-contract
@@ -133,9 +133,9 @@ handleOf (restore h) = some h
 handleOf (reads list) = none
 handleOf (reads (look h c)) = some h
 
--- "the number in document 01": that of one of its questions, 1 to 17, or of document 02's 18, 19 and 20
+-- "the number in document 01": that of one of its questions, 1 to 17, or of document 02's 18, 19 and 20; "Number 15 is retired"
 abbrev pub isQuestion : ℕ → Bool
-isQuestion n = leb 1 n && leb n 20
+isQuestion n = leb 1 n && (leb n 20 && not (eqb n 15))
 
 -- are the questions on these ranges, put range by range, all answered yes?
 abbrev pub rangesRight : List Range → Buffers → Bool
@@ -214,9 +214,17 @@ lowestSlot rs b = add-calls.slotFor (slots b) (b .table) rs
 abbrev pub lowestBody : List Range → Buffers → (c : ℕ) → ℕ
 lowestBody rs b = add-calls.bodyFor (slots b) (bodiesOf (length (b .bodies))) (b .table) rs
 
--- "With k such cells an advance takes at most 70k + 2 steps, and none when k is 0": of n cells that advance, exactly so many
-abbrev pub advanceSteps : (n : ℕ) → ℕ
-advanceSteps n = cond (eqb n 0) 0 (70 * n + 2)
+-- "With k such cells an advance takes at most 70k + 2 steps, and none when k is 0", and with A.4 "The step bound becomes 76k + 2": of n cells that
+-- advance, of which g are given outwards, exactly so many
+abbrev pub advanceSteps : (n g : ℕ) → ℕ
+advanceSteps n g = cond (eqb n 0) 0 (70 * n + 6 * g + 2)
+
+-- how many cells an advance changes, and how many of them it gives outwards
+abbrev pub advancing : Buffers → ℕ
+advancing b = count (cellsOf (length (b .memory))) (advances b)
+
+abbrev pub givenOut : Buffers → ℕ
+givenOut b = count (cellsOf (length (b .memory))) (gives b)
 
 pub record Means (call : Call) (means : (k : ℕ) → View) (b : Buffers) : Type 0 where
   pub shown : (k : ℕ) → visibleOf (outcome call k b) ≡ means k
@@ -278,18 +286,19 @@ pub record Demand2 : Type 0 where
   -- a call that is done, an opening too, leaves word 6 zero, and questions 1 to 4 are answered yes after it
   pub done-clears : (i : Input) (b : Buffers) → isCall i ≡ true → (inputOn i b) .report .status ≡ isDone → pending ((inputOn i b) .buffers .table) ≡ 0
   pub done-ready : (i : Input) (b : Buffers) → isCall i ≡ true → (inputOn i b) .report .status ≡ isDone → asked ((inputOn i b) .buffers) ≡ 0
-  -- the slots and bodies that add takes, and the bodies that advance takes, were free before the call and differ; and with any such places each means
-  -- the same
+  -- the slots and bodies that add and advance take were free before the call and differ; and with any such places each means the same
   pub add-takes : (h : ℕ) (rs : List Range) (b : Buffers) → adding.MayTake h rs b (lowestSlot rs b) (lowestBody rs b)
   pub add-is : (h : ℕ) (rs : List Range) (b : Buffers) → addCall h rs b ≡ adding.addWith (lowestSlot rs b) (lowestBody rs b) h rs b
   pub add-any : (h : ℕ) (rs : List Range) (b : Buffers) (slot body : ℕ → ℕ) → adding.MayTake h rs b slot body
       → Means (adding.addWith slot body h rs b) (λ k. addMeans h rs k b) b
-  pub advance-takes : (h : ℕ) (b : Buffers) → advancing.MayTake h b (bodyFor b)
-  pub advance-is : (h : ℕ) (b : Buffers) → advanceCall h b ≡ advancing.advanceWith (bodyFor b) h b
-  pub advance-any : (h : ℕ) (b : Buffers) (body : ℕ → ℕ) → advancing.MayTake h b body → Means (advancing.advanceWith body h b) (λ k. advanceMeans h k b) b
+  pub advance-takes : (h : ℕ) (b : Buffers) → advance-choice.MayTake h b (slotFor b) (bodyFor b)
+  pub advance-is : (h : ℕ) (b : Buffers) → advanceCall h b ≡ advance-choice.advanceWith (slotFor b) (bodyFor b) h b
+  pub advance-any : (h : ℕ) (b : Buffers) (slot body : ℕ → ℕ) → advance-choice.MayTake h b slot body
+      → Means (advance-choice.advanceWith slot body h b) (λ k. advanceMeans h k b) b
   -- an advance that no question refuses is done in so many steps, or stopped; where no cell advances it is done at every budget
   pub advance-steps : (h : ℕ) (b : Buffers) → advanceCheck b h ≡ 0 → (k : ℕ)
-      → (outcome (advanceCall h b) k b) .report ≡ ended (advanceSteps (count (cellsOf (length (b .memory))) (advances b))) 0 k
+      → (outcome (advanceCall h b) k b) .report ≡ ended (advanceSteps (advancing b) (givenOut b)) 0 k
+  pub advance-most : (b : Buffers) → advanceSteps (advancing b) (givenOut b) ≤ 76 * advancing b + 2
   -- "A table that opening accepts stands for one state of domains and holdings"
   pub stands : (b : Buffers) → opens b ≡ 0 → StandsFor (slots b) (effectiveTable b) (b .bodies) (stateOf b)
   pub one-state : (b : Buffers) (s : State) → opens b ≡ 0 → StandsFor (slots b) (effectiveTable b) (b .bodies) s → s ≡ stateOf b

@@ -1,4 +1,4 @@
--- Document 01, "Edges to run": the lines marked *, and edges of document 02's A.3, as data, and what it is for them to hold. The acts are played one
+-- Document 01, "Edges to run": the lines marked *, and edges of document 02's A.3 and A.4, as data, and what it is for them to hold. The acts are played one
 -- after the other on the buffers by the step of a session, which is made of the definitions that the contracts cite.
 use Prim.Native.Nat.{ℕ, _+_}
 use mathlib.Core.Bool.{Bool, true, false, _&&_}
@@ -80,15 +80,20 @@ range first n k u l = record { first = first; count = n; kind = k; rule = u; lab
 abbrev pub copied : (first n : ℕ) → Range
 copied first n = range first n byCopy noRule readWrite
 
--- ---- the twelve edges, in document 01's order, and five of document 02's A.3. plainAdd names a handle, first cell, count, kind, rule and label; add a
+-- two domains, of which the outer one holds nothing: the inner one advances from 7 to 9, and the program writes on
+abbrev pub innerPoint : List Act
+innerPoint =
+    fill 0 7 ∷ does create ∷ does create ∷ does (plainAdd 2 0 1 byCopy noRule readWrite) ∷ fill 0 9 ∷ takes (advance 2) 78 ∷ fill 0 11 ∷ []
+
+-- ---- the twelve edges, in document 01's order, five of document 02's A.3 and two of its A.4. plainAdd names a handle, first cell, count, kind, rule and label; add a
 -- handle and a list of ranges; delete a handle, first cell and count.
 
 abbrev pub starred : List Edge
 starred =
     -- "Domain 1 copies cell 0 = 7 read-write; write 9; restore 1: 7."
     usual (fill 0 7 ∷ does create ∷ does (plainAdd 1 0 1 byCopy noRule readWrite) ∷ fill 0 9 ∷ restores 1 ∷ shows (7 ∷ 1 ∷ 1 ∷ 1 ∷ []) ∷ [])
-    -- "Cell 0 held read-write by 2 only; advance: 15."
-    ∷ usual (does create ∷ does create ∷ does (plainAdd 2 0 1 byCopy noRule readWrite) ∷ gives (advance 2) 15 ∷ [])
+    -- "Cell 0 held read-write by 2 only; advance: 15." By document 02 "Number 15 is retired, and its case becomes done": with no step, or after a write
+    ∷ usual (does create ∷ does create ∷ does (plainAdd 2 0 1 byCopy noRule readWrite) ∷ takes (advance 2) 0 ∷ fill 0 9 ∷ takes (advance 2) 78 ∷ [])
     -- "1 holds 7 read-only, 2 copies it read-write, write 9, commit, advance 1, write 11, restore 1: 9."
     ∷ usual (fill 0 7 ∷ does create ∷ does (plainAdd 1 0 1 byCopy noRule readOnly) ∷ does create ∷ does (plainAdd 2 0 1 byCopy noRule readWrite)
     ∷ fill 0 9 ∷ does (commit 2) ∷ does (advance 1) ∷ fill 0 11 ∷ restores 1 ∷ shows (9 ∷ 1 ∷ 1 ∷ 1 ∷ []) ∷ [])
@@ -134,7 +139,14 @@ starred =
     ∷ scenario 4 8 1 (does create ∷ gives (add 1 (copied 0 1 ∷ copied 1 1 ∷ [])) 17 ∷ []) ∷ [])
     -- "20, after question 6: fewer than 1 or more than 64 records": with 64 the first range is asked
     ∷ usual (does create ∷ does create ∷ gives (add 3 []) 5 ∷ gives (add 1 []) 6 ∷ gives (add 2 []) 20
-    ∷ gives (add 2 (replicate 65 (copied 4 1))) 20 ∷ gives (add 2 (replicate 64 (copied 4 1))) 8 ∷ []) ∷ []
+    ∷ gives (add 2 (replicate 65 (copied 4 1))) 20 ∷ gives (add 2 (replicate 64 (copied 4 1))) 8 ∷ [])
+    -- "Cycle 1 holds nothing, tile 2 copies cell 0 = 7 read-write, write 9, advance 2, write 11, restore 1: 7": and 9 if 2 is restored
+    ∷ (scenario 4 8 8 (innerPoint ++ (restores 1 ∷ shows (7 ∷ 1 ∷ 1 ∷ 1 ∷ []) ∷ lists 1 ∷ []))
+    ∷ scenario 4 8 8 (innerPoint ++ (restores 2 ∷ shows (9 ∷ 1 ∷ 1 ∷ 1 ∷ []) ∷ lists 2 ∷ restores 1 ∷ shows (7 ∷ 1 ∷ 1 ∷ 1 ∷ []) ∷ [])) ∷ [])
+    -- "Question 16 is put to advance as well, counting one more entry for each cell given outwards": before 17
+    ∷ (scenario 4 1 1 (does create ∷ does create ∷ does (plainAdd 2 0 1 byCopy noRule readWrite) ∷ fill 0 9 ∷ gives (advance 2) 16 ∷ [])
+    ∷ scenario 4 2 1 (does create ∷ does create ∷ does (plainAdd 2 0 1 byCopy noRule readWrite) ∷ fill 0 9 ∷ gives (advance 2) 17 ∷ [])
+    ∷ scenario 4 2 2 (does create ∷ does create ∷ does (plainAdd 2 0 1 byCopy noRule readWrite) ∷ fill 0 9 ∷ takes (advance 2) 78 ∷ []) ∷ []) ∷ []
 
 -- ---- what it is for an edge to hold
 

@@ -1,6 +1,6 @@
 // Shorter advances, which is request A.2 of document 02: an advance copies the read-write cells in which memory differs from the value held, and the
-// others keep kind, body and entry. With k such cells it takes 70k + 2 steps, and none with k = 0; question 17 counts those k, and question 15 is put
-// for every read-write cell.
+// others keep kind, body and entry. With k such cells it takes 70k + 2 steps, and none with k = 0; question 17 counts those k. The next domain out, if
+// there is one, holds each cell that changes here; section 1000 has those that it lacks.
 use crate::ops::*;
 use crate::play::play;
 
@@ -56,7 +56,7 @@ const ADVANCES: [[u64; 5]; 73] = [
     [SWEEP + 143 * S, ADVANCE + H, OPEN, SAME, 0],
     [WRITE + 9 * Y, RESTORE + H, STATE, BYTE, SCALE + 63 * Y],
     [ADVANCE + H, STATE, 0, 0, 0],
-    // question 17, and question 15
+    // question 17, and a cell that 1 lacks
     [FRESH + 8 * E + 6 * B + 7 * Y + 8 * T, CREATE, 0, 0, 0],
     [ADD + 3 * N + RW, WRITE + 9 * Y, WRITE + C + 10 * Y, 0, 0],
     [WRITE + 2 * C + 11 * Y, KEEP, ADVANCE + H, WHOLE, 0],
@@ -72,7 +72,7 @@ const ADVANCES: [[u64; 5]; 73] = [
     [ADD + N + RW, WRITE + 9 * Y, ADVANCE, WRITE + 11 * Y, 0],
     [RESTORE + H, STATE, 0, 0, 0],
     [SEVENS + 12 * T, CREATE, ADD + N + RW, CREATE, 0],
-    [ADD + 2 * N + RW, ADVANCE, WRITE + 9 * Y, ADVANCE, 0],
+    [ADD + 2 * N + RW, ADVANCE, WRITE + 9 * Y, ADVANCE, STATE],
     [DELETE + C + N, ADVANCE, STATE, 0, 0],
     // the inner domain's point
     [SEVENS + 13 * T, CREATE, ADD + N + RW, CREATE, ADD + N + RW],
@@ -111,7 +111,7 @@ pub fn show(m: &mut [u8], b: &mut [u8], t: &mut [u32]) {
 809 B = 5 is one short; with one of them changed back it is enough, also with each budget from 0 to 143:
 810 * B = 1, one read-write copy, advance: done. After a write that changes it: 17.
 811 * B = 2, and the write: done, and after a further write a restore puts back what was advanced to.
-812 Question 15 for a cell that 1 lacks: with nothing changed, with another cell changed, and with the cell deleted:
+812 2 holds an unchanged cell that 1 lacks: with nothing changed, with another cell changed, and with the cell deleted:
 813 The point of an inner domain after an advance that changes it and one that does not; then restore 1:
 820 m = 8, E = 13 and B = 12. 2 holds a copy changed and one unchanged, the same via parent and by rule 3, and a read-only cell that was written; 1 holds the first six too:
 821 With each budget from 0 to 213; then an opening, zeros in the cells that changed, and restore 2:

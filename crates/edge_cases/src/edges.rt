@@ -6,7 +6,7 @@ const EDGES: [[u64; 5]; 44] = [
     [TEXT, EDGE + T, CREATE, ADD + N + RW, WRITE + 9 * Y],
     [RESTORE + H, STATE, 0, 0, 0],
     [EDGE + 2 * T, CREATE, CREATE, ADD + N + RW, ADVANCE],
-    [STATE, 0, 0, 0, 0],
+    [STATE, WRITE + 9 * Y, ADVANCE, STATE, 0],
     [EDGE + 3 * T, CREATE, ADD + N, CREATE, ADD + N + RW],
     [WRITE + 9 * Y, COMMIT + 2 * H, STATE, ADVANCE + H, STATE],
     [WRITE + 11 * Y, RESTORE + H, STATE, 0, 0],
@@ -60,7 +60,7 @@ pub fn show(m: &mut [u8], b: &mut [u8], t: &mut [u32]) {
     let text = b"
 100 The edges of document 01; * marks the proved set. m = 4 and E = B = 8 unless said; memory is 7 1 2 3, or 7 throughout where E or B is small
 101 * Domain 1 copies cell 0 = 7 read-write; write 9; restore 1: 7.
-102 * Cell 0 held read-write by 2 only; advance: 15.
+102 * Cell 0 held read-write by 2 only; advance: done in 0 steps. After a write: done in 78, and 1 holds what 2 held.
 103 * 1 holds 7 read-only, 2 copies it read-write, write 9, commit, advance 1, write 11, restore 1: 9.
 104 * 1 holds 7, write 9, create 2, add via parent: 12.
 105 * 1 holds 7 read-write, 2 holds it via parent read-write, write 9, add by copy to 2, restore 2: 7.

@@ -1,6 +1,6 @@
 // Plays document 01's edges, the use cases of the containment domain API of 2012, the sequencer's accident, refusals, calls stopped at every
-// budget, cells that follow a pattern, advances that copy only what changed, and several ranges in one add, and prints what they give. A section
-// has a table of acts and their text; `ops` says what an act is, and `play` performs it.
+// budget, cells that follow a pattern, advances that copy only what changed, several ranges in one add, and inner advances that keep the outer point,
+// and prints what they give. A section has a table of acts and their text; `ops` says what an act is, and `play` performs it.
 //
 // Each number of steps and each refusal is a call's answer. Memory is read byte by byte; what a domain holds is read from the table and the bodies.
 mod advances;
@@ -11,6 +11,7 @@ mod edges;
 mod holdings;
 mod lists;
 mod ops;
+mod outer;
 mod play;
 mod refusals;
 mod rules;
@@ -46,4 +47,5 @@ fn main() {
     rules::show(&mut m, &mut b, &mut t);
     advances::show(&mut m, &mut b, &mut t);
     several::show(&mut m, &mut b, &mut t);
+    outer::show(&mut m, &mut b, &mut t);
 }

@@ -54,7 +54,7 @@ pub const STORED: u64 = 29;
 
 // ---- stores: a fresh one with m = 4, or 8 where E is above 8, or 16 where it is 16, E entries and B bodies, in which cell 0 has V's lowest byte and
 // cell 3 its highest, and the others as these four in turn; a copy of a set of buffers, by which the store is kept, or kept as what the whole call
-// leaves, or the one that was kept comes back
+// leaves, or the one that was kept, or that the whole call left, comes back
 
 pub const FRESH: u64 = 17;
 
@@ -65,6 +65,8 @@ pub const KEEP: u64 = COPY + C;
 pub const WHOLE: u64 = COPY + 2 * C;
 
 pub const BACK: u64 = COPY + H;
+
+pub const AFTER: u64 = COPY + 2 * H;
 
 // ---- the next call has a budget of S steps; MB and BB bytes and TW words are lent, with a make and a list
 

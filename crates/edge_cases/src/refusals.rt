@@ -64,7 +64,7 @@ const DAMAGES: [[u64; 5]; 54] = [
 // Bodies of 512 bytes.
 const LENT: u64 = LEND + 512 * BB;
 
-const QUESTIONS: [[u64; 5]; 40] = [
+const QUESTIONS: [[u64; 5]; 41] = [
     [SEVENS, CREATE, ADD + 2 * N + RW, CREATE, ADD + N + VIA + RW],
     [CREATE, COMMIT + 3 * H, WRITE + C + 9 * Y, KEEP, STATE],
     [AGAIN + 5 * T, ADD + 3 * H + N, ADD + 4 * H + N, 0, 0],
@@ -85,7 +85,7 @@ const QUESTIONS: [[u64; 5]; 40] = [
     [DELETE + H + 2 * C + N, DELETE + H + N, 0, 0, 0],
     [DELETE + H + 2 * N, 0, 0, 0, 0],
     [AGAIN + 15 * T, ADD + 2 * C + N + RW, ADVANCE, 0, 0],
-    [ADVANCE + H, 0, 0, 0, 0],
+    [WRITE + 2 * C + 9 * Y, ADVANCE, ADVANCE + H, STATE, 0],
     [AGAIN + 20 * T, ADD + 3 * H + 4 * C + N, 0, 0, 0],
     [ADD + H + N + 7 * K, ADD + H + 4 * C + N, 0, 0, 0],
     [DELETE + 3 * H, ADD + 4 * C + N + 7 * K, 0, 0, 0],
@@ -95,7 +95,8 @@ const QUESTIONS: [[u64; 5]; 40] = [
     [SEVENS + 22 * T, CREATE, ADD + N + VIA, ADD + N, 0],
     [ADD + N + VIA, 0, 0, 0, 0],
     [SEVENS + 23 * T, CREATE, ADD + N + RW, CREATE, CREATE],
-    [ADD + N + VIA + RW, ADD + N + RW, ADVANCE, 0, 0],
+    [ADD + N + VIA + RW, ADD + N + RW, WRITE + 9 * Y, 0, 0],
+    [ADVANCE, STATE, 0, 0, 0],
     [FRESH + 8 * E + B + 7 * Y + 24 * T, CREATE, ADD + N, 0, 0],
     [ADVANCE, 0, 0, 0, 0],
     [FRESH + 8 * E + B + 7 * Y + 25 * T, CREATE, CREATE, 0, 0],
@@ -161,13 +162,13 @@ pub fn show(m: &mut [u8], b: &mut [u8], t: &mut [u32]) {
 608 Question 8, the range:
 611 Questions 11 and 12, what the parent holds:
 613 Questions 13 and 14, the cells to delete:
-615 Question 15, after the add of a cell that 1 lacks; for handle 1, 6 comes before it:
+615 Number 15 is retired: after the add of a cell that 1 lacks an advance is done, also where the cell changed; for handle 1 it is 6:
 620 Two questions that would refuse, of which the first in order does:
 621 Question 5 with nobody live:
 622 Question 11 with no parent, for a new cell and for a held one:
-623 Questions 11 and 15 where only the domain two further out holds the cell:
+623 Only the domain two further out holds the cell: question 11, and an advance gives it to the next one:
 624 B = 1, one read-only copy, advance:
-625 B = 1, cell 0 held read-write by 2 only, and changed, advance; 15 comes before 17:
+625 B = 1, cell 0 held read-write by 2 only, and changed, advance:
 626 E = 1, add via parent, before and after a write; 12 comes before 16:
 627 E = 2 and B = 1, add two cells:
 628 E = B = 1, add two cells; 16 comes before 17:

@@ -55,21 +55,33 @@ pub fn say_count(p: Play, name: &[u8], n: u64, thing: &[u8]) -> Play {
     if n == 1 { said } else { say(said, b"s") }
 }
 
-// ---- lines of a text: each begins with a number of three digits, of which the last two tell it
+// ---- lines of a text: each begins with a number of three digits, or of four, of which the last two tell it
 
-fn line_number(tens: u8, ones: u8) -> u64 {
+fn last_two(tens: u8, ones: u8) -> u64 {
     (wide(tens) % 48) * 10 + wide(ones) % 48
+}
+
+fn is_digit(byte: u8) -> bool {
+    (48 <= byte) & (byte < 58)
+}
+
+// The number by its second byte, its third, and the one after that, which may be a digit too.
+fn line_number(second: u8, third: u8, next: u8) -> u64 {
+    if is_digit(next) {
+        return last_two(third, next);
+    }
+    last_two(second, third)
 }
 
 // Where the line with this number begins, after a line's end, or the text's end.
 fn find_line(text: &[u8], line: u32) -> usize {
     let mut i = 0;
     while i < text.len() {
-        if text.len() - i < 4 {
+        if text.len() - i < 5 {
             return text.len();
         }
         if text[i] == 10 {
-            if line_number(text[i + 2], text[i + 3]) == line as u64 {
+            if line_number(text[i + 2], text[i + 3], text[i + 4]) == line as u64 {
                 return i + 1;
             }
         }

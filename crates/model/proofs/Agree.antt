@@ -1,19 +1,19 @@
 -- The history's lines do to its domains what the calls do to the state's: handles, cells, labels and values stay the same. Assumes nothing.
 use Prim.Native.Nat.{ℕ, zero, suc, _<_}
-use mathlib.Core.Bool.{Bool, true, false, cond}
+use mathlib.Core.Bool.{Bool, true, false, cond, not, _&&_}
 use mathlib.Core.List.{List, [], _∷_, _++_}
 use mathlib.Core.Option.{Option, none, some}
-use mathlib.Core.Path.{_≡_, refl, sym, ap, _∙_}
+use mathlib.Core.Path.{_≡_, refl, sym, ap, ap₂, _∙_}
 use native.Mathlib.Omega.{arith}
 use borrow.Author.Tests.{eqb-true}
 use lib.Dec.{eqb, leb}
 use lib.ListN.{length, getD, take}
 use Rattle.words.specs.Cells.{cellBytes, sameCell}
-use Rattle.words.proofs.Scan.{by-bool, all-at, and-split}
+use Rattle.words.proofs.Scan.{by-bool, all-at, all-ext, and-split}
 use Rattle.patterns.specs.Pattern.{maxRule, pattern}
 use Rattle.model.specs.State.{Label, readOnly, readWrite, Kind, copy, viaParent, byRule, Holding, Domain, State}
-use Rattle.model.specs.Holdings.{deeper, depthIn, named, holdingAt, innerHolding, outerHolding, isHeld, valueOr, onDepth, onInnermost, onCommit, holding, inRange, raised, added, givenValue, addTo, parentSame, ruleFits, advanced, merged}
-use Rattle.model.specs.History.{Kept, Tracked, inner, depthAmong, namedAmong, turned, atDepth, atInnermost, intoParent, entered, addTracked, deleteAround, renewed, advanceTracked, joined, commitTracked, writeLine, excludeAfter, excludeInside}
+use Rattle.model.specs.Holdings.{deeper, depthIn, named, holdingAt, innerHolding, outerHolding, isHeld, valueOr, onDepth, onInnermost, onCommit, holding, inRange, raised, added, givenValue, addTo, parentSame, ruleFits, isWritable, heldChanged, advanced, given, advance, onParent, merged}
+use Rattle.model.specs.History.{Kept, Tracked, inner, depthAmong, namedAmong, turned, atDepth, atInnermost, intoParent, entered, addTracked, deleteAround, mayWrite, differing, keptOut, giveTracked, aroundInnermost, renewed, advanceTracked, advanceLine, joined, commitTracked, writeLine, excludeAfter, excludeInside}
 use Rattle.model.specs.Session.{SameCell, SameDomains, none-left, same}
 use Rattle.model.proofs.Ranges.{new-cell}
 
@@ -75,7 +75,7 @@ added-same l k v bytes none (some p) f e = absurd e
 added-same l k v bytes (some h) none f e = absurd e
 added-same l k v bytes (some h) (some p) f e = (label-same l (h .label) (p .label) (e .0), e .1)
 
-bytes-same : (a b : List ℕ) → sameCell a b ≡ true → (i : ℕ) → i < 64 → getD a i 0 ≡ getD b i 0
+pub bytes-same : (a b : List ℕ) → sameCell a b ≡ true → (i : ℕ) → i < 64 → getD a i 0 ≡ getD b i 0
 unfolding sameCell
 bytes-same a b e i l = eqb-true (getD a i 0) (getD b i 0) (all-at 64 (λ (k : ℕ). eqb (getD a k 0) (getD b k 0)) e i l)
 
@@ -141,10 +141,43 @@ advanced-same bytes none (some p) e = absurd e
 advanced-same bytes (some h) none e = absurd e
 advanced-same bytes (some h) (some p) e = advanced-one bytes (h .value) (p .bytes) (h .kind) (h .label) (p .label) (e .0) (e .1)
 
-pub agree-advance : (memory : List ℕ) {ds : List Domain} {qs : List Tracked} → SameDomains ds qs
-    → SameDomains (onInnermost (λ d. holding (λ c. advanced (cellBytes memory c) (d .holds c)) d) ds) (atInnermost (advanceTracked memory) qs)
-agree-advance memory a =
-    agree-innermost _ (advanceTracked memory) (λ d. refl) (λ t. refl) (λ d t e f c. advanced-same (cellBytes memory c) (d .holds c) (t .cells c) (f c)) a
+-- whether a cell differs from memory hangs on its bytes alone
+differing-same : (bytes : List ℕ) (o : Option Holding) (p : Option Kept) → SameCell o p → heldChanged bytes o ≡ differing bytes p
+unfolding sameCell
+differing-same bytes none none e = refl
+differing-same bytes none (some p) e = absurd e
+differing-same bytes (some h) none e = absurd e
+differing-same bytes (some h) (some p) e =
+    ap (λ (l : Label). isWritable l && not (sameCell (h .value) bytes)) (e .0)
+    ∙ ap₂ (λ (a b : Bool). a && not b) (writable-label (p .label))
+    (all-ext 64 (λ k. eqb (getD (h .value) k 0) (getD bytes k 0)) (λ k. eqb (getD (p .bytes) k 0) (getD bytes k 0))
+    (λ k l. ap (λ (v : ℕ). eqb v (getD bytes k 0)) (e .1 k l)))
+  where
+    writable-label : (l : Label) → isWritable l ≡ mayWrite l
+    writable-label readOnly = refl
+    writable-label readWrite = refl
+
+given-out : (bytes : List ℕ) (o i : Option Holding) (p k : Option Kept) → SameCell o p → SameCell i k → SameCell (given bytes o i) (keptOut bytes p k)
+given-out bytes none i none k e f =
+    let same = differing-same bytes i k f in
+    by-bool (differing bytes k) (λ y. rw (same, y) f) (λ y. rw (same, y) tt)
+given-out bytes none i (some p) k e f = absurd e
+given-out bytes (some o) i none k e f = absurd e
+given-out bytes (some o) i (some p) k e f = by-bool (heldChanged bytes i) (λ y. rw y e) (λ y. rw y e)
+
+agree-parent : {ds : List Domain} {qs : List Tracked} (memory : List ℕ) → SameDomains ds qs
+    → SameDomains (onParent (λ o i. holding (λ c. given (cellBytes memory c) (o .holds c) (i .holds c)) o) ds) (aroundInnermost (giveTracked memory) qs)
+agree-parent memory none-left = none-left
+agree-parent memory (same e f none-left) = same e f none-left
+agree-parent memory (same {d = d} {q = q} e f (same {d = d′} {q = q′} e′ f′ none-left)) =
+    same e (λ c. given-out (cellBytes memory c) (d .holds c) (d′ .holds c) (q .cells c) (q′ .cells c) (f c) (f′ c)) (same e′ f′ none-left)
+agree-parent memory (same e f (same e′ f′ (same e″ f″ a))) = same e f (agree-parent memory (same e′ f′ (same e″ f″ a)))
+
+pub agree-advance : (memory : List ℕ) (s : State) (qs : List Tracked) → SameDomains (s .domains) qs
+    → SameDomains ((advance memory s) .domains) (advanceLine memory qs)
+agree-advance memory s qs a =
+    agree-innermost _ (advanceTracked memory) (λ d. refl) (λ t. refl) (λ d t e f c. advanced-same (cellBytes memory c) (d .holds c) (t .cells c) (f c))
+    (agree-parent memory a)
 
 -- ---- commit
 

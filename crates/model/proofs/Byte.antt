@@ -72,20 +72,6 @@ anyWr (free ∷ hs) = anyWr hs
 anyWr (ro v ∷ hs) = anyWr hs
 anyWr (wr v ∷ hs) = true
 
--- question 15 at one byte: where the innermost holds read-write, its parent holds
-abbrev pub okAdv : Hold → Hold → Type 0
-okAdv free free = Unit {0}
-okAdv free (ro w) = Unit {0}
-okAdv free (wr w) = ⊥
-okAdv (ro v) k = Unit {0}
-okAdv (wr v) k = Unit {0}
-
-abbrev pub Covered : List Hold → Type 0
-Covered [] = Unit {0}
-Covered (h ∷ []) = Unit {0}
-Covered (h ∷ k ∷ []) = okAdv h k
-Covered (h ∷ k ∷ j ∷ hs) = Covered (k ∷ j ∷ hs)
-
 -- ---- THE INVARIANT at one byte of one domain: p its snapshot's byte, m memory's, over the holders from it inwards. Holders up to the first
 -- read-write one have the snapshot's byte, save a read-write one whose parent holds too (b: the domain before this list's first holds); where
 -- nobody holds read-write, memory has it.
@@ -186,18 +172,21 @@ good-commit b p m free k (j ∷ hs) g = good-commit false p m k j hs g
 good-commit b p m (ro v) k (j ∷ hs) g = (g .0, good-commit true p m k j hs (g .1))
 good-commit b p m (wr v) k (j ∷ hs) g = g
 
-pub good-advance : (b : Bool) (p m : ℕ) (h k : Hold) (hs : List Hold) → Covered (h ∷ k ∷ hs) → good b p m (h ∷ k ∷ hs)
-    → good b p m (atInnermost (advH m) (h ∷ k ∷ hs))
-good-advance b p m free free [] q g = g
-good-advance b p m free (ro w) [] q g = g
-good-advance b p m free (wr w) [] q g = absurd q
-good-advance b p m (ro v) free [] q g = g
-good-advance b p m (ro v) (ro w) [] q g = g
-good-advance b p m (ro v) (wr w) [] q g = (g .0, tt)
-good-advance b p m (wr v) k [] q g = g
-good-advance b p m free k (j ∷ hs) q g = good-advance false p m k j hs q g
-good-advance b p m (ro v) k (j ∷ hs) q g = (g .0, good-advance true p m k j hs q (g .1))
-good-advance b p m (wr v) k (j ∷ hs) q g = g
+-- a change further in, which keeps the invariant there, keeps it
+pub good-under : (p m : ℕ) (h : Hold) (hs ks : List Hold) → ((b : Bool) → good b p m hs → good b p m ks) → (b : Bool) → good b p m (h ∷ hs)
+    → good b p m (h ∷ ks)
+good-under p m free hs ks f b g = f false g
+good-under p m (ro v) hs ks f b g = (g .0, f true (g .1))
+good-under p m (wr v) hs ks f b g = g
+
+-- the innermost takes memory's byte: where its parent holds too, and where that gets what it held
+pub good-behind : (p m : ℕ) (h : Hold) → good true p m (h ∷ []) → good true p m (advH m h ∷ [])
+good-behind p m free g = g
+good-behind p m (ro v) g = g
+good-behind p m (wr v) g = tt
+
+pub good-given : (b : Bool) (p m v : ℕ) → good b p m (free ∷ wr v ∷ []) → good b p m (wr v ∷ wr m ∷ [])
+good-given b p m v g = wr-ok b v p g
 
 -- the advancing domain itself: its new snapshot is memory
 pub good-own : (p m : ℕ) (h : Hold) → good false p m (h ∷ []) → good false m m (advH m h ∷ [])

@@ -1,24 +1,23 @@
 -- States and histories byte by byte: what their domains hold of byte x, and what the calls and the history's lines do to it. Assumes nothing.
-use Prim.Native.Nat.{ℕ, zero, suc, _+_, _-_, _<_}
-use mathlib.Core.Bool.{Bool, true, false, cond, not, _||_, true≢false, false≢true}
+use Prim.Native.Nat.{ℕ, zero, suc, _+_, _<_}
+use mathlib.Core.Bool.{Bool, true, false, cond, _||_, true≢false}
 use mathlib.Core.List.{List, [], _∷_, map}
 use mathlib.Core.Option.{Option, none, some}
-use mathlib.Core.Path.{_≡_, refl, sym, ap, subst, _∙_}
+use mathlib.Core.Path.{_≡_, refl, sym, ap, _∙_}
 use native.Mathlib.Omega.{arith}
-use borrow.Author.Tests.{lt-leb}
-use lib.Dec.{leb}
 use lib.ListN.{length, getD, drop}
 use lib.Seq.{getD-take, getD-drop}
 use Rattle.words.specs.Layout.{cellAt}
-use Rattle.words.specs.Cells.{cellBytes}
-use Rattle.words.proofs.Scan.{all-at}
+use Rattle.words.specs.Cells.{cellBytes, sameCell}
+use Rattle.words.proofs.Scan.{by-bool}
 use Rattle.words.proofs.Plans.{getD-tab}
 use Rattle.model.specs.State.{Label, readOnly, readWrite, Holding, Domain, State}
-use Rattle.model.specs.Holdings.{holdingAt, isHeld, isWritable, heldWritable, valueOr, parentCovers}
+use Rattle.model.specs.Holdings.{valueOr}
 use Rattle.model.specs.Restore.{cellOfByte, placeInCell, orInner, firstHeld, restoredByte, restoredMemory}
-use Rattle.model.specs.History.{Kept, Tracked, mayWrite, keptWritable, turned, entered, addTracked, bytesOf, deleteTracked, renewed, advanceTracked, joined, commitTracked, anyWritable}
+use Rattle.model.specs.History.{Kept, Tracked, mayWrite, keptWritable, turned, entered, addTracked, bytesOf, deleteTracked, keptOut, giveTracked, renewed, advanceTracked, joined, commitTracked, anyWritable}
 use Rattle.model.specs.Session.{SameCell, SameDomains, none-left, same}
-use Rattle.model.proofs.Byte.{Hold, free, ro, wr, addH, advH, mergeH, back, backAt, anyWr, okAdv, Covered}
+use Rattle.model.proofs.Agree.{bytes-same}
+use Rattle.model.proofs.Byte.{Hold, free, ro, wr, addH, advH, mergeH, back, backAt, anyWr, good, good-behind, good-given}
 
 -- ---- byte x is byte x % 64 of cell x / 64
 
@@ -103,41 +102,6 @@ pub restored-byte : (i x : ℕ) (s : State) (memory : List ℕ) → x < length m
 unfolding restoredMemory
 restored-byte i x s memory l = getD-tab (restoredByte (suc i) s memory) (length memory) x 0 l ∙ back-byte memory i x (s .domains)
 
--- ---- question 15
-
-ok-advance : (o i : Option Holding) (j : ℕ) → (not (heldWritable i) || isHeld o) ≡ true → okAdv (heldByte o j) (heldByte i j)
-ok-advance none none j e = tt
-ok-advance none (some i) j e = go (i .label) (getD (i .value) j 0) e
-  where
-    go : (l : Label) (v : ℕ) → (not (isWritable l) || false) ≡ true → okAdv free (labelled l v)
-    go readOnly v e = tt
-    go readWrite v e = absurd (false≢true e)
-ok-advance (some o) i j e = go (o .label) (getD (o .value) j 0)
-  where
-    go : (l : Label) (v : ℕ) → okAdv (labelled l v) (heldByte i j)
-    go readOnly v = tt
-    go readWrite v = tt
-
-covered-by : (x : ℕ) (ds : List Domain)
-    → (1 < length ds → (not (heldWritable (holdingAt ds (length ds) (cellOfByte x))) || isHeld (holdingAt ds (length ds - 1) (cellOfByte x))) ≡ true)
-    → Covered (heldAt x ds)
-covered-by x [] f = tt
-covered-by x (d ∷ []) f = tt
-covered-by x (d ∷ e ∷ []) f = ok-advance (d .holds (cellOfByte x)) (e .holds (cellOfByte x)) (placeInCell x) (f (omega arith))
-covered-by x (d ∷ e ∷ g ∷ ds) f =
-    let z : length (d ∷ e ∷ g ∷ ds) - 1 ≡ suc (length (e ∷ g ∷ ds) - 1) = omega arith in
-    let y : length (e ∷ g ∷ ds) - 1 ≡ suc (length ds) = omega arith in
-    covered-by x (e ∷ g ∷ ds) (λ l. subst (λ (k : ℕ). (not (heldWritable (holdingAt (e ∷ g ∷ ds) (length (e ∷ g ∷ ds)) (cellOfByte x))) || isHeld (holdingAt (e ∷ g ∷ ds) k (cellOfByte x))) ≡ true) (sym y)
-    (subst (λ (k : ℕ). (not (heldWritable (holdingAt (d ∷ e ∷ g ∷ ds) (length (d ∷ e ∷ g ∷ ds)) (cellOfByte x))) || isHeld (holdingAt (d ∷ e ∷ g ∷ ds) k (cellOfByte x))) ≡ true) (z ∙ ap suc y) (f (omega arith))))
-
-or-right : (a b : Bool) → a ≡ false → (a || b) ≡ true → b ≡ true
-or-right true b e t = absurd (true≢false e)
-or-right false b e t = t
-
-pub covered : (cells x : ℕ) (s : State) → parentCovers cells s ≡ true → cellOfByte x < cells → Covered (heldAt x (s .domains))
-covered cells x s q l =
-    covered-by x (s .domains) (λ b. all-at cells _ (or-right (leb (length (s .domains)) 1) _ (lt-leb (length (s .domains)) 1 b) q) (cellOfByte x) l)
-
 -- ---- the history's lines at one byte
 
 entered-byte : (l : Label) (bytes : List ℕ) (p : Option Kept) (j : ℕ) → keptByte (entered l bytes p) j ≡ addH true (mayWrite l) (getD bytes j 0) (keptByte p j)
@@ -180,6 +144,34 @@ renewed-byte bytes (some k) j = go (k .label)
 pub advance-byte : (memory : List ℕ) (x : ℕ) (q : Tracked) → byteIn x (advanceTracked memory q) ≡ advH (getD memory x 0) (byteIn x q)
 advance-byte memory x q =
     renewed-byte (cellBytes memory (cellOfByte x)) (q .cells (cellOfByte x)) (placeInCell x) ∙ ap (λ (v : ℕ). advH v (byteIn x q)) (cell-byte memory x)
+
+-- the innermost and its parent: a changed cell that the parent lacks goes there with its old byte; one that did not change has memory's already
+give-one : (b : Bool) (p : ℕ) (bytes kept : List ℕ) (a : Label) (j : ℕ) → j < 64 → good b p (getD bytes j 0) (free ∷ labelled a (getD kept j 0) ∷ [])
+    → good b p (getD bytes j 0) (keptByte (keptOut bytes none (some (record { label = a; bytes = kept }))) j
+    ∷ keptByte (renewed bytes (some (record { label = a; bytes = kept }))) j ∷ [])
+give-one b p bytes kept readOnly j l g = g
+give-one b p bytes kept readWrite j l g =
+    by-bool (sameCell kept bytes)
+    (λ y. rw y (sym (bytes-same kept bytes y j l) ∙ g))
+    (λ y. rw y (good-given b p (getD bytes j 0) (getD kept j 0) g))
+
+give-pair : (b : Bool) (p : ℕ) (bytes : List ℕ) (o i : Option Kept) (j : ℕ) → j < 64 → good b p (getD bytes j 0) (keptByte o j ∷ keptByte i j ∷ [])
+    → good b p (getD bytes j 0) (keptByte (keptOut bytes o i) j ∷ keptByte (renewed bytes i) j ∷ [])
+give-pair b p bytes none none j l g = g
+give-pair b p bytes none (some k) j l g = give-one b p bytes (k .bytes) (k .label) j l g
+give-pair b p bytes (some o) i j l g = go (o .label) g
+  where
+    go : (a : Label) → good b p (getD bytes j 0) (labelled a (getD (o .bytes) j 0) ∷ keptByte i j ∷ [])
+        → good b p (getD bytes j 0) (labelled a (getD (o .bytes) j 0) ∷ keptByte (renewed bytes i) j ∷ [])
+    go readOnly g = (g .0, rw (renewed-byte bytes i j) (good-behind p (getD bytes j 0) (keptByte i j) (g .1)))
+    go readWrite g = g
+
+pub give-byte : (b : Bool) (p x : ℕ) (memory : List ℕ) (o i : Tracked) → good b p (getD memory x 0) (byteIn x o ∷ byteIn x i ∷ [])
+    → good b p (getD memory x 0) (byteIn x (giveTracked memory o i) ∷ byteIn x (advanceTracked memory i) ∷ [])
+give-byte b p x memory o i g =
+    let c = cellOfByte x in
+    rw (← cell-byte memory x)
+    (give-pair b p (cellBytes memory c) (o .cells c) (i .cells c) (placeInCell x) (place-below x) (rw (cell-byte memory x) g))
 
 joined-byte : (o i : Option Kept) (j : ℕ) → keptByte (joined o i) j ≡ mergeH (keptByte o j) (keptByte i j)
 joined-byte none i j = refl

@@ -18,7 +18,7 @@ use Rattle.ranges.specs.Ranges.{kindFor, ruleFor, labelFor}
 use Rattle.ranges.specs.Ranges.{named as namedBy}
 use Rattle.model.specs.State.{Label, readOnly, readWrite, Kind, Holding, Domain, State}
 use Rattle.model.specs.Answer.{ask}
-use Rattle.model.specs.Holdings.{Room, holdingAt, innerHolding, outerHolding, isHeld, isWritable, heldChanged, heldReadOnly, isLive, onInnermost, holding, labelNumbered, kindNumbered, raised, added, givenValue, addRanges, newlyHeld, relabelled, addChecks, deleteChecks, advanced, changedCells}
+use Rattle.model.specs.Holdings.{Room, holdingAt, innerHolding, outerHolding, isHeld, isWritable, heldChanged, heldReadOnly, isLive, onInnermost, onParent, holding, labelNumbered, kindNumbered, raised, added, givenValue, addRanges, newlyHeld, relabelled, addChecks, deleteChecks, advanced, given, changedCells}
 use Rattle.model.specs.Holdings.{advance as advanceState}
 use Rattle.model.specs.Restore.{restored, endedDomains, freedEntries, restoreWords}
 use Rattle.model.specs.Session.{Within}
@@ -108,12 +108,25 @@ delete-some m h first n s q = go (isLive h s) (leb (first + n) m) _ q
 
 -- ---- advance
 
+parent-same : (f : Domain → Domain → Domain) (ds : List Domain)
+    → ((o i : Domain) → ((c : ℕ) → i .holds c ≡ holdingAt ds (length ds) c) → f o i ≡ o) → onParent f ds ≡ ds
+parent-same f [] k = refl
+parent-same f (d ∷ []) k = refl
+parent-same f (d ∷ e ∷ []) k = ap (λ (x : Domain). x ∷ e ∷ []) (k d e (λ c. refl))
+parent-same f (d ∷ e ∷ g ∷ ds) k = ap {B = List Domain} (λ l. d ∷ l) (parent-same f (e ∷ g ∷ ds) k)
+
 advanced-same : (bytes : List ℕ) (o : Option Holding) → heldChanged bytes o ≡ false → advanced bytes o ≡ o
 advanced-same bytes o e = rw e
 
+given-same : (bytes : List ℕ) (o i : Option Holding) → heldChanged bytes i ≡ false → given bytes o i ≡ o
+given-same bytes o i e = rw e
+
 pub advance-idle : (cells : ℕ) (memory : List ℕ) (s : State) → Within cells s → changedCells cells memory s ≡ 0 → advanceState memory s ≡ s
 advance-idle cells memory s w e =
-    same-domains s _ (inner-same _ (s .domains) (λ d at. same-holdings _ d (λ c. advanced-same (cellBytes memory c) (d .holds c) (ap (heldChanged (cellBytes memory c)) (at c) ∙ one c))))
+    same-domains s _
+    (ap (onInnermost (λ d. holding (λ c. advanced (cellBytes memory c) (d .holds c)) d))
+    (parent-same _ (s .domains) (λ o i at. same-holdings _ o (λ c. given-same (cellBytes memory c) (o .holds c) (i .holds c) (ap (heldChanged (cellBytes memory c)) (at c) ∙ one c))))
+    ∙ inner-same _ (s .domains) (λ d at. same-holdings _ d (λ c. advanced-same (cellBytes memory c) (d .holds c) (ap (heldChanged (cellBytes memory c)) (at c) ∙ one c))))
   where
     one : (c : ℕ) → heldChanged (cellBytes memory c) (holdingAt (s .domains) (length (s .domains)) c) ≡ false
     one c =

@@ -4,18 +4,18 @@ use mathlib.Core.Bool.{Bool, true, false, cond, not, _&&_, true≢false}
 use mathlib.Core.List.{List, [], _∷_, _++_, map-append}
 use mathlib.Core.Logic.{_⊎_, inl, inr}
 use mathlib.Core.Option.{some}
-use mathlib.Core.Path.{_≡_, refl, ap, _∙_, sym}
+use mathlib.Core.Path.{_≡_, refl, ap, subst, _∙_, sym}
 use borrow.Author.Tests.{eq-eqb}
 use lib.Dec.{eqb}
 use lib.ListN.{length, getD, take}
 use Rattle.words.proofs.Scan.{or-split, count-none}
 use Rattle.words.proofs.Plans.{take-map}
 use Rattle.model.specs.State.{Label}
-use Rattle.model.specs.History.{Tracked, mayWrite, atInnermost, intoParent, newDomain, addTracked, bytesOf, deleteAround, advanceTracked, commitTracked, isIn, anyWritable, writeLine, excludeAfter, differs, mismatches, trackedAt, countOf}
+use Rattle.model.specs.History.{Tracked, mayWrite, atInnermost, intoParent, newDomain, addTracked, bytesOf, deleteAround, advanceTracked, advanceLine, commitTracked, isIn, anyWritable, writeLine, excludeAfter, differs, mismatches, trackedAt, countOf}
 use Rattle.model.specs.Restore.{cellOfByte}
 use Rattle.model.specs.Session.{AllZero}
-use Rattle.model.proofs.Byte.{Hold, addH, advH, mergeH, backAt, anyWr, Covered, good, map-atInnermost, map-intoParent, good-back, good-restore, good-mix, good-create, good-write, good-add, good-commit, good-advance, good-own, good-by}
-use Rattle.model.proofs.Bytes.{byteIn, keptAt, add-byte, delete-byte, advance-byte, commit-byte, any-writable}
+use Rattle.model.proofs.Byte.{Hold, addH, mergeH, backAt, anyWr, good, map-atInnermost, map-intoParent, good-back, good-restore, good-mix, good-create, good-write, good-add, good-commit, good-under, good-own, good-by}
+use Rattle.model.proofs.Bytes.{byteIn, keptAt, add-byte, delete-byte, advance-byte, give-byte, commit-byte, any-writable}
 
 abbrev pub Inv : ℕ → ℕ → List Tracked → Type 0
 Inv x m [] = Unit {0}
@@ -73,24 +73,38 @@ inv-delete x m first n (suc (suc d)) (q ∷ qs) v = (
 
 -- ---- advance
 
-covered-tail : (h k : Hold) (hs : List Hold) → Covered (h ∷ k ∷ hs) → Covered (k ∷ hs)
-covered-tail h k [] c = tt
-covered-tail h k (j ∷ hs) c = c
+line-cons : (memory : List ℕ) (q r t : Tracked) (qs : List Tracked) → advanceLine memory (q ∷ r ∷ t ∷ qs) ≡ q ∷ advanceLine memory (r ∷ t ∷ qs)
+line-cons memory q r t [] = refl
+line-cons memory q r t (u ∷ qs) = refl
 
-pub inv-advance : (x : ℕ) (memory : List ℕ) (qs : List Tracked) → Covered (keptAt x qs) → Inv x (getD memory x 0) qs
-    → Inv x (getD memory x 0) (atInnermost (advanceTracked memory) qs)
-inv-advance x memory [] c v = tt
-inv-advance x memory (q ∷ []) c v = (
+-- a domain around the innermost: its picture stays, and what changed is held by the next domain out
+line-good : (x : ℕ) (memory : List ℕ) (p : ℕ) (q r : Tracked) (qs : List Tracked) (b : Bool) → good b p (getD memory x 0) (keptAt x (q ∷ r ∷ qs))
+    → good b p (getD memory x 0) (keptAt x (advanceLine memory (q ∷ r ∷ qs)))
+line-good x memory p q r [] b g = give-byte b p x memory q r g
+line-good x memory p q r (t ∷ qs) b g =
+    subst (λ (l : List Tracked). good b p (getD memory x 0) (keptAt x l)) (sym (line-cons memory q r t qs))
+    (good-under p (getD memory x 0) (byteIn x q) (keptAt x (r ∷ t ∷ qs)) (keptAt x (advanceLine memory (r ∷ t ∷ qs))) (line-good x memory p r t qs) b g)
+
+own-good : (x : ℕ) (memory : List ℕ) (q : Tracked) → Inv x (getD memory x 0) (q ∷ []) → Inv x (getD memory x 0) (advanceTracked memory q ∷ [])
+own-good x memory q v = (
   λ e s. good-by (getD memory x 0) (getD memory x 0) (ap (λ (h : Hold). h ∷ []) (advance-byte memory x q))
       (good-own (getD (q .snapshot) x 0) (getD memory x 0) (byteIn x q) (v .0 e s)),
   tt,
 )
-inv-advance x memory (q ∷ r ∷ qs) c v = (
-  λ e s. good-by (getD (q .snapshot) x 0) (getD memory x 0)
-      (map-atInnermost (byteIn x) (advanceTracked memory) (advH (getD memory x 0)) (advance-byte memory x) (q ∷ r ∷ qs))
-      (good-advance false (getD (q .snapshot) x 0) (getD memory x 0) (byteIn x q) (byteIn x r) (keptAt x qs) c (v .0 e s)),
-  inv-advance x memory (r ∷ qs) (covered-tail (byteIn x q) (byteIn x r) (keptAt x qs) c) (v .1),
-)
+
+pub inv-advance : (x : ℕ) (memory : List ℕ) (qs : List Tracked) → Inv x (getD memory x 0) qs → Inv x (getD memory x 0) (advanceLine memory qs)
+inv-advance x memory [] v = tt
+inv-advance x memory (q ∷ []) v = own-good x memory q v
+inv-advance x memory (q ∷ r ∷ []) v =
+    (λ e s. line-good x memory (getD (q .snapshot) x 0) q r [] false (v .0 e s), own-good x memory r (v .1))
+inv-advance x memory (q ∷ r ∷ t ∷ qs) v =
+    subst (Inv x (getD memory x 0)) (sym (line-cons memory q r t qs))
+    (λ e s. further e s, inv-advance x memory (r ∷ t ∷ qs) (v .1))
+  where
+    further : q .excluded ≡ false → q .unprotected x ≡ false → good false (getD (q .snapshot) x 0) (getD memory x 0) (keptAt x (q ∷ advanceLine memory (r ∷ t ∷ qs)))
+    further e s =
+        subst (λ (l : List Tracked). good false (getD (q .snapshot) x 0) (getD memory x 0) (keptAt x l)) (line-cons memory q r t qs)
+        (line-good x memory (getD (q .snapshot) x 0) q r (t ∷ qs) false (v .0 e s))
 
 -- ---- commit
 

@@ -49,7 +49,7 @@ lawful room m (delete h first n) s =
     (λ q none w. absurd (let one = delete-some (room .cells) h first n s q in omega arith))
 lawful room m (advance h) s =
     by-questions (advanceChecks room m h s) _ _ _ _ refl
-    (λ q size t z. advance-sound room s m t h q size z)
+    (λ q size t z. advance-sound s m t h z)
     (λ q none w. advance-idle (room .cells) m s w (omega arith))
 lawful room m (commit h) s =
     by-questions (commitChecks h s) _ _ _ _ refl

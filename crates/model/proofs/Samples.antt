@@ -75,6 +75,19 @@ stale : counts begun (does (changed create) 7 ∷ does (changed (add 1 (oneRange
 unfolding count
 stale = refl
 
+-- document 02: 1 holds nothing, 2 copies cell 0 = 7 read-write, write 9, advance 2, write 11, restore 1: 7, a stale 9 is counted; restore 2: 9
+outer-point : counts begun (does (changed create) 7 ∷ does (changed create) 7 ∷ does (changed (add 2 (oneRange 0 1 0 0 1))) 7 ∷ does (written places) 9
+    ∷ does (changed (advance 2)) 9 ∷ does (written places) 11 ∷ does (called (restore 2) 100 isDone) 9 ∷ does (written places) 11
+    ∷ does (called (restore 1) 100 isDone) 7 ∷ does (called (restore 1) 100 isDone) 9 ∷ []) ≡ 0 ∷ 0 ∷ 64 ∷ []
+unfolding count all sameCell
+outer-point = refl
+
+-- what is given outwards is protected there: deleted from 2 after the advance, a restore of 1 has to put it back
+given-out : counts begun (does (changed create) 7 ∷ does (changed create) 7 ∷ does (changed (add 2 (oneRange 0 1 0 0 1))) 7 ∷ does (written places) 9
+    ∷ does (changed (advance 2)) 9 ∷ does (changed (commit 2)) 9 ∷ does (written places) 11 ∷ does (called (restore 1) 100 isDone) 9 ∷ []) ≡ 64 ∷ []
+unfolding count all sameCell
+given-out = refl
+
 -- ---- two cells: no line leaves more unprotected than document 01 says
 
 abbrev twoCells : Event → (v w : ℕ) → Observation
@@ -135,6 +148,23 @@ one-body : (advanceChecks (record { cells = 1; slots = 8; bodies = 1 }) (filled 
     × (advanceChecks (record { cells = 1; slots = 8; bodies = 1 }) (filled 7) 1 outer ≡ 0)
 unfolding count all sameCell
 one-body = (refl, refl, refl)
+
+-- an inner advance: 1 holds nothing, 2 copies cell 0. One entry more is asked for where the cell changed, and one body; the outermost needs no entry
+abbrev lone : State
+lone = addTo (filled 7) 0 1 copy readWrite (created (created fresh))
+
+abbrev innerAsked : (slots bodies v : ℕ) → ℕ
+innerAsked e b v = advanceChecks (record { cells = 1; slots = e; bodies = b }) (filled v) 2 lone
+
+one-entry-more : (innerAsked 1 2 9 ≡ 16) × (innerAsked 2 2 9 ≡ 0) × (innerAsked 1 1 7 ≡ 0) × (innerAsked 1 1 9 ≡ 16) × (innerAsked 2 1 9 ≡ 17)
+    × (advanceChecks (record { cells = 1; slots = 1; bodies = 2 }) (filled 9) 1 outer ≡ 0)
+unfolding count all sameCell
+one-entry-more = (refl, refl, refl, refl, refl, refl)
+
+-- where the parent holds the cell none is asked for
+none-more : advanceChecks (record { cells = 1; slots = 2; bodies = 2 }) (filled 9) 2 both ≡ 0
+unfolding count all sameCell
+none-more = refl
 
 -- "E = 1, cell 0 held: add cells 0 and 1 gives 16; add cell 0 is done."
 one-slot : (addChecks (record { cells = 2; slots = 1; bodies = 8 }) (filled 7 ++ filled 7) 1 (oneRange 0 2 0 0 1) outer ≡ 16)
@@ -221,6 +251,23 @@ session-moved-on = (
       (next {i = call (changes (advance 1)) 200} (call-done room refl refl)
       (next {i = write (fill 11)} (written-to {r = none-given})
       (next {i = call (restore 1) 100} (call-done room refl refl) end)))))))),
+  refl,
+  refl,
+)
+
+-- 1 holds nothing, 2 copies cell 0 = 7 read-write, write 9, advance 2, write 11, restore 1: 7
+session-outer-point : (l : List Observation) × (w : World) × Session 1 (afterMake (filled 7)) l w × (counts begun l ≡ 0 ∷ []) × (memoryOf w ≡ filled 7)
+unfolding count all sameCell restoredMemory
+session-outer-point = (
+  _,
+  _,
+  next {i = call (changes create) 100} (call-done room refl refl)
+      (next {i = call (changes create) 100} (call-done room refl refl)
+      (next {i = call (changes (add 2 (oneRange 0 1 0 0 1))) 100} (call-done room refl refl)
+      (next {i = write (fill 9)} (written-to {r = none-given})
+      (next {i = call (changes (advance 2)) 100} (call-done room refl refl)
+      (next {i = write (fill 11)} (written-to {r = none-given})
+      (next {i = call (restore 1) 100} (call-done room refl refl) end)))))),
   refl,
   refl,
 )

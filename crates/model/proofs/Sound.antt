@@ -13,25 +13,17 @@ use Rattle.ranges.specs.declared.Range.{Range}
 use Rattle.model.specs.State.{State}
 use Rattle.model.specs.Answer.{ask}
 use Rattle.model.specs.Calls.{created, fresh}
-use Rattle.model.specs.Holdings.{Room, named, isLive, isInnermost, isVia, isSome, ruleOf, ruleFits, kindNumbered, labelNumbered, addRange, addRanges, listChecks, addChecks, parentSame, deleteFrom, parentCovers, advanceChecks}
+use Rattle.model.specs.Holdings.{Room, named, isLive, isInnermost, isVia, isSome, ruleOf, ruleFits, kindNumbered, labelNumbered, addRange, addRanges, listChecks, addChecks, parentSame, deleteFrom}
 use Rattle.model.specs.Holdings.{advance as advanceState, commit as commitState}
 use Rattle.model.specs.Restore.{cellOfByte, restoredByte, restoredMemory, restored, restoreChecks}
 use Rattle.model.specs.History.{create, add, delete, advance, commit, Request, restore, changeLine, Tracked, History, withDomains, withWaiting, namedAmong, atDepth, atInnermost, begun, addTracked, addLine, addLines, line, downTo, excludeInside, stopLine, trackedAt, countOf, completed}
 use Rattle.model.specs.Session.{Mixed, next, AllZero, SameDomains, none-left, Agrees}
 use Rattle.model.proofs.Byte.{backAt}
 use Rattle.model.proofs.Agree.{agree-length, agree-named, agree-create, at-length, Matched, agree-add, agree-delete, agree-advance, agree-commit, agree-take, agree-inside}
-use Rattle.model.proofs.Bytes.{keptAt, agree-bytes, restored-byte, covered}
+use Rattle.model.proofs.Bytes.{keptAt, agree-bytes, restored-byte}
 use Rattle.model.proofs.Asking.{ask-yes, ask-rest}
 use Rattle.model.proofs.Ranged.{RangeAsked, range-asked, add-asked, ranges-named, ranges-length}
 use Rattle.model.proofs.Invariant.{Inv, inv-create, inv-add, inv-delete, inv-advance, inv-commit, inv-restore, inv-stopped, count-restored}
-
--- ---- what a call that is not refused has passed
-
--- question 15 of advance
-advance-asked : (a b c : Bool) (rest : ℕ) → ask a 5 (ask b 6 (ask c 15 rest)) ≡ 0 → c ≡ true
-advance-asked a b c rest q =
-    let q6 = ask-rest a 5 (ask b 6 (ask c 15 rest)) (omega arith) q in
-    ask-yes c 15 rest (omega arith) (ask-rest b 6 (ask c 15 rest) (omega arith) q6)
 
 -- ---- a state, memory and a history that go together
 
@@ -109,16 +101,11 @@ delete-sound s m n h first c z =
       inv = λ x l. inv-delete x (getD m x 0) first c (namedAmong h (n .domains)) (n .domains) (z .inv x l);
     })
 
-pub advance-sound : (room : Room) (s : State) (m : List ℕ) (n : History) (h : ℕ) → advanceChecks room m h s ≡ 0 → length m ≡ 64 * room .cells → Sound s m n
-    → Sound (advanceState m s) m (changeLine (advance h) m n)
-advance-sound room s m n h q size z =
-    let asked = advance-asked (isLive h s) (isInnermost h s) (parentCovers (room .cells) s) _ q in
-    record {
-      agrees = record { same-next = z .agrees .same-next; same-domains = agree-advance m (z .agrees .same-domains) };
-      inv = λ x l.
-          let b : cellOfByte x < room .cells = omega arith in
-          inv-advance x m (n .domains) (rw (agree-bytes x (z .agrees .same-domains)) at (covered (room .cells) x s asked b)) (z .inv x l);
-    }
+pub advance-sound : (s : State) (m : List ℕ) (n : History) (h : ℕ) → Sound s m n → Sound (advanceState m s) m (changeLine (advance h) m n)
+advance-sound s m n h z = record {
+  agrees = record { same-next = z .agrees .same-next; same-domains = agree-advance m s (n .domains) (z .agrees .same-domains) };
+  inv = λ x l. inv-advance x m (n .domains) (z .inv x l);
+}
 
 pub commit-sound : (s : State) (m : List ℕ) (n : History) (h : ℕ) → Sound s m n → Sound (commitState s) m (changeLine (commit h) m n)
 commit-sound s m n h z = record {

@@ -7,7 +7,7 @@ use mathlib.Core.Option.{Option, none, some}
 use lib.Dec.{eqb}
 use lib.ListN.{length, getD, take}
 use Rattle.words.specs.Scan.{count}
-use Rattle.words.specs.Cells.{cellBytes}
+use Rattle.words.specs.Cells.{cellBytes, sameCell}
 use Rattle.ranges.specs.declared.Range.{Range}
 use Rattle.model.specs.State.{Label, readOnly, readWrite}
 use Rattle.model.specs.Answer.{Status, isDone, isStopped, isRefused}
@@ -109,7 +109,7 @@ abbrev pub turned : Label → Label → Label
 turned readOnly old = old
 turned readWrite old = readWrite
 
--- ---- one domain of the list: the one at a depth, the innermost, and the innermost that leaves into the one around it
+-- ---- one domain of the list: the one at a depth, the innermost, the one around the innermost, and the innermost that leaves into the one around it
 
 abbrev pub atDepth : {A : Type 0} → ℕ → (A → A) → List A → List A
 atDepth d f [] = []
@@ -121,6 +121,12 @@ abbrev pub atInnermost : {A : Type 0} → (A → A) → List A → List A
 atInnermost f [] = []
 atInnermost f (q ∷ []) = f q ∷ []
 atInnermost f (q ∷ r ∷ qs) = q ∷ atInnermost f (r ∷ qs)
+
+abbrev pub aroundInnermost : {A : Type 0} → (A → A → A) → List A → List A
+aroundInnermost f [] = []
+aroundInnermost f (q ∷ []) = q ∷ []
+aroundInnermost f (q ∷ r ∷ []) = f q r ∷ r ∷ []
+aroundInnermost f (q ∷ r ∷ s ∷ qs) = q ∷ aroundInnermost f (r ∷ s ∷ qs)
 
 abbrev pub intoParent : {A : Type 0} → (A → A → A) → List A → List A
 intoParent f [] = []
@@ -177,7 +183,20 @@ deleteAround first n (suc (suc d)) (q ∷ qs) = unprotect (bytesOf first n) q �
 abbrev pub deleteLine : (h first n : ℕ) → List Tracked → List Tracked
 deleteLine h first n qs = deleteAround first n (namedAmong h qs) qs
 
--- ---- "Advance: the innermost's read-write cells and its picture take memory's bytes"
+-- ---- "Advance: the innermost's read-write cells and its picture take memory's bytes"; by document 02, before that, of the read-write cells whose
+-- bytes memory differs from, those that the next domain out lacks enter there with their label and bytes. Its picture, spoilt bytes and mark stay
+
+abbrev pub differing : List ℕ → Option Kept → Bool
+differing bytes none = false
+differing bytes (some k) = mayWrite (k .label) && not (sameCell (k .bytes) bytes)
+
+-- outer, then inner
+abbrev pub keptOut : List ℕ → Option Kept → Option Kept → Option Kept
+keptOut bytes none i = cond (differing bytes i) i none
+keptOut bytes (some o) i = some o
+
+abbrev pub giveTracked : List ℕ → Tracked → Tracked → Tracked
+giveTracked memory o i = withCells (λ c. keptOut (cellBytes memory c) (o .cells c) (i .cells c)) o
 
 abbrev pub renewed : List ℕ → Option Kept → Option Kept
 renewed bytes none = none
@@ -193,7 +212,7 @@ advanceTracked memory q = record {
 }
 
 abbrev pub advanceLine : List ℕ → List Tracked → List Tracked
-advanceLine memory qs = atInnermost (advanceTracked memory) qs
+advanceLine memory qs = atInnermost (advanceTracked memory) (aroundInnermost (giveTracked memory) qs)
 
 -- ---- "Commit: the innermost leaves. Its cells go to the next out where that lacks them; one that both hold turns read-write there if the
 -- inner was": outer, then inner

@@ -117,7 +117,7 @@ abbrev pub valueOr : List ℕ → Option Holding → List ℕ
 valueOr v none = v
 valueOr v (some h) = h .value
 
--- ---- changes of one domain in the list: of the one at a depth, and of the innermost, whose parent is given where it has one
+-- ---- changes of one domain in the list: of the one at a depth, of the innermost, and of the innermost's parent
 
 abbrev pub onDepth : ℕ → (Domain → Domain) → List Domain → List Domain
 onDepth d f [] = []
@@ -130,7 +130,13 @@ onInnermost f [] = []
 onInnermost f (x ∷ []) = f x ∷ []
 onInnermost f (x ∷ y ∷ ys) = x ∷ onInnermost f (y ∷ ys)
 
--- the innermost leaves, and its parent, if any, is changed by what it held
+-- the innermost's parent, if any, is changed by what the innermost holds: which stays, or leaves
+abbrev pub onParent : (Domain → Domain → Domain) → List Domain → List Domain
+onParent f [] = []
+onParent f (x ∷ []) = x ∷ []
+onParent f (x ∷ y ∷ []) = f x y ∷ y ∷ []
+onParent f (x ∷ y ∷ z ∷ zs) = x ∷ onParent f (y ∷ z ∷ zs)
+
 abbrev pub onCommit : (Domain → Domain → Domain) → List Domain → List Domain
 onCommit f [] = []
 onCommit f (x ∷ []) = []
@@ -332,7 +338,8 @@ abbrev pub deleteEffect : (m h first n : ℕ) → State → Effect
 deleteEffect m h first n s = orRefuse (deleteChecks m h first n s) (change 0 (2 * n) 0 (deleteFrom (named h s) first n s))
 
 -- ---- advance: "gives every read-write cell of the innermost domain memory's bytes, as a copy. Read-only cells keep theirs"; by document 02 "Copy only
--- cells whose memory differs from the held value; the others keep kind and body"
+-- cells whose memory differs from the held value; the others keep kind and body", and it "gives the next domain out each changed read-write cell that
+-- this one lacks, with the old kind, value and label, and keeps the new value itself"
 
 -- held read-write, and memory, which has these bytes, differs from its value
 abbrev pub heldChanged : (bytes : List ℕ) → Option Holding → Bool
@@ -342,34 +349,41 @@ heldChanged bytes (some h) = isWritable (h .label) && not (sameCell (h .value) b
 abbrev pub advanced : (bytes : List ℕ) → Option Holding → Option Holding
 advanced bytes o = cond (heldChanged bytes o) (some (record { label = readWrite; kind = copy; value = bytes })) o
 
+-- of a cell, by what the next domain out and the innermost hold of it: is it given outwards? What does the next domain out hold then?
+abbrev pub isGiven : (bytes : List ℕ) → (outer inner : Option Holding) → Bool
+isGiven bytes outer inner = heldChanged bytes inner && not (isHeld outer)
+
+abbrev pub given : (bytes : List ℕ) → (outer inner : Option Holding) → Option Holding
+given bytes outer inner = cond (isGiven bytes outer inner) inner outer
+
 abbrev pub advance : List ℕ → State → State
 advance memory s = record {
   next = s .next;
-  domains = onInnermost (λ d. holding (λ c. advanced (cellBytes memory c) (d .holds c)) d) (s .domains);
+  domains = onInnermost (λ d. holding (λ c. advanced (cellBytes memory c) (d .holds c)) d)
+      (onParent (λ o i. holding (λ c. given (cellBytes memory c) (o .holds c) (i .holds c)) o) (s .domains));
 }
 
--- the changed read-write cells of the innermost domain, of m cells
+-- the changed read-write cells of the innermost domain, of m cells; and those of them that are given outwards, where it has a parent
 abbrev pub changedCells : (m : ℕ) → List ℕ → State → ℕ
 changedCells m memory s = count m (λ c. heldChanged (cellBytes memory c) (innerHolding s c))
 
--- 15: "Does the next domain out, if any, hold every read-write cell?"
-abbrev pub parentCovers : ℕ → State → Bool
-parentCovers m s =
-    isOutermost (innermost s)
-    || all m (λ c. not (heldWritable (innerHolding s c)) || isHeld (outerHolding s c))
+abbrev pub givenCells : (m : ℕ) → List ℕ → State → ℕ
+givenCells m memory s =
+    count m (λ c. not (isOutermost (innermost s)) && isGiven (cellBytes memory c) (outerHolding s c) (innerHolding s c))
 
--- 17: "Question 17 counts those k cells"
+-- 16, "counting one more entry for each cell given outwards"; 17: "Question 17 counts those k cells". Number 15 is retired
 abbrev pub advanceChecks : Room → List ℕ → (h : ℕ) → State → ℕ
 advanceChecks room memory h s =
     askInnermost h s
-    (ask (parentCovers (room .cells) s) 15
+    (ask (leb (liveEntries (room .cells) s + givenCells (room .cells) memory s) (room .slots)) 16
     (ask (leb (copiesInUse (room .cells) s + changedCells (room .cells) memory s) (room .bodies)) 17 0))
 
 -- where none changed nothing is stored, so that the call is done at every budget
 abbrev pub advanceEffect : Room → List ℕ → (h : ℕ) → State → Effect
 advanceEffect room memory h s =
     let k = changedCells (room .cells) memory s in
-    orRefuse (advanceChecks room memory h s) (change (cellSize * k) (2 * k) 0 (advance memory s))
+    let g = givenCells (room .cells) memory s in
+    orRefuse (advanceChecks room memory h s) (change (cellSize * k) (2 * (k + g)) 0 (advance memory s))
 
 -- ---- commit
 

@@ -1,26 +1,71 @@
 -- Free entry slots and free bodies: who has a body, how many are free, and what marks tell of them. Assumes nothing.
 use Prim.Native.Nat.{ℕ, _+_, _≤_, _<_}
-use mathlib.Core.Bool.{true, not}
+use mathlib.Core.Bool.{true, false, not}
 use mathlib.Core.List.{List}
 use mathlib.Core.Path.{_≡_, sym, ap, _∙_}
 use native.Mathlib.Omega.{arith}
-use borrow.Author.Tests.{eqb-true, eqb-false, not-true}
+use borrow.Author.Tests.{eq-eqb, eqb-true, eqb-false, not-true}
 use lib.Dec.{eqb}
 use lib.ListN.{getD}
 use Rattle.words.specs.Scan.{count, nth}
-use Rattle.words.proofs.Scan.{by-bool, is-true, is-false, true≢, count-not}
+use Rattle.words.proofs.Scan.{by-bool, by-le, is-true, is-false, true≢, count-le, count-not, count-stop}
+use Rattle.words.proofs.Nth.{nth-below, nth-holds, nth-rank}
 use Rattle.words.proofs.Image.{meets, meets-make, meets-some, count-image}
 use Rattle.table.specs.Entry.{word1, word2}
-use Rattle.table.specs.Marks.{Marks, IsCopy}
+use Rattle.table.specs.Marks.{Marks, IsCopy, EndsAt}
 use Rattle.table.proofs.Rule.{Rule}
-use Rattle.search.specs.Free.{slotFree, isCopy, bodyUsed, bodyFree, usedSlots, copies, unmarked, unmarkedFrom}
+use Rattle.search.specs.Free.{slotFree, isCopy, bodyUsed, bodyFree, usedSlots, copies, freeFrom, endOf, unmarked, unmarkedFrom}
 use Rattle.table.proofs.Marks.{owns-facts}
-use Rattle.search.proofs.From.{next-nth, next-below, next-passed}
+use Rattle.search.proofs.From.{from-ge, from-miss, next-nth, next-below, next-passed}
 
 -- ---- free slots: an entry is in use or its slot is free
 pub slots-all : (e : ℕ) (t : List ℕ) → usedSlots e t + count e (slotFree e t) ≡ e
 unfolding usedSlots
 slots-all e t = omega (arith, count-not e (slotFree e t))
+
+module _ (e : ℕ) (t : List ℕ) where
+  -- the next free slot lies behind where the search begins, and those between are in use
+  pub free-ge : (from : ℕ) → from ≤ freeFrom e t from
+  unfolding freeFrom
+  free-ge from = from-ge e from (slotFree e t)
+
+  pub free-miss : (from i : ℕ) → from ≤ i → i < freeFrom e t from → slotFree e t i ≡ false
+  unfolding freeFrom
+  free-miss from = from-miss e from (slotFree e t)
+
+  -- where all from `top` on are free, the r-th lies before the end of any n > r of them
+  pub free-early : (top : ℕ) → EndsAt e t top → (r n : ℕ) → r < n → r < count e (slotFree e t) → nth e (slotFree e t) r < endOf e n top
+  free-early top ends r n more left =
+      let i : ℕ = nth e (slotFree e t) r in
+      let below : i < e = nth-below e (slotFree e t) r left in
+      let rank : count i (slotFree e t) ≡ r = nth-rank e (slotFree e t) r left in
+      by-le top i
+      (λ y.
+      let same : count i (λ x. not (slotFree e t x)) ≡ count top (λ x. not (slotFree e t x)) =
+      count-stop i top (λ x. not (slotFree e t x)) y (λ x p q. ap not (eq-eqb (word1 e t x) 0 (ends .1 x p (omega (arith, q, below)) .0))) in
+      omega (arith, rank, more, below, same, count-not i (slotFree e t), count-le top (λ x. not (slotFree e t x))))
+      (λ y. omega (arith, below))
+
+-- a walk over the free slots, r of which it has passed
+module _ (e : ℕ) (t : List ℕ) (from r : ℕ) (low : from ≤ e) (passed : count from (slotFree e t) ≡ r) where
+  pub free-nth : freeFrom e t from ≡ nth e (slotFree e t) r
+  unfolding freeFrom
+  free-nth = next-nth (slotFree e t) e from r low passed
+
+  module _ (left : r < count e (slotFree e t)) where
+    pub free-below : freeFrom e t from < e
+    unfolding freeFrom
+    free-below = next-below (slotFree e t) e from r low passed left
+
+    pub free-passed : count (freeFrom e t from + 1) (slotFree e t) ≡ r + 1
+    unfolding freeFrom
+    free-passed = next-passed (slotFree e t) e from r low passed left
+
+    pub free-holds : slotFree e t (freeFrom e t from) ≡ true
+    free-holds = ap (slotFree e t) free-nth ∙ nth-holds e (slotFree e t) r left
+
+    pub free-rank : count (freeFrom e t from) (slotFree e t) ≡ r
+    free-rank = ap (λ (i : ℕ). count i (slotFree e t)) free-nth ∙ nth-rank e (slotFree e t) r left
 
 -- ---- free bodies
 module _ (e : ℕ) (t : List ℕ) where

@@ -1,5 +1,5 @@
 -- Free entry slots and free bodies.
-use Prim.Native.Nat.{ℕ, _+_, _-_, _<_}
+use Prim.Native.Nat.{ℕ, _+_, _-_, _<_, min}
 use mathlib.Core.Bool.{Bool, true, not, _&&_}
 use mathlib.Core.List.{List}
 use mathlib.Core.Path.{_≡_}
@@ -43,6 +43,14 @@ lowestFree high free wants j = nth high free (count j wants)
 -- the number below n that takes place i, or n
 unfoldable pub takerOf : (n : ℕ) (wants : ℕ → Bool) (place : ℕ → ℕ) → ℕ → ℕ
 takerOf n wants place i = first n (λ j. wants j && eqb (place j) i)
+
+-- of e entry slots, the lowest free one from `from` on, or e
+unfoldable pub freeFrom : ℕ → List ℕ → ℕ → ℕ
+freeFrom e t from = from + first (e - from) (λ k. slotFree e t (from + k))
+
+-- how far a call that takes the lowest `new` free slots of e changes entries, those from `top` on being free: no entry from here on
+abbrev pub endOf : (e new top : ℕ) → ℕ
+endOf e new top = min e (top + new)
 
 -- body k has not the mark 1 of a body in use
 abbrev pub unmarked : List ℕ → ℕ → Bool

@@ -27,7 +27,7 @@ ghost use Rattle.table.specs.Entry.{live, depthOf, findIn};
 ghost use Rattle.marks.specs.Blocks.{Kept};
 ghost use Rattle.table.specs.Marks.{markAt, Marked, CellsOnce, FreeRun, EndsAt};
 ghost use Rattle.search.specs.Search.{Bare, IsKey, namedBy, Unnamed, HasSource, holderIn, sourceIn, heldBy, valueFrom};
-ghost use Rattle.search.specs.Free.{usedSlots, copies, unmarkedFrom};
+ghost use Rattle.search.specs.Free.{usedSlots, copies, freeFrom, unmarkedFrom};
 ghost use Rattle.search.specs.Domain.{depthNamed};
 ghost use Rattle.search.specs.Writable.{takenBy, KeepsCell, TellWritable};
 
@@ -288,6 +288,21 @@ pub fn count_used(table: &[u32], slots: usize, top: usize) -> InUse
         entries: wide(entries),
         copies: wide(copies),
     }
+}
+
+// The lowest free entry slot from `from` on, or `slots` where none is left.
+pub fn next_free_slot(table: &[u32], slots: usize, from: usize) -> usize
+    requires { ⌜ (slots ≤ maxSlots) × (pairsAt slots ≤ length (now table)) × (from ≤ slots) ⌝ }
+    ensures { λ r. ⌜ r ≡ freeFrom slots (now (table .entry)) from ⌝ }
+{
+    let mut i = from;
+    while i < slots {
+        if first_word(table, slots, i) == 0 {
+            return i;
+        }
+        i += 1;
+    }
+    i
 }
 
 // The lowest body from `from` on that has no mark, or `bodies` where none is left. `used` has the mark 1 at each body in use, so that

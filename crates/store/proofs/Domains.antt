@@ -18,7 +18,7 @@ use Rattle.table.proofs.Entry.{holds-true}
 use Rattle.search.specs.Search.{valueIn}
 use Rattle.search.specs.Domain.{placeOf, depthNamed}
 use Rattle.model.specs.State.{Holding, Domain}
-use Rattle.model.specs.Holdings.{deeper, depthIn, named, holdingAt, isHeld, heldWritable, isVia, heldVia, onDepth, onInnermost, onCommit, holding}
+use Rattle.model.specs.Holdings.{deeper, depthIn, named, holdingAt, isHeld, heldWritable, isVia, heldVia, onDepth, onInnermost, onParent, onCommit, holding}
 use Rattle.store.specs.State.{labelOf, kindOf, heldIn, domainIn, stateIn}
 
 -- ---- lists of domains by a rule
@@ -104,7 +104,31 @@ module _ (g : ℕ → Domain) where
         let one : g at ≡ merge (at + suc n) at = rw z in
         λ i. one i ∷ (commit-from (suc at) n ∙ ap (λ (x : ℕ). tabFrom (merge x) (suc at) (suc n)) y) i
 
-    -- of n domains the last but one, if any, is changed by the last
+    abbrev beside : ℕ → ℕ → Domain
+    beside n k = cond (eqb (suc (suc k)) n) (f (g k) (g (suc k))) (g k)
+
+    parent-from : (at n : ℕ) → onParent f (tabFrom g at n) ≡ tabFrom (beside (at + n)) at n
+    parent-from at zero = refl
+    parent-from at (suc zero) =
+        let z : eqb (suc (suc at)) (at + 1) ≡ false = ne-eqb (suc (suc at)) (at + 1) (λ q. omega arith) in
+        let one : g at ≡ beside (at + 1) at = rw z in
+        λ i. one i ∷ []
+    parent-from at (suc (suc zero)) =
+        let z : eqb (suc (suc at)) (at + 2) ≡ true = eq-eqb (suc (suc at)) (at + 2) (omega arith) in
+        let y : eqb (suc (suc (suc at))) (at + 2) ≡ false = ne-eqb (suc (suc (suc at))) (at + 2) (λ q. omega arith) in
+        let one : f (g at) (g (suc at)) ≡ beside (at + 2) at = rw z in
+        let two : g (suc at) ≡ beside (at + 2) (suc at) = rw y in
+        λ i. one i ∷ two i ∷ []
+    parent-from at (suc (suc (suc n))) =
+        let z : eqb (suc (suc at)) (at + suc (suc (suc n))) ≡ false = ne-eqb (suc (suc at)) (at + suc (suc (suc n))) (λ q. omega arith) in
+        let y : suc at + suc (suc n) ≡ at + suc (suc (suc n)) = omega arith in
+        let one : g at ≡ beside (at + suc (suc (suc n))) at = rw z in
+        λ i. one i ∷ (parent-from (suc at) (suc (suc n)) ∙ ap (λ (x : ℕ). tabFrom (beside x) (suc at) (suc (suc n))) y) i
+
+    -- of n domains the last but one, if any, is changed by the last: which stays, or leaves
+    pub on-parent : (n : ℕ) → onParent f (tab n g) ≡ tab n (λ k. cond (eqb (suc (suc k)) n) (f (g k) (g (suc k))) (g k))
+    on-parent n = parent-from 0 n ∙ ap (λ (x : ℕ). tab n (beside x)) (zero-add n)
+
     pub on-commit : (n : ℕ) → onCommit f (tab n g) ≡ tab (n - 1) (λ k. cond (eqb (suc k) (n - 1)) (f (g k) (g (n - 1))) (g k))
     on-commit zero = refl
     on-commit (suc zero) = refl
@@ -247,6 +271,33 @@ module _ (e : ℕ) (t u old new : List ℕ) (same-live : live u ≡ live t) (sam
       (λ z. rw z (λ i. record { handle = same-handles k l i; holds = λ c. (rw z at (h k c l)) i }))
       (λ z. rw z (λ i. record { handle = same-handles k l i; holds = λ c. (rw z at (h k c l)) i })))
       ∙ sym (on-innermost (domainIn e t old) (λ x. holding (f x) x) (live t)) in
+      λ i. record { next = same-next i; domains = doms i }
+
+  -- the innermost domain has other holdings, and its parent, if any, has others by what the innermost one held
+  pub inner-two-state : (f : Domain → ℕ → Option Holding) (g : Domain → Domain → ℕ → Option Holding)
+      → ((k c : ℕ) → k < live t → heldIn e u new (suc k) c
+      ≡ cond (eqb (suc k) (live t)) (f (domainIn e t old k) c)
+      (cond (eqb (suc (suc k)) (live t)) (g (domainIn e t old k) (domainIn e t old (suc k)) c) (heldIn e t old (suc k) c)))
+      → stateIn e u new ≡ record { next = stateIn e t old .next; domains = onInnermost (λ x. holding (f x) x) (onParent (λ o i. holding (g o i) o) (stateIn e t old .domains)) }
+  unfolding stateIn
+  inner-two-state f g h =
+      let n : ℕ = live t in
+      let was : ℕ → Domain = domainIn e t old in
+      let outer : ℕ → Domain = λ k. cond (eqb (suc (suc k)) n) (holding (g (was k) (was (suc k))) (was k)) (was k) in
+      let doms : tab (live u) (domainIn e u new) ≡ onInnermost (λ x. holding (f x) x) (onParent (λ o i. holding (g o i) o) (tab n was)) =
+      ap (λ (x : ℕ). tab x (domainIn e u new)) same-live
+      ∙ tab-below (domainIn e u new) (λ k. cond (eqb (suc k) n) (holding (f (outer k)) (outer k)) (outer k)) n
+      (λ k l.
+      by-bool (eqb (suc k) n)
+      (λ z.
+      let q = eqb-true (suc k) n z in
+      let y : eqb (suc (suc k)) n ≡ false = ne-eqb (suc (suc k)) n (λ p. omega arith) in
+      rw (z, y) (λ i. record { handle = same-handles k l i; holds = λ c. (rw z at (h k c l)) i }))
+      (λ z.
+      by-bool (eqb (suc (suc k)) n)
+      (λ y. rw (z, y) (λ i. record { handle = same-handles k l i; holds = λ c. (rw (z, y) at (h k c l)) i }))
+      (λ y. rw (z, y) (λ i. record { handle = same-handles k l i; holds = λ c. (rw (z, y) at (h k c l)) i }))))
+      ∙ sym (ap (onInnermost (λ x. holding (f x) x)) (on-parent was (λ o i. holding (g o i) o) n) ∙ on-innermost outer (λ x. holding (f x) x) n) in
       λ i. record { next = same-next i; domains = doms i }
 
 -- the innermost domain has left, and its parent has other holdings

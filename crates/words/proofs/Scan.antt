@@ -201,3 +201,11 @@ count-or (suc n) f g h =
     by-bool (g n)
     (λ q. rw (p, q, rest) (omega arith))
     (λ q. rw (p, q, rest)))
+
+-- those that pass a second test too are no more
+pub count-both : (n : ℕ) (f g : ℕ → Bool) → count n (λ i. f i && g i) ≤ count n f
+unfolding count
+count-both zero f g = omega arith
+count-both (suc n) f g =
+    let rest : count n (λ i. f i && g i) ≤ count n f = count-both n f g in
+    by-bool (f n) (λ p. by-bool (g n) (λ q. rw (p, q) (omega arith)) (λ q. rw (p, q) (omega arith))) (λ p. rw p (omega arith))

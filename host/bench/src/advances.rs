@@ -1,16 +1,19 @@
 //! Advances of n cells of which k have changed (request A.2), by the library and by the baseline, by turns in one process, beside what
-//! such an advance cannot do without: a plain compare of the n cells with what is held, and the check of the table (list).
+//! such an advance cannot do without: a plain compare of the n cells with what is held, and the check of the table (list). Among them
+//! advances of an inner domain that give the k cells to the one around it (request A.4).
 //!
 //! Where nothing has changed the call changes nothing either, so that it is made many times for one figure, as list and the compare
 //! are; else the buffers are put back before each call, out of the measured time.
 
-use crate::measure::{Clock, Layout, ROUNDS, RULE, Runner, Shape, State, TURN, median};
+use crate::measure::{
+    Clock, Layout, Measuring, RULE, Runner, Shape, State, by_turns, entries_in_use, median,
+};
 use crate::stores::{Baseline, Library, Measured};
 use domain_model::calls::{COPY, PATTERN, VIA_PARENT};
 use domain_model::rules::pattern;
 use domain_model::{Buffers, Call};
 use std::hint::black_box;
-use std::time::{Duration, Instant};
+use std::time::Duration;
 
 /// How the advanced domain holds its cells.
 #[derive(Clone, Copy, PartialEq, Eq, Debug)]
@@ -20,14 +23,27 @@ pub enum Kept {
     /// The only other domain, around it, holds them as copies.
     ViaParent,
     ByRule,
+    /// By copies too, and the only other domain, around it, holds nothing: what has changed is given to that one.
+    Inside,
 }
 
 impl Kept {
+    pub const ALL: [Kept; 4] = [Kept::Copies, Kept::ViaParent, Kept::ByRule, Kept::Inside];
+
+    /// Domains that live.
+    fn domains(self) -> usize {
+        match self {
+            Kept::Copies | Kept::ByRule => 1,
+            Kept::ViaParent | Kept::Inside => 2,
+        }
+    }
+
     pub fn name(self) -> &'static str {
         match self {
             Kept::Copies => "copies",
             Kept::ViaParent => "via parent",
             Kept::ByRule => "by rule",
+            Kept::Inside => "inside",
         }
     }
 }
@@ -43,9 +59,11 @@ pub struct Case {
 
 const MEMORY: usize = 65_536;
 pub const PLACES: usize = 4_096;
-const CELLS: [usize; 3] = [64, 512, 2_048];
+const CELLS: [usize; 4] = [64, 512, 1_024, 2_048];
 /// Where the cells are held without copies.
 const FEW: usize = 512;
+/// Where they are held by a domain inside another that lacks them.
+const INSIDE: [usize; 2] = [64, 1_024];
 
 /// All cases of so many cells: these are measured by turns.
 fn cases(cells: usize) -> Vec<Case> {
@@ -54,7 +72,7 @@ fn cases(cells: usize) -> Vec<Case> {
         shape: Shape {
             memory: MEMORY,
             places: PLACES,
-            domains: if kept == Kept::ViaParent { 2 } else { 1 },
+            domains: kept.domains(),
             layout,
             cells,
         },
@@ -68,6 +86,9 @@ fn cases(cells: usize) -> Vec<Case> {
         if cells == FEW {
             all.extend([Kept::ViaParent, Kept::ByRule].map(|kept| case(kept, layout, 0)));
         }
+        if INSIDE.contains(&cells) {
+            all.extend([0, cells / 8, cells].map(|k| case(Kept::Inside, layout, k)));
+        }
     }
     all
 }
@@ -77,6 +98,14 @@ impl Case {
     fn changed(&self) -> impl Iterator<Item = usize> {
         let (k, n) = (self.changed, self.shape.cells);
         (0..k).map(move |index| index * n / k)
+    }
+
+    /// How many of the changed cells are given outwards.
+    fn given(&self) -> usize {
+        match self.kept {
+            Kept::Inside => self.changed,
+            _ => 0,
+        }
     }
 
     /// Memory as it was when the cells were taken, but for the last byte of each cell that has changed.
@@ -97,6 +126,7 @@ impl Case {
         match self.kept {
             Kept::Copies => refused |= runner.preserve(COPY),
             Kept::ViaParent => refused |= runner.preserve(COPY) | runner.preserve(VIA_PARENT),
+            Kept::Inside => refused |= runner.call(Call::Create) | runner.preserve(COPY),
             Kept::ByRule => {
                 self.shape.write_pattern(&mut runner.buffers.memory);
                 refused |= runner.preserve(PATTERN);
@@ -174,7 +204,6 @@ struct Rounds {
     baseline: Runner<Baseline>,
     /// Library, baseline, compare and list.
     times: [Vec<f64>; 4],
-    spent: Duration,
 }
 
 impl Rounds {
@@ -191,13 +220,13 @@ impl Rounds {
             library,
             baseline: Runner::new(shape, Baseline),
             times: Default::default(),
-            spent: Duration::ZERO,
         };
         rounds.check();
         rounds
     }
 
-    /// The first run of each is not counted. It is used to see that both leave the same, and that as many cells have changed as is said.
+    /// The first run of each is not counted. It is used to see that both leave the same, that as many cells have changed as is said, and
+    /// that an inner advance has given them outwards.
     fn check(&mut self) {
         let (case, held) = (&self.case, &self.held);
         advance(case, &self.clock, held, &mut self.library);
@@ -217,6 +246,9 @@ impl Rounds {
                 .any(|body| body == now)
         };
         assert!(case.changed().take(8).all(|index| copied(&index)));
+        let places = case.shape.places;
+        let used = entries_in_use(&self.library.buffers.table, places);
+        assert_eq!(used, held.entries(places) + case.given(), "{case:?}");
     }
 
     fn compare(&self, buffers: &Buffers) -> usize {
@@ -231,11 +263,20 @@ impl Rounds {
         }
     }
 
-    fn goes_on(&self, limit: Duration) -> bool {
-        let rounds = self.times[0].len();
-        rounds < ROUNDS.0 || (self.spent < limit && rounds < ROUNDS.1)
+    fn medians(self) -> Medians {
+        let [library, baseline, compare, list] =
+            self.times.map(|times| median(times).expect("measured"));
+        Medians {
+            case: self.case,
+            library,
+            baseline,
+            compare,
+            list,
+        }
     }
+}
 
+impl Measuring for Rounds {
     /// Library and baseline once each; each goes first every other time.
     fn round(&mut self) {
         let (case, clock, held) = (&self.case, &self.clock, &self.held);
@@ -258,26 +299,6 @@ impl Rounds {
         let time = clock.repeated(|| self.library.call(Call::List));
         self.times[3].extend(time);
     }
-
-    fn turn(&mut self, limit: Duration) {
-        let start = Instant::now();
-        while self.goes_on(limit) && start.elapsed() < TURN {
-            self.round();
-        }
-        self.spent += start.elapsed();
-    }
-
-    fn medians(self) -> Medians {
-        let [library, baseline, compare, list] =
-            self.times.map(|times| median(times).expect("measured"));
-        Medians {
-            case: self.case,
-            library,
-            baseline,
-            compare,
-            list,
-        }
-    }
 }
 
 /// One advance, from the state that it is to meet.
@@ -298,9 +319,7 @@ pub fn measure_all(limit: Duration) -> Vec<Medians> {
         let cases = cases(cells);
         eprintln!("measuring: advances, n = {cells}, cases {}", cases.len());
         let mut rounds: Vec<Rounds> = cases.into_iter().map(Rounds::new).collect();
-        while rounds.iter().any(|rounds| rounds.goes_on(limit)) {
-            rounds.iter_mut().for_each(|rounds| rounds.turn(limit));
-        }
+        by_turns(&mut rounds, limit);
         all.extend(rounds.into_iter().map(Rounds::medians));
     }
     all

@@ -1,5 +1,6 @@
 //! The same store without proofs, as a plain systems program: the format, the questions and the journal of document 01, with the cells
-//! of request A.1 that follow a pattern, the shorter advances of request A.2 and the add of several ranges of request A.3.
+//! of request A.1 that follow a pattern, the shorter advances of request A.2, the add of several ranges of request A.3 and the inner
+//! advances of request A.4, which give the next domain out what it lacks.
 //!
 //! It is here to be measured beside the library, so it makes no use of it. What it does:
 //!
@@ -12,7 +13,9 @@
 //! - For the calls that look for entries by cell (restore, advance and add via parent), the pass also notes the last entry of each cell,
 //!   and for each entry the one before it with the same cell. So a holder is found at once, wherever it stands.
 //! - Restore and advance take their cells in order by the directory. Advance compares each read-write cell with what is held in one pass
-//!   over the entries, and sets a bit for each that has changed: cells that have not are not met again.
+//!   over the entries, and sets a bit for each that has changed: cells that have not are not met again. Which of the changed ones the
+//!   next domain out lacks is told by their marks; the entries that it is given are noted in order of cell, and the walk over the
+//!   entries that stages the new copies meets the free places for them too.
 //! - An add of several ranges checks the table once. A cell that a range takes is marked as held, so that a later range sees it, and gets
 //!   a bit in the word of its block, with a byte that says how it is kept; cells that read-write ranges name have a bit in another word.
 //!   The bits are then met in order of cell, for bytes and entries of the whole list.
@@ -174,6 +177,12 @@ impl Notes {
         self.group(cell / GROUP)[cell % GROUP] >> (depth - 1) & 1 == 1
     }
 
+    /// Whether an advance of this depth gives a changed cell outwards: there is a domain around it, which lacks the cell.
+    #[inline]
+    fn gives(&self, depth: usize, cell: usize) -> bool {
+        depth > 1 && !self.holds(depth - 1, cell)
+    }
+
     /// The cells of a range that this depth does not hold, rising.
     #[inline]
     fn not_held(&self, depth: usize, range: Range<usize>) -> impl Iterator<Item = usize> {
@@ -296,10 +305,10 @@ struct Scratch {
     /// For each block a bit for some of its cells. Commit: those that raise a label. Advance: those that have changed. Add of several
     /// ranges: those that are newly held.
     chosen: [u64; 1 + MAX_GROUPS],
-    /// Add of several ranges. For each block a bit for the cells that a read-write range names; for each chosen cell how it is kept; and
-    /// the entries to be taken.
+    /// Add of several ranges. For each block a bit for the cells that a read-write range names; and for each chosen cell how it is kept.
     raising: [u64; 1 + MAX_GROUPS],
     kept: [[Kept; GROUP]; 1 + MAX_GROUPS],
+    /// Add of several ranges: the entries to be taken. Advance: those that are given outwards.
     staged: [(u32, u32); MAX_PLACES],
     /// Advance: the new body of each entry, or `u16::MAX`.
     body_for: [u16; MAX_PLACES],
@@ -712,6 +721,31 @@ impl Journal {
     ) -> Result<(), Stop> {
         self.pair(stores, table, 16 + 2 * place, words.0)?;
         self.pair(stores, table, 17 + 2 * place, words.1)
+    }
+
+    /// The entries of an advance: those with a new body become copies, and the given ones take the lowest free places.
+    #[inline]
+    fn advanced(
+        &mut self,
+        stores: &mut Stores,
+        table: &mut [u32],
+        body_for: &[u16],
+        given: &[(u32, u32)],
+    ) -> Result<(), Stop> {
+        let mut given = given.iter();
+        for (place, &body) in body_for.iter().enumerate() {
+            if body != u16::MAX {
+                let word = entry(table, place).0 & !(VIA_PARENT | BY_RULE);
+                self.entry(stores, table, place, (word, body as u32))?;
+            } else if !given.as_slice().is_empty() && entry(table, place).0 == 0 {
+                let words = given.next().copied().unwrap_or_default();
+                self.entry(stores, table, place, words)?;
+            }
+        }
+        for (place, &words) in (body_for.len()..).zip(given) {
+            self.entry(stores, table, place, words)?;
+        }
+        Ok(())
     }
 
     fn finish(self, stores: &mut Stores, table: &mut [u32]) -> Result<(), Stop> {
@@ -1173,31 +1207,29 @@ fn commit(lent: Slices, handle: u32, budget: u64, scratch: &mut Scratch) -> Resu
     Ok(stores.answer(end))
 }
 
-/// Question 15 for every read-write cell of the innermost domain, and which of them have changed: a bit for each in the word of its
-/// block. Gives their number.
+/// Which read-write cells of the innermost domain have changed: a bit for each in the word of its block. Gives their number, and how
+/// many of them the next domain out lacks.
 fn changed(
     lent: &Slices,
     depth: usize,
     notes: &Notes,
     chosen: &mut [u64; 1 + MAX_GROUPS],
-) -> Result<usize, u32> {
+) -> (usize, usize) {
     let (memory, bodies, table) = (&*lent.memory, &*lent.bodies, &*lent.table);
     chosen[..=notes.blocks].fill(0);
-    let mut count = 0;
+    let (mut count, mut given) = (0, 0);
     for (place, &[word, _]) in entries(table, notes.end).iter().enumerate() {
         if depth_of(word) != depth || word & READ_WRITE == 0 {
             continue;
         }
         let cell = cell_of(word);
-        if depth > 1 && !notes.holds(depth - 1, cell) {
-            return Err(15);
-        }
         if cell_at(memory, cell) != notes.bytes_behind(table, bodies, place) {
             chosen[notes.directory[cell / GROUP] as usize] |= 1 << (cell % GROUP);
             count += 1;
+            given += usize::from(notes.gives(depth, cell));
         }
     }
-    Ok(count)
+    (count, given)
 }
 
 #[inline(never)]
@@ -1205,13 +1237,17 @@ fn advance(lent: Slices, handle: u32, budget: u64, scratch: &mut Scratch) -> Res
     let Scratch {
         notes,
         chosen,
+        staged,
         body_for,
         ..
     } = scratch;
     let shape = check::<true>(&lent, notes)?;
     let notes = &*notes;
     let depth = innermost(lent.table, handle)?;
-    let count = changed(&lent, depth, notes, chosen)?;
+    let (count, given) = changed(&lent, depth, notes, chosen);
+    if notes.entries + given > shape.entries {
+        return Err(16);
+    }
     if notes.copies + count > shape.bodies {
         return Err(17);
     }
@@ -1223,20 +1259,20 @@ fn advance(lent: Slices, handle: u32, budget: u64, scratch: &mut Scratch) -> Res
     body_for.fill(u16::MAX);
     let mut stores = Stores::new(budget);
     let end = (|| {
-        let mut free = FreeBodies::new(&notes.used);
+        // In order of cell: the bytes of the copies, and the entries that are given, as they stand but one depth further out.
+        let (mut free, mut staging) = (FreeBodies::new(&notes.used), staged.iter_mut());
         notes.each_chosen(&chosen[..], |cell| {
             let body = free.take();
-            body_for[notes.find(table, depth, cell)] = body as u16;
+            let place = notes.find(table, depth, cell);
+            body_for[place] = body as u16;
+            if notes.gives(depth, cell) {
+                let (word, second) = entry(table, place);
+                *staging.next().expect("room was asked for") = (word - (1 << 28), second);
+            }
             stores.cell(&mut bodies[CELL * body..], cell_at(memory, cell))
         })?;
         let mut journal = Journal::new(shape);
-        for (place, &body) in body_for.iter().enumerate() {
-            if body != u16::MAX {
-                let (word, _) = entry(table, place);
-                let word = word & !(VIA_PARENT | BY_RULE);
-                journal.entry(&mut stores, table, place, (word, body as u32))?;
-            }
-        }
+        journal.advanced(&mut stores, table, body_for, &staged[..given])?;
         journal.finish(&mut stores, table)
     })();
     Ok(stores.answer(end))

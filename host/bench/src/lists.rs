@@ -3,12 +3,14 @@
 //!
 //! The buffers are put back before each run, out of the measured time, and so are the calls put together.
 
-use crate::measure::{Clock, Layout, ROUNDS, RULE, Runner, Shape, State, TURN, median};
+use crate::measure::{
+    Clock, Layout, Measuring, RULE, Runner, Shape, State, by_turns, entries_in_use, median,
+};
 use crate::stores::{Baseline, Library, Measured};
 use domain_model::calls::{COPY, PATTERN, READ_WRITE, RECORDS, Record, VIA_PARENT};
 use domain_model::edges::TILE;
 use domain_model::{Buffers, Call, rules};
-use std::time::{Duration, Instant};
+use std::time::Duration;
 
 /// One set of ranges that is measured.
 #[derive(Clone, Debug)]
@@ -176,7 +178,6 @@ struct Rounds {
     baseline: Runner<Baseline>,
     /// Lists by library and baseline, single adds by both.
     times: [Vec<f64>; 4],
-    spent: Duration,
 }
 
 impl Rounds {
@@ -193,7 +194,6 @@ impl Rounds {
             library,
             baseline,
             times: Default::default(),
-            spent: Duration::ZERO,
             case,
         };
         rounds.check();
@@ -207,41 +207,10 @@ impl Rounds {
             run(calls, &self.clock, &self.ground, &mut self.baseline);
             let differs = self.baseline.buffers.differs(&self.library.buffers);
             assert_eq!(differs, None, "after {}", self.case.name);
-            let entries = self.library.buffers.table[16..].chunks(2);
-            let entries = entries.take(self.case.shape.places);
-            let used = entries.filter(|pair| pair[0] != 0).count();
+            let used = entries_in_use(&self.library.buffers.table, self.case.shape.places);
             let around: u32 = self.case.around.iter().map(|record| record.count).sum();
             assert_eq!(used, self.case.shape.cells + around as usize);
         }
-    }
-
-    fn goes_on(&self, limit: Duration) -> bool {
-        let rounds = self.times[0].len();
-        rounds < ROUNDS.0 || (self.spent < limit && rounds < ROUNDS.1)
-    }
-
-    /// Library and baseline once each; each goes first every other time.
-    fn round(&mut self) {
-        let (clock, ground) = (&self.clock, &self.ground);
-        let library_first = self.times[0].len().is_multiple_of(2);
-        for (calls, place) in [(&self.lists, 0), (&self.single, 2)] {
-            if library_first {
-                self.times[place].push(run(calls, clock, ground, &mut self.library));
-            }
-            let time = run(calls, clock, ground, &mut self.baseline);
-            self.times[place + 1].push(time);
-            if !library_first {
-                self.times[place].push(run(calls, clock, ground, &mut self.library));
-            }
-        }
-    }
-
-    fn turn(&mut self, limit: Duration) {
-        let start = Instant::now();
-        while self.goes_on(limit) && start.elapsed() < TURN {
-            self.round();
-        }
-        self.spent += start.elapsed();
     }
 
     fn medians(self) -> Medians {
@@ -257,6 +226,24 @@ impl Rounds {
     }
 }
 
+impl Measuring for Rounds {
+    /// Library and baseline once each; each goes first every other time.
+    fn round(&mut self) {
+        let (clock, ground) = (&self.clock, &self.ground);
+        let library_first = self.times[0].len().is_multiple_of(2);
+        for (calls, place) in [(&self.lists, 0), (&self.single, 2)] {
+            if library_first {
+                self.times[place].push(run(calls, clock, ground, &mut self.library));
+            }
+            let time = run(calls, clock, ground, &mut self.baseline);
+            self.times[place + 1].push(time);
+            if !library_first {
+                self.times[place].push(run(calls, clock, ground, &mut self.library));
+            }
+        }
+    }
+}
+
 /// These calls, from the state that they are to meet. No add touches memory, so that this stays.
 fn run<S: Measured>(calls: &[Call], clock: &Clock, ground: &State, runner: &mut Runner<S>) -> f64 {
     ground.put(&mut runner.buffers);
@@ -268,8 +255,6 @@ pub fn measure_all(limit: Duration) -> Vec<Medians> {
     let cases = cases();
     eprintln!("measuring: lists of ranges, cases {}", cases.len());
     let mut rounds: Vec<Rounds> = cases.into_iter().map(Rounds::new).collect();
-    while rounds.iter().any(|rounds| rounds.goes_on(limit)) {
-        rounds.iter_mut().for_each(|rounds| rounds.turn(limit));
-    }
+    by_turns(&mut rounds, limit);
     rounds.into_iter().map(Rounds::medians).collect()
 }

@@ -525,10 +525,8 @@ fn print_by_rule_row(medians: &Medians) {
 /// how the cells are held.
 struct Advances {
     beside: Vec<Held>,
-    unchanged: [Vec<Held>; KEPT.len()],
+    unchanged: [Vec<Held>; Kept::ALL.len()],
 }
-
-const KEPT: [Kept; 3] = [Kept::Copies, Kept::ViaParent, Kept::ByRule];
 
 fn print_advances(all: &[advances::Medians]) -> Advances {
     println!(
@@ -541,6 +539,9 @@ fn print_advances(all: &[advances::Medians]) -> Advances {
     println!(
         "differs in its last byte. Where k is 0 the call changes nothing, and is made many times for one figure, as compare and list are."
     );
+    println!(
+        "Inside: copies of a domain inside one that holds nothing, so that the k cells are given to that one."
+    );
     println!();
     println!(
         "| Held       | Cells      |     n |     k | library | baseline | times baseline | compare |   list | times compare + list |"
@@ -548,7 +549,7 @@ fn print_advances(all: &[advances::Medians]) -> Advances {
     println!(
         "|------------|------------|------:|------:|--------:|---------:|---------------:|--------:|-------:|---------------------:|"
     );
-    let (mut beside, mut unchanged) = (Vec::new(), KEPT.map(|_| Vec::new()));
+    let (mut beside, mut unchanged) = (Vec::new(), Kept::ALL.map(|_| Vec::new()));
     for medians in all {
         let advances::Case {
             kept,
@@ -739,7 +740,7 @@ fn account_advances(advances: &Advances) {
         &format!("advance of k cells <= {GOAL}"),
         advances.beside.iter(),
     );
-    for (kept, held) in KEPT.iter().zip(&advances.unchanged) {
+    for (kept, held) in Kept::ALL.iter().zip(&advances.unchanged) {
         let title = format!("unchanged, {} <= {GOAL_UNCHANGED}", kept.name());
         account_named(&title, held);
     }

@@ -436,12 +436,22 @@ impl State {
         buffers.table.copy_from_slice(&self.table);
     }
 
+    pub(crate) fn entries(&self, places: usize) -> usize {
+        entries_in_use(&self.table, places)
+    }
+
     /// The same entries in the opposite order, so that those in use come last.
     fn turn_round(&mut self, places: usize) {
         let entries = &mut self.table[16..16 + 2 * places];
         entries.reverse();
         entries.chunks_exact_mut(2).for_each(|pair| pair.swap(0, 1));
     }
+}
+
+/// How many entries of a table with so many places are in use.
+pub(crate) fn entries_in_use(table: &[u32], places: usize) -> usize {
+    let entries = table[16..].chunks(2).take(places);
+    entries.filter(|pair| pair[0] != 0).count()
 }
 
 /// How often a call that changes nothing is made for one figure, since a short one is hardly longer than the clock's own time.
@@ -654,10 +664,34 @@ fn medians(runs: &[Times]) -> Times {
     std::array::from_fn(|call| median(runs.iter().filter_map(|times| times[call]).collect()))
 }
 
-/// How long a shape is measured before it is another's turn, unless one round takes longer.
-pub(crate) const TURN: Duration = Duration::from_millis(10);
+/// How long a case is measured before it is another's turn, unless one round takes longer.
+const TURN: Duration = Duration::from_millis(10);
 /// How many rounds there are at least and at most.
-pub(crate) const ROUNDS: (usize, usize) = (7, 1_001);
+const ROUNDS: (usize, usize) = (7, 1_001);
+
+/// What is measured round by round, and keeps the figures of each.
+pub(crate) trait Measuring {
+    fn round(&mut self);
+}
+
+/// Measures these by turns, each until `limit` has passed, so that figures of different cases may be compared too: a machine with other
+/// work is slower at one time than at another.
+pub(crate) fn by_turns<M: Measuring>(all: &mut [M], limit: Duration) {
+    let mut made = vec![(0, Duration::ZERO); all.len()];
+    let goes_on = |&(rounds, spent): &(usize, Duration)| {
+        rounds < ROUNDS.0 || (spent < limit && rounds < ROUNDS.1)
+    };
+    while made.iter().any(goes_on) {
+        for (case, made) in all.iter_mut().zip(&mut made) {
+            let start = Instant::now();
+            while goes_on(made) && start.elapsed() < TURN {
+                case.round();
+                made.0 += 1;
+            }
+            made.1 += start.elapsed();
+        }
+    }
+}
 
 /// A shape with what was measured of it so far.
 struct Rounds {
@@ -667,7 +701,6 @@ struct Rounds {
     memcpy: Vec<Times>,
     scans: Vec<f64>,
     sums: Vec<f64>,
-    spent: Duration,
 }
 
 impl Rounds {
@@ -681,16 +714,22 @@ impl Rounds {
             memcpy: Vec::new(),
             scans: Vec::new(),
             sums: Vec::new(),
-            spent: Duration::ZERO,
         }
     }
 
-    /// Whether there is more to measure within this limit.
-    fn goes_on(&self, limit: Duration) -> bool {
-        let rounds = self.library.len();
-        rounds < ROUNDS.0 || (self.spent < limit && rounds < ROUNDS.1)
+    fn medians(self) -> Medians {
+        Medians {
+            shape: self.bench.setting.shape,
+            library: medians(&self.library),
+            baseline: medians(&self.baseline),
+            memcpy: medians(&self.memcpy),
+            scan: median(self.scans).expect("measured"),
+            sum: median(self.sums).expect("measured"),
+        }
     }
+}
 
+impl Measuring for Rounds {
     /// Library and baseline once each; each goes first every other time.
     fn round(&mut self) {
         let bench = &mut self.bench;
@@ -717,33 +756,11 @@ impl Rounds {
         self.scans.extend(scan);
         self.sums.extend(sum);
     }
-
-    fn turn(&mut self, limit: Duration) {
-        let start = Instant::now();
-        while self.goes_on(limit) && start.elapsed() < TURN {
-            self.round();
-        }
-        self.spent += start.elapsed();
-    }
-
-    fn medians(self) -> Medians {
-        Medians {
-            shape: self.bench.setting.shape,
-            library: medians(&self.library),
-            baseline: medians(&self.baseline),
-            memcpy: medians(&self.memcpy),
-            scan: median(self.scans).expect("measured"),
-            sum: median(self.sums).expect("measured"),
-        }
-    }
 }
 
-/// Measures these shapes by turns, each until `limit` has passed, so that figures of different shapes may be compared too: a machine
-/// with other work is slower at one time than at another.
+/// Measures these shapes by turns, each until `limit` has passed.
 pub fn measure(shapes: &[Shape], limit: Duration) -> Vec<Medians> {
     let mut all: Vec<Rounds> = shapes.iter().map(|&shape| Rounds::new(shape)).collect();
-    while all.iter().any(|rounds| rounds.goes_on(limit)) {
-        all.iter_mut().for_each(|rounds| rounds.turn(limit));
-    }
+    by_turns(&mut all, limit);
     all.into_iter().map(Rounds::medians).collect()
 }

@@ -5,7 +5,7 @@
 use domain_bench::measure::{Layout, Shape, laid_down};
 use domain_bench::stores::Baseline;
 use domain_lend::Linked;
-use domain_model::calls::{REFUSALS, Record};
+use domain_model::calls::{Record, refusals};
 use domain_model::rules::pattern;
 use domain_model::{Buffers, Call, FULL, Rng, STOPPED, Sizes, Store};
 use std::collections::BTreeMap;
@@ -175,11 +175,37 @@ fn same(
     reply.code
 }
 
+/// Entries in use.
+fn used(buffers: &Buffers) -> usize {
+    let Some(sizes) = buffers.lengths().sizes() else {
+        return 0;
+    };
+    let entries = buffers.table[16..].chunks(2).take(sizes.e as usize);
+    entries.filter(|pair| pair[0] != 0).count()
+}
+
+/// Advances that gave cells outwards, and such as had no entry for them.
+#[derive(Default)]
+struct Inner {
+    gave: u64,
+    short: u64,
+}
+
+impl Inner {
+    fn count(&mut self, call: &Call, number: u32, before: usize, after: &Buffers) {
+        if matches!(call, Call::Advance { .. }) {
+            self.gave += u64::from(number == 0 && used(after) > before);
+            self.short += u64::from(number == 16);
+        }
+    }
+}
+
 #[test]
 fn same_answers_and_buffers() {
     let mut random = Rng::new(0x1234_5678_9ABC_DEF1);
     let mut numbers = BTreeMap::new();
     let mut calls = 0u64;
+    let mut inner = Inner::default();
     for session in 0..1_500 {
         let mut size = |most| random.between(1, most) as u32;
         let (m, e, b) = (size(5), size(8), size(8));
@@ -195,7 +221,12 @@ fn same_answers_and_buffers() {
                 4 if one_in(&mut random, 4) => Call::Make,
                 _ => choose(&mut random, &ours, 0, m),
             };
-            if one_in(&mut random, 6) {
+            // More often before an advance, which else finds nothing to copy.
+            let seldom = match call {
+                Call::Advance { .. } => 2,
+                _ => 6,
+            };
+            if one_in(&mut random, seldom) {
                 let cell = random.below(ours.memory.len() as u64 / 64 + 1) as usize;
                 write(&mut random, &mut ours.memory, cell);
             }
@@ -206,9 +237,11 @@ fn same_answers_and_buffers() {
             }
             theirs.copy_from(&ours);
             let budget = budget(&mut random, 300);
+            let before = used(&ours);
             last = same(&mut ours, &mut theirs, &call, budget, || {
                 format!("session {session} on {undamaged:?}")
             });
+            inner.count(&call, last, before, &ours);
             *numbers.entry(last).or_insert(0u64) += 1;
             calls += 1;
             if damaged && ![0, STOPPED].contains(&last) && random.below(4) > 0 {
@@ -217,8 +250,13 @@ fn same_answers_and_buffers() {
             }
         }
     }
-    println!("{calls} calls; answers by number: {numbers:?}");
-    for number in REFUSALS.chain([0, STOPPED]) {
+    let Inner { gave, short } = inner;
+    println!("{calls} calls; {gave} advances gave cells; answers by number: {numbers:?}");
+    assert!(
+        gave >= 100 && short >= 20,
+        "{gave} gave cells, {short} had no entry"
+    );
+    for number in refusals().chain([0, STOPPED]) {
         assert!(
             numbers.contains_key(&number),
             "no call was answered by {number}"
@@ -298,6 +336,41 @@ fn with_inner(held: &Buffers, shape: &Shape) -> Buffers {
     inner
 }
 
+/// The cells of a shape in a domain inside one that lacks most of them: by copies, every fifth by a rule. The one around holds every
+/// fourth, read-only, and had others before, so that places are free between those in use. As far as there is room.
+fn inside(held: &Buffers, shape: &Shape) -> Buffers {
+    let mut buffers = held.clone();
+    let cell = |index: usize| shape.cell(index) as u32;
+    for index in (4..shape.cells).step_by(5) {
+        buffers.write_cell(cell(index), &pattern(index as u32 % 4).expect("a rule"));
+    }
+    let every = |apart: usize, label| {
+        let cells = (0..shape.cells).step_by(apart);
+        cells.map(move |index| Record::copy(cell(index), 1, label))
+    };
+    let by_rule = (4..shape.cells).step_by(5);
+    let by_rule = by_rule.map(|index| Record::pattern(cell(index), 1, index as u32 % 4, 1));
+    let lists = |records: Vec<Record>| {
+        let lists = records.chunks(64).map(Call::ranges);
+        lists.collect::<Vec<_>>()
+    };
+    let deleted = (0..shape.cells).step_by(8);
+    let calls = [
+        vec![Call::Make, Call::Create],
+        lists(every(4, 0).collect()),
+        vec![Call::Create],
+        lists(by_rule.collect()),
+        lists(every(1, 1).collect()),
+        deleted
+            .map(|index| Call::delete(1, cell(index), 1))
+            .collect(),
+    ];
+    for call in calls.into_iter().flatten() {
+        Linked.call(&mut buffers, &call, FULL);
+    }
+    buffers
+}
+
 /// Lists of ranges about the cells of a shape: the first 64 of them one by one, in falling order; ranges of three that overlap; and each
 /// cell by two kinds, the second of which would not do.
 fn lists(shape: &Shape) -> [Call; 4] {
@@ -356,6 +429,7 @@ fn calls(shape: &Shape) -> [Call; 14] {
 fn same_in_every_layout() {
     let mut random = Rng::new(0x0FED_CBA9_8765_4321);
     let mut numbers = BTreeMap::new();
+    let mut inner = Inner::default();
     for shape in shapes() {
         let held = laid_down(shape);
         let (mut ours, mut theirs) = (held.clone(), held.clone());
@@ -368,7 +442,7 @@ fn same_in_every_layout() {
         };
         // Each call by itself on the table as it was laid down, with one cell written, and advances with nothing changed, with every
         // third cell changed in one byte and with all of them; then a session.
-        for table in [&held, &with_inner(&held, &shape)] {
+        for table in [&held, &with_inner(&held, &shape), &inside(&held, &shape)] {
             for call in calls(&shape).into_iter().chain(lists(&shape)) {
                 ours.copy_from(table);
                 ours.memory[64 * shape.cell(0)..][..64].fill(7);
@@ -380,7 +454,9 @@ fn same_in_every_layout() {
                     let byte = [0, 63, 31][index % 3];
                     ours.memory[64 * shape.cell(index) + byte] ^= 1;
                 }
-                check(&mut random, &mut ours, &Call::Advance { handle: 0 });
+                let (advance, before) = (Call::Advance { handle: 0 }, used(&ours));
+                let number = check(&mut random, &mut ours, &advance);
+                inner.count(&advance, number, before, &ours);
             }
         }
         ours.copy_from(&held);
@@ -405,8 +481,13 @@ fn same_in_every_layout() {
             }
         }
     }
-    println!("answers by number: {numbers:?}");
-    for number in [0, 4, 7, 11, 12, 13, 14, 15, 16, 17, 18, 19, 20, STOPPED] {
+    let Inner { gave, short } = inner;
+    println!("{gave} advances gave cells; answers by number: {numbers:?}");
+    assert!(
+        gave > 20 && short > 0,
+        "{gave} gave cells, {short} had no entry"
+    );
+    for number in [0, 4, 7, 11, 12, 13, 14, 16, 17, 18, 19, 20, STOPPED] {
         assert!(
             numbers.contains_key(&number),
             "no call was answered by {number}"

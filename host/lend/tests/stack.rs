@@ -182,6 +182,7 @@ fn used_in(m: u32, places: u32) -> BTreeMap<&'static str, usize> {
     probe.done(COMMIT);
     by_rule(&mut probe, m, places);
     by_lists(&mut probe, m, places);
+    giving(&mut probe, m, places);
     probe.used
 }
 
@@ -266,6 +267,38 @@ fn by_lists(probe: &mut Probe, m: u32, places: u32) {
     probe.done(fits);
     let all = Record::copy(first, held * 7, 1);
     probe.done(Call::ranges([all; 64]));
+    probe.done(Call::Commit { handle: 0 });
+    probe.done(Call::Commit { handle: 0 });
+}
+
+/// An inner advance that gives as many cells as there are entries for, half of them by a rule: done, stopped in its bytes and in its
+/// table part, and refused for bodies and for entries.
+fn giving(probe: &mut Probe, m: u32, places: u32) {
+    const ADVANCE: Call = Call::Advance { handle: 0 };
+    let scale = pattern(SCALE).expect("a rule");
+    let (first, half) = (m - places, places / 2);
+    probe.buffers.memory.fill(7);
+    for cell in first..first + half / 2 {
+        probe.buffers.write_cell(cell, &scale);
+    }
+    probe.done(Call::Create);
+    probe.done(Call::Create);
+    probe.done(Call::pattern(first, half / 2, SCALE, 1));
+    probe.done(Call::copy(first + half / 2, half / 2, 1));
+    probe.buffers.memory.fill(8);
+    probe.stopped(ADVANCE, 100);
+    probe.stopped(ADVANCE, 64 * u64::from(half) + 50);
+    probe.done(ADVANCE);
+    // The other domain holds all of it by now, so that no entry is needed; but bodies are.
+    probe.buffers.memory.fill(9);
+    probe.refused(17, ADVANCE);
+    probe.done(Call::Restore { handle: 0 });
+    probe.done(Call::Commit { handle: 0 });
+    // The last entries are in use, and none is left for what would be given.
+    probe.done(Call::Create);
+    probe.done(Call::copy(first + half, half, 1));
+    probe.buffers.memory.fill(10);
+    probe.refused(16, ADVANCE);
     probe.done(Call::Commit { handle: 0 });
     probe.done(Call::Commit { handle: 0 });
 }

@@ -1,8 +1,9 @@
 //! The calls: questions in their order, what a call leaves, its steps, and what each cut leaves. Add
 //! has two forms, a plain one and one that takes a list of records (request A.3); the plain one is
-//! the list of its one record.
+//! the list of its one record. Advance of an inner domain gives cells outwards (request A.4).
 
 mod add;
+mod advance;
 
 use crate::fault::Fault;
 use crate::reply::{BY_RULE, IN_BODIES, IN_MEMORY, Reply, STOPPED};
@@ -24,8 +25,16 @@ pub const PATTERN: u32 = 2;
 pub const READ_ONLY: u32 = 0;
 pub const READ_WRITE: u32 = 1;
 
+/// The last number that a call can be refused by.
+const LAST: u32 = 20;
+
+/// The number that is retired since request A.4: no call answers it, and no other has moved.
+pub const RETIRED: u32 = 15;
+
 /// The numbers that a call can be refused by.
-pub const REFUSALS: RangeInclusive<u32> = 1..=20;
+pub fn refusals() -> impl Iterator<Item = u32> {
+    (1..=LAST).filter(|number| *number != RETIRED)
+}
 
 /// How many records a list may have.
 pub const RECORDS: RangeInclusive<usize> = 1..=64;
@@ -425,6 +434,9 @@ pub struct Work {
     pub taken: Vec<(u32, Bytes)>,
     /// Cells put back into memory, rising.
     pub put_back: Vec<(u32, Bytes)>,
+    /// Cells that an advance gives outwards, rising, each with the domain that it is given to. Their
+    /// bodies change owner: no byte is stored for them.
+    pub given: Vec<(usize, u32)>,
     /// p: table words to replace.
     pub words: u64,
     /// All steps.
@@ -603,6 +615,7 @@ impl Model {
         Work {
             taken: Vec::new(),
             put_back: Vec::new(),
+            given: Vec::new(),
             words: 0,
             need: 0,
             after,
@@ -789,135 +802,6 @@ impl Model {
         self.count(work)
     }
 
-    /// The read-write cells of the innermost domain whose memory differs from the value held get
-    /// memory's bytes, as copies; the others keep kind and body (request A.2).
-    fn advance(
-        &self,
-        sizes: Sizes,
-        state: &State,
-        memory: &[u8],
-        handle: u32,
-    ) -> Result<Verdict, u32> {
-        let named = self.innermost(state, handle)?;
-        let changed = self.changed(state, memory, named);
-        if let Some(outer) = named.checked_sub(1)
-            && !self.has(Fault::NoQuestion15)
-        {
-            // 15 is put for every read-write cell, changed or not.
-            let asked = match self.has(Fault::Question15OfChangedCells) {
-                true => changed.clone(),
-                false => self.read_write(&state.domains[named]).collect(),
-            };
-            if asked.iter().any(|c| !state.domains[outer].holds(*c)) {
-                return Err(15);
-            }
-        }
-        let bodies = self.bodies_to_advance(state, memory, named, &changed);
-        if self.copies(state) + bodies > u64::from(sizes.b) {
-            return Err(17);
-        }
-        let mut work = self.work(state.clone());
-        for c in changed {
-            let bytes = cell_of(memory, c);
-            let held = work.after.domains[named].cells.get_mut(&c).expect("held");
-            held.kept = Kept::Copy(bytes);
-            if self.has(Fault::AdvanceDemotes) {
-                held.read_write = false;
-            }
-            work.taken.push((c, bytes));
-            work.words += 2;
-        }
-        if self.has(Fault::AdvanceInPlace) {
-            work.shape = Shape::OverBodies;
-        }
-        if self.has(Fault::AdvanceTakesTwoStepsForNothing) && work.words == 0 {
-            work.need = 2;
-            return Ok(Verdict::Work(work));
-        }
-        self.count(work)
-    }
-
-    /// The cells that a domain holds read-write.
-    fn read_write(&self, domain: &Domain) -> impl Iterator<Item = u32> {
-        let all = self.has(Fault::AdvanceTakesReadOnly);
-        let cells = domain.cells.iter();
-        cells
-            .filter(move |(_, held)| held.read_write || all)
-            .map(|(c, _)| *c)
-    }
-
-    /// The read-write cells of a domain that an advance copies: those whose memory differs from the
-    /// value held, which is the body's, that of the next domain out, or the rule's.
-    fn changed(&self, state: &State, memory: &[u8], domain: usize) -> Vec<u32> {
-        let cells = self.read_write(&state.domains[domain]);
-        cells
-            .filter(|c| self.is_copied(state, memory, domain, *c))
-            .collect()
-    }
-
-    /// Whether an advance copies this read-write cell. Without an error it asks nothing else than
-    /// whether all 64 bytes are those held.
-    fn is_copied(&self, state: &State, memory: &[u8], domain: usize, cell: u32) -> bool {
-        let kept = state.domains[domain].cells[&cell].kept;
-        let (keeps, turns) = match kept {
-            Kept::Copy(_) => (None, None),
-            Kept::ViaParent => (
-                Some(Fault::AdvanceKeepsViaParent),
-                Some(Fault::AdvanceTurnsUnchangedViaParent),
-            ),
-            Kept::Rule(_) => (
-                Some(Fault::AdvanceKeepsRule),
-                Some(Fault::AdvanceTurnsUnchangedRule),
-            ),
-        };
-        if self.has(Fault::AdvanceCopiesUnchanged) || turns.is_some_and(|turns| self.has(turns)) {
-            return true;
-        }
-        if keeps.is_some_and(|keeps| self.has(keeps)) {
-            return false;
-        }
-        let outer = domain.checked_sub(1);
-        let outer = outer.filter(|outer| state.domains[*outer].holds(cell));
-        let compared = match outer {
-            Some(outer) if self.has(Fault::AdvanceComparesWithParent) => outer,
-            _ => domain,
-        };
-        let mut looked_at = 0..CELL;
-        if self.has(Fault::AdvanceMissesFirstByte) {
-            looked_at.start += 1;
-        }
-        if self.has(Fault::AdvanceMissesLastByte) {
-            looked_at.end -= 1;
-        }
-        let now = cell_of(memory, cell);
-        // Without a value, which only an error in the table's rules lets by, nothing is equal.
-        let value = self.value(state, compared, cell);
-        value.is_none_or(|value| value[looked_at.clone()] != now[looked_at])
-    }
-
-    /// New bodies of an advance, for question 17: one for each changed read-write cell.
-    fn bodies_to_advance(
-        &self,
-        state: &State,
-        memory: &[u8],
-        named: usize,
-        changed: &[u32],
-    ) -> u64 {
-        let domain = &state.domains[named];
-        let counted = if self.has(Fault::AdvanceCountsFewerBodies) {
-            let no_copy = |c: &&u32| !domain.cells[*c].kept.is_copy();
-            changed.iter().filter(no_copy).count()
-        } else if self.has(Fault::AdvanceCountsUnchanged) {
-            self.read_write(domain).count()
-        } else if self.has(Fault::AdvanceCountsReadOnly) {
-            let changed = |c: &&u32| self.differs(state, memory, named, **c);
-            domain.cells.keys().filter(changed).count()
-        } else {
-            changed.len()
-        };
-        counted as u64
-    }
-
     fn restore(&self, state: &State, handle: u32) -> Result<Verdict, u32> {
         let named = state.find(handle).ok_or(5u32)?;
         let mut work = self.work(state.clone());
@@ -1015,6 +899,11 @@ impl Work {
         &self.parts
     }
 
+    /// Whether an advance gives this cell outwards.
+    pub(crate) fn gives(&self, cell: u32) -> bool {
+        self.given.iter().any(|(_, given)| *given == cell)
+    }
+
     /// Byte steps: 64 for each copy taken or cell put back.
     pub fn byte_steps(&self) -> u64 {
         (CELL * (self.taken.len() + self.put_back.len())) as u64
@@ -1104,7 +993,8 @@ impl Work {
         reading
     }
 
-    /// The error of an advance in place: the first `k` bytes are in the old bodies already.
+    /// The error of an advance in place: the first `k` bytes are in the old bodies already, but for those
+    /// that have another owner by then.
     fn mix(&self, state: &mut State, k: u64) {
         let Some(domain) = state.domains.last_mut() else {
             return;
@@ -1114,6 +1004,7 @@ impl Work {
                 kept: Kept::Copy(old),
                 ..
             }) = domain.cells.get_mut(cell)
+                && !self.gives(*cell)
             {
                 let stored = k.saturating_sub((CELL * at) as u64).min(CELL as u64) as usize;
                 old[..stored].copy_from_slice(&bytes[..stored]);

@@ -1,4 +1,4 @@
-//! Document 01's "edges to run" and those of requests A.1 to A.3, as scripts that any store can be put
+//! Document 01's "edges to run" and those of requests A.1 to A.4, as scripts that any store can be put
 //! through. Cells are filled with one byte, or follow a rule.
 
 use crate::calls::{Call, READ_ONLY as RO, READ_WRITE as RW, Record, Sizes};
@@ -45,7 +45,14 @@ const USUAL: Sizes = Sizes { m: 4, e: 8, b: 8 };
 
 /// Every edge but table lengths and damaged tables, which need no script.
 pub fn scripts() -> Vec<Script> {
-    [document_01(), patterns(), shorter_advances(), lists()].concat()
+    [
+        document_01(),
+        patterns(),
+        shorter_advances(),
+        lists(),
+        inner_advances(),
+    ]
+    .concat()
 }
 
 #[rustfmt::skip]
@@ -63,8 +70,9 @@ fn document_01() -> Vec<Script> {
     let mut edge = |name, sizes, lines| list.push(Script { name, sizes, lines });
     edge("a copy comes back", usual,
         vec![Fill(0, 7), create(), copy(0, RW), Fill(0, 9), restore(1), See(0, 7)]);
+    // Request A.4: done, where it was refused by 15.
     edge("advance of a cell that the next domain out lacks", usual,
-        vec![create(), create(), copy(0, RW), advance(15)]);
+        vec![create(), create(), copy(0, RW), Takes(Call::Advance { handle: 0 }, 0), Fill(0, 9), Takes(Call::Advance { handle: 0 }, 78)]);
     edge("commit raises the label, so the advance takes the cell", usual,
         vec![Fill(0, 7), create(), copy(0, RO), create(), copy(0, RW), Fill(0, 9), commit(), advance(0), Fill(0, 11), restore(1), See(0, 9)]);
     edge("via parent where memory has changed", usual,
@@ -239,9 +247,6 @@ fn shorter_advances() -> Vec<Script> {
     edge("a changed read-only cell is neither copied nor counted", Sizes { b: 3, ..USUAL },
         vec![Fill(0, 7), Fill(1, 7), create(), add(Call::copy(0, 1, RO)), add(Call::copy(1, 1, RW)), Fill(0, 9), copies(0), Fill(1, 9), copies(1),
              Fill(1, 11), restore(1), See(0, 7), See(1, 9)]);
-    edge("15 is put for unchanged cells", USUAL,
-        vec![create(), create(), add(Call::copy(0, 1, RO)), copies(0), add(Call::copy(0, 1, RW)), advance(15), Fill(0, 9), advance(15)]);
-    edge("15 is put before 17", Sizes { b: 1, ..USUAL }, vec![create(), create(), add(Call::copy(0, 1, RW)), Fill(0, 9), advance(15)]);
 
     // Domain 1 holds 7 in all cells, domain 2 the first two via parent.
     let rests = || [held(), vec![create(), add(Call::via_parent(0, 2, RW))]].concat();
@@ -456,4 +461,119 @@ fn lists() -> Vec<Script> {
     edge("an entry that is taken and raised is one entry", USUAL,
         vec![Fill(0, 7), create(), takes(&[R::copy(0, 1, RO), R::copy(0, 1, RW), R::copy(0, 1, RW)], 1, 1), Fill(0, 9), copies(1)]);
     list_of
+}
+
+/// The edges of request A.4: an inner advance gives the next domain out what it lacks.
+#[rustfmt::skip]
+fn inner_advances() -> Vec<Script> {
+    use Line::*;
+    let create = || Answers(Call::Create, 0);
+    let add = |call| Answers(call, 0);
+    let restore = |handle| Answers(Call::Restore { handle }, 0);
+    let advance = |answer| Answers(Call::Advance { handle: 0 }, answer);
+    let commit = || Answers(Call::Commit { handle: 0 }, 0);
+    // So many cells are copied, and so many of them given outwards.
+    let gives = |k: u64, g: u64| Takes(Call::Advance { handle: 0 }, if k == 0 { 0 } else { 70 * k + 6 * g + 2 });
+    let is_rule = |handle, cell, rule| Looks(handle, cell, BY_RULE, rule);
+    let is_copy = |handle, cell| Looks(handle, cell, IN_BODIES, 0);
+    // A cell can be deleted exactly where it is held.
+    let lacks = |handle, cell| Answers(Call::delete(handle, cell, 1), 13);
+    let fill = |byte| (0..4).map(|c| Fill(c, byte)).collect::<Vec<_>>();
+    let see = |byte| (0..4).map(|c| See(c, byte)).collect::<Vec<_>>();
+
+    let mut list = Vec::new();
+    let mut edge = |name, sizes, lines: Vec<Line>| list.push(Script { name, sizes, lines });
+    // Cycle 1 holds nothing, tile 2 copies cell 0 = 7 read-write.
+    let held = || vec![Fill(0, 7), create(), create(), add(Call::copy(0, 1, RW))];
+    let written = || [held(), vec![Fill(0, 9)]].concat();
+    let given = || [written(), vec![gives(1, 1)]].concat();
+    edge("the cycle goes back to its own point", USUAL, [given(), vec![Fill(0, 11), restore(1), See(0, 7), Live(1)]].concat());
+    edge("the tile goes back to its new point", USUAL,
+        [given(), vec![Fill(0, 11), restore(2), See(0, 9), Live(2), restore(1), See(0, 7), Live(1)]].concat());
+    edge("what is unchanged is not given", USUAL,
+        [held(), vec![gives(0, 0), lacks(1, 0), Fill(0, 9), gives(1, 1), Fill(0, 11), restore(1), See(0, 7)]].concat());
+    edge("changed back, and so not given", USUAL,
+        [written(), vec![Fill(0, 7), gives(0, 0), lacks(1, 0), Byte(63, 8), gives(1, 1), Fill(0, 11), restore(1), See(0, 7)]].concat());
+    edge("given once: the first value stays outside", USUAL,
+        [given(), vec![Fill(0, 11), gives(1, 0), Fill(0, 13), restore(2), See(0, 11), restore(1), See(0, 7)]].concat());
+    edge("given read-write", USUAL, [given(), vec![restore(1), Fill(0, 5), gives(1, 0), Fill(0, 6), restore(1), See(0, 5)]].concat());
+    edge("given, and committed: oldest wins", USUAL,
+        [given(), vec![Fill(0, 11), commit(), restore(1), See(0, 7), Fill(0, 5), gives(1, 0), restore(1), See(0, 5)]].concat());
+    edge("given, and deleted outside", USUAL, [given(), vec![add(Call::delete(1, 0, 1)), Fill(0, 11), restore(1), See(0, 9), lacks(1, 0)]].concat());
+    edge("given, and deleted inside", USUAL,
+        [given(), vec![add(Call::delete(2, 0, 1)), Fill(0, 11), restore(2), See(0, 11), restore(1), See(0, 7)]].concat());
+    edge("the outermost gives nothing", USUAL,
+        vec![Fill(0, 7), create(), add(Call::copy(0, 1, RW)), Fill(0, 9), gives(1, 0), Fill(0, 11), restore(1), See(0, 9)]);
+    edge("a changed read-only cell is not given", USUAL,
+        vec![Fill(0, 7), create(), create(), add(Call::copy(0, 1, RO)), Fill(0, 9), gives(0, 0), lacks(1, 0), restore(1), See(0, 7)]);
+
+    // Channel 3 is inside tile 2, which is inside cycle 1; both hold nothing.
+    let three = || vec![Fill(0, 7), create(), create(), create(), add(Call::copy(0, 1, RW)), Fill(0, 9), gives(1, 1), lacks(1, 0), is_copy(2, 0)];
+    edge("three domains: the middle one gets it", USUAL,
+        [three(), vec![Fill(0, 11), restore(3), See(0, 9), restore(2), See(0, 7), Fill(0, 12), restore(1), See(0, 7)]].concat());
+    edge("three domains: committed, and given once more", USUAL,
+        [three(), vec![commit(), Fill(0, 11), gives(1, 1), is_copy(1, 0), Fill(0, 13), restore(1), See(0, 7)]].concat());
+    edge("three domains: committed, given and gone back one", USUAL,
+        [three(), vec![commit(), Fill(0, 11), gives(1, 1), Fill(0, 13), restore(2), See(0, 11), restore(1), See(0, 7)]].concat());
+    // Cycle 1 holds 7, and 8 stood when tile 2 began.
+    let further = |label| vec![Fill(0, 7), create(), add(Call::copy(0, 1, label)), Fill(0, 8), create(), create(), add(Call::copy(0, 1, RW)), Fill(0, 9),
+                               gives(1, 1)];
+    edge("a cell that a domain further out holds is given", USUAL,
+        [further(RW), vec![Fill(0, 11), restore(3), See(0, 9), restore(2), See(0, 8), restore(1), See(0, 7)]].concat());
+    edge("a cell that is read-only further out is given", USUAL,
+        [further(RO), vec![Fill(0, 11), restore(2), See(0, 8), restore(1), See(0, 7), Fill(0, 5), gives(0, 0)]].concat());
+    edge("the eighth domain gives to the seventh", USUAL,
+        [vec![Fill(0, 7)], (1..=8).map(CreateGives).collect(), vec![add(Call::copy(0, 1, RW)), Fill(0, 9), gives(1, 1), lacks(6, 0), Fill(0, 11), restore(7),
+                                                                   See(0, 7), Live(7)]].concat());
+
+    // What the next domain out holds stays as it is there.
+    let both = |label| vec![Fill(0, 7), create(), add(Call::copy(0, 1, label)), Fill(0, 8), create(), add(Call::copy(0, 1, RW)), Fill(0, 9),
+                            gives(1, 0)];
+    edge("held outside, read-write: not given", USUAL, [both(RW), vec![Fill(0, 11), restore(2), See(0, 9), restore(1), See(0, 7)]].concat());
+    edge("held outside, read-only: neither given nor raised", USUAL,
+        [both(RO), vec![restore(1), See(0, 7), Fill(0, 11), gives(0, 0), restore(1), See(0, 7)]].concat());
+    edge("via parent is never given", USUAL,
+        vec![Fill(0, 7), create(), add(Call::copy(0, 1, RO)), create(), add(Call::via_parent(0, 1, RW)), Fill(0, 9), gives(1, 0), Fill(0, 11), restore(2),
+             See(0, 9), restore(1), See(0, 7), Fill(0, 11), gives(0, 0)]);
+    edge("some are held outside and some are not", Sizes { b: 10, ..USUAL },
+        [fill(7), vec![create(), add(Call::copy(1, 2, RW)), create(), add(Call::copy(0, 4, RW))], fill(9), vec![gives(4, 2)], fill(11), vec![restore(2)],
+         see(9), vec![restore(1)], see(7)].concat());
+    edge("some have changed and some have not", USUAL,
+        [fill(7), vec![create(), create(), add(Call::copy(0, 4, RW)), Fill(1, 9), Byte(255, 9), gives(2, 2), lacks(1, 0), is_copy(1, 1), lacks(1, 2)],
+         fill(11), vec![restore(2), See(0, 7), See(1, 9), See(2, 7), Byte(255, 7), See(3, 7), restore(1)], see(7)].concat());
+
+    let by_rule = || vec![Pattern(0, SCALE), create(), create(), add(Call::pattern(0, 1, SCALE, RW)), Fill(0, 9)];
+    edge("a rule goes out as a rule", Sizes { b: 1, ..USUAL },
+        [by_rule(), vec![gives(1, 1), is_rule(1, 0, SCALE), is_copy(2, 0), Fill(0, 11), restore(2), See(0, 9), restore(1), SeePattern(0, SCALE),
+                         is_rule(1, 0, SCALE)]].concat());
+    edge("a rule that was given is read-write", USUAL,
+        [by_rule(), vec![gives(1, 1), restore(1), Fill(0, 5), gives(1, 0), is_copy(1, 0), Fill(0, 6), restore(1), See(0, 5)]].concat());
+    edge("a rule that was given is no ground for via parent", USUAL,
+        [by_rule(), vec![gives(1, 1), commit(), is_rule(1, 0, SCALE), restore(1), create(), Answers(Call::via_parent(0, 1, RO), 19)]].concat());
+    edge("each rule, and a copy beside them", Sizes { m: 5, e: 10, b: 6 },
+        [(0..4).map(|c| Pattern(c, c)).collect(), vec![Fill(4, 7), create(), create()], (0..4).map(|c| add(Call::pattern(c, 1, c, RW))).collect(),
+         vec![add(Call::copy(4, 1, RW))], (0..5).map(|c| Fill(c, 9)).collect(), vec![gives(5, 5)], (0..4).map(|c| is_rule(1, c, c)).collect(),
+         (0..5).map(|c| Fill(c, 11)).collect(), vec![restore(1)], (0..4).map(|c| SeePattern(c, c)).collect(), vec![See(4, 7)]].concat());
+
+    // Tile 2 holds two cells; both have changed.
+    let two = || vec![Fill(0, 7), Fill(1, 7), create(), create(), add(Call::copy(0, 2, RW)), Fill(0, 9), Fill(1, 9)];
+    edge("entries just enough", Sizes { e: 4, ..USUAL }, [two(), vec![gives(2, 2), Fill(0, 11), restore(1), See(0, 7), See(1, 7)]].concat());
+    edge("an entry is missing", Sizes { e: 3, ..USUAL },
+        [two(), vec![advance(16), Fill(0, 7), gives(1, 1), Fill(0, 9), advance(16), Fill(0, 7), gives(0, 0)]].concat());
+    edge("bodies just enough", Sizes { b: 4, ..USUAL }, [two(), vec![gives(2, 2), Fill(0, 11), restore(2), See(0, 9), restore(1), See(0, 7)]].concat());
+    edge("a body is missing, since a body given is not free", Sizes { b: 3, ..USUAL },
+        [two(), vec![advance(17), Fill(0, 7), gives(1, 1), Fill(1, 10), advance(17)]].concat());
+    edge("16 comes before 17 in an advance", Sizes { e: 3, b: 2, ..USUAL },
+        [two(), vec![advance(16), Fill(0, 7), advance(17), Fill(1, 7), gives(0, 0)]].concat());
+    edge("no entry is needed for what is held outside", Sizes { e: 2, ..USUAL },
+        vec![Fill(0, 7), create(), add(Call::copy(0, 1, RO)), create(), add(Call::copy(0, 1, RW)), Fill(0, 9), gives(1, 0), Fill(0, 11), restore(1),
+             See(0, 7)]);
+    edge("the smallest store has no entry to give", Sizes { m: 1, e: 1, b: 2 },
+        vec![Fill(0, 7), create(), create(), add(Call::copy(0, 1, RW)), gives(0, 0), Fill(0, 9), advance(16), commit(), gives(1, 0)]);
+    // Places that were freed lie before and between those in use: the given cells take the lowest ones.
+    edge("places in holes of the table", Sizes { m: 6, e: 10, b: 10 },
+        [(0..6).map(|c| Fill(c, 7)).collect(), vec![create(), add(Call::copy(4, 2, RW)), create(), add(Call::copy(0, 4, RW)), add(Call::delete(1, 5, 1)),
+          add(Call::delete(0, 1, 1))], (0..4).map(|c| Fill(c, 9)).collect(), vec![gives(3, 3), Fill(0, 11), restore(1), See(0, 7), See(2, 7),
+                                                                                  See(3, 7)]].concat());
+    list
 }

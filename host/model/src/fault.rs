@@ -22,8 +22,6 @@ pub enum Fault {
     NoQuestion12,
     /// A cell may be deleted under a via parent holder.
     NoQuestion14,
-    /// Advance does not ask whether the next domain out holds its read-write cells.
-    NoQuestion15,
     /// Advance counts no new body where a copy is replaced.
     AdvanceCountsFewerBodies,
     /// Questions 11 and 12 are put cell by cell instead of one after the other.
@@ -118,10 +116,42 @@ pub enum Fault {
     AdvanceCountsUnchanged,
     /// Advance counts a new body for a changed read-only cell too, though it copies none.
     AdvanceCountsReadOnly,
-    /// Question 15 is put for the changed cells only.
-    Question15OfChangedCells,
     /// 70k + 2 steps also where k is 0.
     AdvanceTakesTwoStepsForNothing,
+    /// Question 15 is put as before request A.4: for every read-write cell.
+    Question15AsBefore,
+    /// Question 15 is put where an inner advance has something to give.
+    Question15OfChangedCells,
+    /// An inner advance gives nothing outwards, though 15 is not asked any more.
+    AdvanceGivesNothing,
+    /// The next domain out gets the new value, and the advancing one keeps the old.
+    AdvanceGivesNewValue,
+    /// Every read-write cell that the next domain out lacks is copied and given, changed or not.
+    AdvanceGivesUnchanged,
+    /// A changed cell is given though the next domain out holds it: newest wins there.
+    AdvanceGivesHeld,
+    /// What is given is read-only.
+    AdvanceGivesReadOnly,
+    /// A cell that is held by a rule is not given.
+    AdvanceGivesCopiesOnly,
+    /// What the next domain out lacks is given to the outermost domain.
+    AdvanceGivesToOutermost,
+    /// Nothing is given that any domain further out holds.
+    AdvanceSparesHeldFurtherOut,
+    /// What the next domain out holds read-only of the changed cells becomes read-write.
+    AdvanceRaisesOuterLabel,
+    /// The old body is freed: the given entry names the new one, as the inner entry does.
+    AdvanceFreesOldBody,
+    /// 16 is not put to an advance.
+    AdvanceAsksNoEntries,
+    /// 16 counts an entry for each changed cell of an inner advance, given or not.
+    AdvanceCountsChangedAsEntries,
+    /// 17 is put to an advance before 16.
+    AdvanceAsksBodiesFirst,
+    /// 17 counts a body for each cell given too, as if the old one were copied.
+    AdvanceCountsGivenBodies,
+    /// An inner advance takes 70k + 2 steps, whatever it gives.
+    GivenCellsTakeNoSteps,
     /// A list is made with a journal for each record, so that a cut holds some records and not others.
     JournalForEachRecord,
     /// Room is asked of each record as if it were the only one.
@@ -184,12 +214,18 @@ pub enum Fault {
     NotebookWithoutMarks,
     /// Notebook: advance keeps the old picture.
     NotebookAdvanceKeepsPicture,
+    /// Notebook: the next domain out is not told what an advance gives it.
+    NotebookTellsOuterNothing,
+    /// Notebook: what an advance gives enters the next domain out with the new bytes.
+    NotebookGivesNewBytes,
+    /// Notebook: an advance gives every read-write cell that the next domain out lacks.
+    NotebookGivesUnchanged,
     /// Notebook: a stopped call is never carried out by the opening.
     NotebookDropsStopped,
 }
 
 impl Fault {
-    pub const ALL: [Fault; 88] = [
+    pub const ALL: [Fault; 106] = [
         Fault::NewestWinsInRestore,
         Fault::NewestWinsInCommit,
         Fault::AdvanceInPlace,
@@ -197,7 +233,6 @@ impl Fault {
         Fault::CommitForgetsRaise,
         Fault::NoQuestion12,
         Fault::NoQuestion14,
-        Fault::NoQuestion15,
         Fault::AdvanceCountsFewerBodies,
         Fault::Question12CellByCell,
         Fault::BodiesBeforeEntries,
@@ -244,8 +279,24 @@ impl Fault {
         Fault::AdvanceMissesLastByte,
         Fault::AdvanceCountsUnchanged,
         Fault::AdvanceCountsReadOnly,
-        Fault::Question15OfChangedCells,
         Fault::AdvanceTakesTwoStepsForNothing,
+        Fault::Question15AsBefore,
+        Fault::Question15OfChangedCells,
+        Fault::AdvanceGivesNothing,
+        Fault::AdvanceGivesNewValue,
+        Fault::AdvanceGivesUnchanged,
+        Fault::AdvanceGivesHeld,
+        Fault::AdvanceGivesReadOnly,
+        Fault::AdvanceGivesCopiesOnly,
+        Fault::AdvanceGivesToOutermost,
+        Fault::AdvanceSparesHeldFurtherOut,
+        Fault::AdvanceRaisesOuterLabel,
+        Fault::AdvanceFreesOldBody,
+        Fault::AdvanceAsksNoEntries,
+        Fault::AdvanceCountsChangedAsEntries,
+        Fault::AdvanceAsksBodiesFirst,
+        Fault::AdvanceCountsGivenBodies,
+        Fault::GivenCellsTakeNoSteps,
         Fault::JournalForEachRecord,
         Fault::RoomOfEachRecordAlone,
         Fault::EntriesAskedWithEachRecord,
@@ -277,6 +328,9 @@ impl Fault {
         Fault::NotebookDeleteSpoilsNamedOnly,
         Fault::NotebookWithoutMarks,
         Fault::NotebookAdvanceKeepsPicture,
+        Fault::NotebookTellsOuterNothing,
+        Fault::NotebookGivesNewBytes,
+        Fault::NotebookGivesUnchanged,
         Fault::NotebookDropsStopped,
     ];
 
@@ -298,6 +352,17 @@ impl Fault {
         Fault::AdvanceMissesLastByte,
     ];
 
+    /// The errors of an inner advance by which a domain around it loses what stood at its own point.
+    pub const OUTER_LOST: [Fault; 7] = [
+        Fault::AdvanceGivesNothing,
+        Fault::AdvanceGivesNewValue,
+        Fault::AdvanceGivesHeld,
+        Fault::AdvanceGivesReadOnly,
+        Fault::AdvanceGivesCopiesOnly,
+        Fault::AdvanceGivesToOutermost,
+        Fault::AdvanceSparesHeldFurtherOut,
+    ];
+
     /// The errors of an add of several ranges that hold less of them than the program was told.
     pub const HALF_HELD: [Fault; 3] = [
         Fault::JournalForEachRecord,
@@ -315,6 +380,9 @@ impl Fault {
                 | Fault::NotebookDeleteSpoilsNamedOnly
                 | Fault::NotebookWithoutMarks
                 | Fault::NotebookAdvanceKeepsPicture
+                | Fault::NotebookTellsOuterNothing
+                | Fault::NotebookGivesNewBytes
+                | Fault::NotebookGivesUnchanged
                 | Fault::NotebookDropsStopped
         )
     }

@@ -7,7 +7,8 @@
 //! - [`rules`]: the rules that a cell may follow instead of being copied (request A.1).
 //! - [`state`]: what a store means: next handle, live domains, and what each holds of each cell.
 //! - [`calls`]: the calls: the questions in their order, what a call leaves, how many steps it takes,
-//!   and what a cut at each step leaves. Add takes one range or a list of them (request A.3).
+//!   and what a cut at each step leaves. Add takes one range or a list of them (request A.3); an inner
+//!   advance gives cells outwards (request A.4).
 //! - [`table`]: the three lent buffers: reading them back into a state, with every rule of question
 //!   4, and writing a state into a table.
 //! - [`plan`]: the exact list of stores of a call, so that the buffers after k steps are an

@@ -6,7 +6,7 @@
 
 use crate::calls::{Call, READ_WRITE, Record};
 use crate::fault::Fault;
-use crate::state::{Bytes, CELL, cell_of};
+use crate::state::{Bytes, CELL, State, cell_of};
 use std::collections::BTreeMap;
 
 /// How a call ended.
@@ -67,6 +67,31 @@ impl Notebook {
     /// Handles of the live domains, by the notebook's own account.
     pub fn handles(&self) -> Vec<u32> {
         self.live.iter().map(|p| p.handle).collect()
+    }
+
+    /// Whether this state has what the notebook has: the live domains, and of each the cells with their
+    /// labels and bytes. The notebook sees no state; whoever sees both asks this.
+    pub fn agrees_with(&self, state: &State) -> Result<(), String> {
+        let live: Vec<u32> = state.domains.iter().map(|d| d.handle).collect();
+        if self.handles() != live {
+            let noted = self.handles();
+            return Err(format!(
+                "live domains are {live:?}, in the notebook {noted:?}"
+            ));
+        }
+        for (at, page) in self.live.iter().enumerate() {
+            let held = state.domains[at].cells.iter();
+            let held = held.map(|(c, held)| (*c, (held.read_write, state.value(at, *c))));
+            let noted = page.cells.iter();
+            let noted = noted.map(|(c, (read_write, bytes))| (*c, (*read_write, Some(*bytes))));
+            if !held.eq(noted) {
+                let handle = page.handle;
+                return Err(format!(
+                    "domain {handle} holds other cells, labels or bytes than in the notebook"
+                ));
+            }
+        }
+        Ok(())
     }
 
     fn find(&self, handle: u32) -> Result<usize, String> {
@@ -192,21 +217,7 @@ impl Notebook {
                     }
                 }
             }
-            Call::Advance { .. } => {
-                let keeps = self.has(Fault::NotebookAdvanceKeepsPicture);
-                let page = self
-                    .live
-                    .last_mut()
-                    .ok_or("an advance with nobody live in the notebook")?;
-                for (c, (read_write, bytes)) in page.cells.iter_mut() {
-                    if *read_write {
-                        *bytes = cell_of(memory, *c);
-                    }
-                }
-                if !keeps {
-                    page.picture.copy_from_slice(memory);
-                }
-            }
+            Call::Advance { .. } => self.advance(memory)?,
             Call::Commit { .. } => {
                 let inner = self
                     .live
@@ -242,6 +253,38 @@ impl Notebook {
                 let held = self.live[named].cells.entry(c).or_insert(entering);
                 held.0 |= read_write;
             }
+        }
+        Ok(())
+    }
+
+    /// The line of advance. Of the innermost's read-write cells whose own 64 bytes are not memory's,
+    /// those that the next domain out lacks enter there with label and old bytes (request A.4). Then the
+    /// innermost's read-write cells and its picture take memory's bytes. Picture, spoilt bytes and mark
+    /// of the next domain out stay.
+    fn advance(&mut self, memory: &[u8]) -> Result<(), String> {
+        let keeps = self.has(Fault::NotebookAdvanceKeepsPicture);
+        let tells = !self.has(Fault::NotebookTellsOuterNothing);
+        let new_bytes = self.has(Fault::NotebookGivesNewBytes);
+        let unchanged = self.has(Fault::NotebookGivesUnchanged);
+        let [around @ .., page] = &mut self.live[..] else {
+            return Err("an advance with nobody live in the notebook".into());
+        };
+        let mut outer = around.last_mut().filter(|_| tells);
+        for (c, (read_write, bytes)) in page.cells.iter_mut() {
+            let now = cell_of(memory, *c);
+            if !*read_write {
+                continue;
+            }
+            if let Some(outer) = &mut outer
+                && (*bytes != now || unchanged)
+            {
+                let given = if new_bytes { now } else { *bytes };
+                outer.cells.entry(*c).or_insert((*read_write, given));
+            }
+            *bytes = now;
+        }
+        if !keeps {
+            page.picture.copy_from_slice(memory);
         }
         Ok(())
     }

@@ -7,7 +7,7 @@
 use crate::buffers::{Buffer, Buffers};
 use crate::calls::{Call, Model, Sizes, Work};
 use crate::fault::Fault;
-use crate::state::{CELL, Kept, State};
+use crate::state::{CELL, Holding, Kept, State};
 use crate::table::{Decoded, ENTRIES, MAGIC, NEXT, PENDING, encode};
 use std::collections::{BTreeMap, BTreeSet};
 
@@ -69,9 +69,8 @@ pub fn seen(
     after: &Buffers,
 ) -> Result<Vec<Step>, String> {
     let steps = planned(model, before, call, work, |from, work| {
-        let to = readable(model, after)?;
-        let place = |at, cell| to.places.get(&(at, cell)).copied();
-        places_after(from, call, work, model.fault, false, place)
+        let to = readable(model, after)?.places;
+        Placing::new(from, call, work, model.fault, Choice::Seen(&to)).places()
     })?;
     if steps.len() as u64 != work.need {
         return Err(format!(
@@ -91,7 +90,7 @@ pub fn lowest(
     work: &Work,
 ) -> Result<Vec<Step>, String> {
     planned(model, before, call, work, |from, work| {
-        lowest_places(from, call, work, model.fault)
+        Placing::new(from, call, work, model.fault, Choice::Lowest).places()
     })
 }
 
@@ -112,13 +111,13 @@ fn planned(
         return Ok(open(&from));
     }
     if work.parts().is_empty() {
-        return Ok(steps(&from, work, &places(&from, work)?));
+        return Ok(steps(&from, work, &places(&from, work)?, model.fault));
     }
     // An error: one part after the other, each on what the one before it left.
     let (mut buffers, mut all) = (before.clone(), Vec::new());
     for part in work.parts() {
         let from = readable(model, &buffers)?;
-        let steps = steps(&from, part, &places(&from, part)?);
+        let steps = steps(&from, part, &places(&from, part)?, model.fault);
         play(&steps, &mut buffers);
         all.extend(steps);
     }
@@ -149,112 +148,191 @@ fn open(before: &Decoded) -> Vec<Step> {
     words.chain([Step::word(PENDING, 0)]).collect()
 }
 
-/// The places after a call. `chosen` is asked for each holding that takes an entry or a body, and
-/// gives both; what it gives is checked: a place that was free before, and none twice. With
-/// `in_place` a copy goes over the old body: an error, for a store that is to make it.
-fn places_after(
-    before: &Decoded,
-    call: &Call,
-    work: &Work,
-    fault: Option<Fault>,
-    in_place: bool,
-    mut chosen: impl FnMut(usize, u32) -> Option<Place>,
-) -> Result<Places, String> {
-    let mut entries = before.free_entries();
-    let mut bodies = before.free_bodies();
-    let innermost = before.state.domains.len().wrapping_sub(1);
-    let taken: BTreeSet<u32> = work.taken.iter().map(|(c, _)| *c).collect();
-    let commits = matches!(call, Call::Commit { .. });
-    let mut after = BTreeMap::new();
-    for (at, domain) in work.after.domains.iter().enumerate() {
-        for (cell, held) in &domain.cells {
-            let old = before.places.get(&(at, *cell)).copied();
-            let mut place = match old {
-                // What is held stays in its entry; a cell moved by commit keeps its entry too.
-                Some(place) => place,
-                None if commits => before.places[&(innermost, *cell)],
-                None => {
-                    let place = chosen(at, *cell).ok_or_else(|| {
-                        format!("no entry was taken for cell {cell} at depth {}", at + 1)
-                    })?;
-                    if !entries.remove(&place.entry) {
-                        return Err(format!(
-                            "entry {} taken for cell {cell} was not free before the call",
-                            place.entry
-                        ));
-                    }
-                    place
-                }
-            };
-            let copied = at == innermost && taken.contains(cell) && held.kept.is_copy();
-            let had_body = old.is_some() && before.state.domains[at].cells[cell].kept.is_copy();
-            let over_old = had_body
-                && (in_place || fault == Some(Fault::AddTakesNewValue) && call.records().is_some());
-            if copied && !over_old {
-                place.body = chosen(at, *cell)
-                    .ok_or_else(|| {
-                        format!("no body was taken for cell {cell} at depth {}", at + 1)
-                    })?
-                    .body;
-                if !bodies.remove(&place.body) {
-                    return Err(format!(
-                        "body {} taken for cell {cell} was not free before the call",
-                        place.body
-                    ));
-                }
-            }
-            if fault == Some(Fault::NewestWinsInCommit)
-                && commits
-                && old.is_some()
-                && at + 1 == innermost
-            {
-                let inner = before.state.domains[innermost].cells.get(cell);
-                if inner.is_some_and(|h| h.kept != Kept::ViaParent) {
-                    place.body = before.places[&(innermost, *cell)].body;
-                }
-            }
-            if !held.kept.is_copy() {
-                place.body = 0;
-            }
-            after.insert((at, *cell), place);
-        }
-    }
-    Ok(after)
+/// Which of the free places a call takes.
+#[derive(Clone, Copy)]
+enum Choice<'a> {
+    /// Those that it was seen to take.
+    Seen(&'a Places),
+    /// The lowest, in order of cell, whichever record of a list takes it.
+    Lowest,
 }
 
-/// The lowest free places, in order of cell, whichever record of a list takes it.
-fn lowest_places(
-    before: &Decoded,
-    call: &Call,
-    work: &Work,
+/// Finds the places after a call. Those that it takes are checked: free before the call, and none
+/// twice.
+struct Placing<'a> {
+    before: &'a Decoded,
+    call: &'a Call,
+    work: &'a Work,
     fault: Option<Fault>,
-) -> Result<Places, String> {
-    let mut entries = before.free_entries().into_iter();
-    let mut bodies = before.free_bodies().into_iter();
-    let mut given = Places::new();
-    places_after(before, call, work, fault, work.over_bodies(), |at, cell| {
-        if let Some(place) = given.get(&(at, cell)) {
-            return Some(*place);
+    choice: Choice<'a>,
+    /// The domain that was the innermost before the call.
+    innermost: usize,
+    /// The cells of which the call takes copies, and those that it gives outwards.
+    taken: BTreeSet<u32>,
+    given: BTreeSet<(usize, u32)>,
+    /// What is still free of what was free before.
+    entries: BTreeSet<u32>,
+    bodies: BTreeSet<u32>,
+}
+
+impl<'a> Placing<'a> {
+    fn new(
+        before: &'a Decoded,
+        call: &'a Call,
+        work: &'a Work,
+        fault: Option<Fault>,
+        choice: Choice<'a>,
+    ) -> Placing<'a> {
+        Placing {
+            before,
+            call,
+            work,
+            fault,
+            choice,
+            innermost: before.state.domains.len().wrapping_sub(1),
+            taken: work.taken.iter().map(|(c, _)| *c).collect(),
+            given: work.given.iter().copied().collect(),
+            entries: before.free_entries(),
+            bodies: before.free_bodies(),
         }
-        let held = before.places.contains_key(&(at, cell));
-        let entry = if held {
-            before.places[&(at, cell)].entry
-        } else {
-            entries.next()?
+    }
+
+    fn has(&self, fault: Fault) -> bool {
+        self.fault == Some(fault)
+    }
+
+    fn places(mut self) -> Result<Places, String> {
+        let mut after = Places::new();
+        let work = self.work;
+        for (at, domain) in work.after.domains.iter().enumerate() {
+            for (cell, held) in &domain.cells {
+                let place = self.place(at, *cell, held)?;
+                after.insert((at, *cell), place);
+            }
+        }
+        if self.has(Fault::AdvanceFreesOldBody) {
+            for (to, cell) in &work.given {
+                let body = after[&(self.innermost, *cell)].body;
+                after.entry((*to, *cell)).and_modify(|p| p.body = body);
+            }
+        }
+        Ok(after)
+    }
+
+    /// The place of one holding.
+    fn place(&mut self, at: usize, cell: u32, held: &Holding) -> Result<Place, String> {
+        let old = self.before.places.get(&(at, cell)).copied();
+        let inner = self.before.places.get(&(self.innermost, cell)).copied();
+        let mut place = match (old, inner) {
+            // What is held stays in its entry; a cell moved by commit keeps its entry too.
+            (Some(place), _) => place,
+            (None, Some(place)) if self.commits() => place,
+            _ => Place {
+                entry: self.entry(at, cell)?,
+                body: 0,
+            },
         };
-        let copy = work.after.domains[at].cells[&cell].kept.is_copy();
-        let body = if copy { bodies.next()? } else { 0 };
-        given.insert((at, cell), Place { entry, body });
-        given.get(&(at, cell)).copied()
-    })
+        if let Some(inner) = inner
+            && self.takes_inner_body(at, cell)
+        {
+            place.body = inner.body;
+        }
+        if self.takes_copy(at, cell) && held.kept.is_copy() && !self.over_old(at, cell) {
+            place.body = self.body(at, cell)?;
+        }
+        if !held.kept.is_copy() {
+            place.body = 0;
+        }
+        Ok(place)
+    }
+
+    fn commits(&self) -> bool {
+        matches!(self.call, Call::Commit { .. })
+    }
+
+    /// Whether a holding gets the body that the innermost domain had for the cell: what an advance gives
+    /// outwards does, and in a commit where, by an error, newest wins.
+    fn takes_inner_body(&self, at: usize, cell: u32) -> bool {
+        let inner = &self.before.state.domains[self.innermost].cells;
+        let newest = self.has(Fault::NewestWinsInCommit)
+            && self.commits()
+            && at + 1 == self.innermost
+            && inner.get(&cell).is_some_and(|h| h.kept != Kept::ViaParent);
+        newest || self.given.contains(&(at, cell))
+    }
+
+    /// Whether a holding is what takes the bytes that the call copies.
+    fn takes_copy(&self, at: usize, cell: u32) -> bool {
+        let copier = copier(self.work, self.fault, self.innermost, cell);
+        self.taken.contains(&cell) && at == copier
+    }
+
+    /// Whether a copy goes over the old body: an error, for a store that is to make it. What is given
+    /// outwards has another owner by then.
+    fn over_old(&self, at: usize, cell: u32) -> bool {
+        let in_place = matches!(self.choice, Choice::Lowest) && self.work.over_bodies();
+        let again = self.has(Fault::AddTakesNewValue) && self.call.records().is_some();
+        let had_body = self.before.body(at, cell).is_some();
+        had_body && (again || in_place && !self.work.gives(cell))
+    }
+
+    /// The entry that the call takes for a holding.
+    fn entry(&mut self, at: usize, cell: u32) -> Result<u32, String> {
+        let chosen = match self.choice {
+            Choice::Seen(places) => places.get(&(at, cell)).map(|place| place.entry),
+            Choice::Lowest => self.entries.first().copied(),
+        };
+        taken_from(&mut self.entries, chosen, "entry", at, cell)
+    }
+
+    /// The body that the call takes for a copy.
+    fn body(&mut self, at: usize, cell: u32) -> Result<u32, String> {
+        let chosen = match self.choice {
+            Choice::Seen(places) => places.get(&(at, cell)).map(|place| place.body),
+            Choice::Lowest => self.bodies.first().copied(),
+        };
+        taken_from(&mut self.bodies, chosen, "body", at, cell)
+    }
+}
+
+/// Takes this number out of the free ones.
+fn taken_from(
+    free: &mut BTreeSet<u32>,
+    chosen: Option<u32>,
+    what: &str,
+    at: usize,
+    cell: u32,
+) -> Result<u32, String> {
+    let depth = at + 1;
+    match chosen {
+        Some(number) if free.remove(&number) => Ok(number),
+        Some(number) => Err(format!(
+            "{what} {number} taken for cell {cell} was not free before the call"
+        )),
+        None => Err(format!(
+            "no {what} was taken for cell {cell} at depth {depth}"
+        )),
+    }
+}
+
+/// The domain whose copy of a cell the call takes: the innermost, but for an error by which it gives the
+/// new bytes outwards.
+fn copier(work: &Work, fault: Option<Fault>, innermost: usize, cell: u32) -> usize {
+    if fault != Some(Fault::AdvanceGivesNewValue) {
+        return innermost;
+    }
+    let mut given = work.given.iter();
+    let to = given.find(|(_, given)| *given == cell);
+    to.map_or(innermost, |(to, _)| *to)
 }
 
 /// The stores of any call but make and open: bytes, then pairs, word 6, the words, word 6.
-fn steps(before: &Decoded, work: &Work, places: &Places) -> Vec<Step> {
+fn steps(before: &Decoded, work: &Work, places: &Places, fault: Option<Fault>) -> Vec<Step> {
     let innermost = before.state.domains.len().wrapping_sub(1);
     let mut bytes = Vec::new();
     for (cell, value) in &work.taken {
-        let body = places[&(innermost, *cell)].body;
+        let domain = copier(work, fault, innermost, *cell);
+        let body = places[&(domain, *cell)].body;
         bytes.extend(Step::bytes(Buffer::Bodies, body, value));
     }
     for (cell, value) in &work.put_back {

@@ -1,4 +1,5 @@
 //! Request A.2 by hand: which cells an advance copies, its steps, its room, and what each cut leaves.
+//! The next domain out holds every cell, so that nothing is given to it.
 
 mod meant;
 
@@ -152,28 +153,6 @@ fn compared_with_the_held_value() {
         meant.memory.fill(byte);
         assert_eq!(meant.work(&ADVANCE).need, need, "memory of {byte}");
     }
-}
-
-/// 15 is put for every read-write cell, changed or not, and before 17.
-#[test]
-fn question_15_is_put_for_unchanged_cells() {
-    let mut meant = Meant::fresh(Sizes { m: 2, e: 4, b: 2 }, 7);
-    for call in [
-        Call::Create,
-        Call::copy(0, 1, RW),
-        Call::Create,
-        Call::via_parent(0, 1, RW),
-        Call::copy(1, 1, RO),
-    ] {
-        assert_eq!(meant.play(&call).0, 0, "{call}");
-    }
-    assert_eq!(meant.play(&ADVANCE).0, 0);
-    meant.memory.fill(9);
-    assert_eq!(meant.play(&ADVANCE).0, 17);
-    meant.play(&Call::copy(1, 1, RW));
-    assert_eq!(meant.play(&ADVANCE).0, 15);
-    meant.memory.fill(7);
-    assert_eq!(meant.play(&ADVANCE).0, 15);
 }
 
 /// The notebook does not know which cells a store copies: the picture and the read-write cells take

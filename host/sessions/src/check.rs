@@ -1,12 +1,12 @@
 //! One call on both sides, with every comparison: answer, step count, handle, buffers after exactly
 //! that many stores, meaning, guards, notebook.
 
+use crate::advances::{Advances, Met};
 use crate::lists::{self, Lists};
 use domain_model::calls::PATTERN;
 use domain_model::reply::{BY_RULE, IN_BODIES, IN_MEMORY};
-use domain_model::state::cell_of;
 use domain_model::{
-    Buffers, CELL, Call, Ended, FULL, Holding, Kept, Looked, Model, Notebook, Reading, Reply, Rng,
+    Buffers, Call, Ended, FULL, Holding, Kept, Looked, Model, Notebook, Reading, Reply, Rng,
     STOPPED, State, Store, Verdict, Work, plan, rules, table,
 };
 use std::collections::{BTreeMap, BTreeSet};
@@ -72,7 +72,7 @@ pub struct Tally {
     /// Restores that ended domains, and restores that followed via parent past the named domain.
     pub ending_restores: u64,
     pub outward_restores: u64,
-    /// What advances met of request A.2, and lists of request A.3.
+    /// What advances met of requests A.2 and A.4, and lists of request A.3.
     pub advances: Advances,
     pub lists: Lists,
     /// Advances that turned via parent into a copy; commits that raised a label; commits that moved
@@ -89,49 +89,6 @@ pub struct Tally {
     pub pattern_looks: u64,
     /// Most entries in use.
     pub entries: u64,
-}
-
-/// Advances of a domain that holds some cell read-write, by what had changed.
-#[derive(Clone, Copy, Debug, Default)]
-pub struct Advances {
-    /// Nothing; of these, with no body free; some cells and not others; all of them.
-    pub nothing: u64,
-    pub nothing_and_full: u64,
-    pub some: u64,
-    pub all: u64,
-    /// A cell whose memory differs from the held value in the first byte alone, and in the last.
-    pub first_byte: u64,
-    pub last_byte: u64,
-    /// An unchanged cell that stayed via parent, or by its rule, beside one that was copied.
-    pub kept_via_parent: u64,
-    pub kept_rule: u64,
-    /// A cell that was like the next domain out's value and unlike its own, and the other way round.
-    pub like_parent: u64,
-    pub unlike_parent: u64,
-    /// Room for the changed cells and for no other, though some cells had not changed; and refused
-    /// by 17 with one body too few.
-    pub exact: u64,
-    pub one_short: u64,
-    /// Refused by 15 for an unchanged cell alone.
-    pub lacks_unchanged: u64,
-}
-
-impl Advances {
-    fn join(&mut self, other: &Advances) {
-        self.nothing += other.nothing;
-        self.nothing_and_full += other.nothing_and_full;
-        self.some += other.some;
-        self.all += other.all;
-        self.first_byte += other.first_byte;
-        self.last_byte += other.last_byte;
-        self.kept_via_parent += other.kept_via_parent;
-        self.kept_rule += other.kept_rule;
-        self.like_parent += other.like_parent;
-        self.unlike_parent += other.unlike_parent;
-        self.exact += other.exact;
-        self.one_short += other.one_short;
-        self.lacks_unchanged += other.lacks_unchanged;
-    }
 }
 
 impl Tally {
@@ -275,8 +232,8 @@ impl<'a> Checker<'a> {
         Ok(reply)
     }
 
-    /// Request A.2 by itself, from the state and the buffers before an advance: what an advance that
-    /// was not refused may take, and what was met.
+    /// Requests A.2 and A.4 by themselves, from the state and the buffers before an advance: what was met,
+    /// what one that was not refused may take, and that the domains around it keep their points.
     fn advance_as_asked(
         &mut self,
         line: &Line,
@@ -294,28 +251,14 @@ impl<'a> Checker<'a> {
         if ![0, STOPPED].contains(&reply.code) {
             return Ok(());
         }
-        let k = met.changed.len() as u64;
-        let most = if k == 0 { 0 } else { 70 * k + 2 };
-        if reply.steps > most || (k == 0 && reply.code == STOPPED) {
-            let steps = reply.steps;
-            return Err(format!(
-                "{k} cells have changed, so at most {most} steps are allowed: {steps} were made"
-            ));
+        met.steps_as_asked(reply)?;
+        if reply.code == STOPPED {
+            return Ok(());
         }
-        // The point moves where nothing has changed, too: then memory stands as at the old point in
-        // every byte that counts, so that no count could tell the two points apart.
-        if k == 0
-            && reply.code == 0
-            && let Some(notebook) = &line.notebook
-            && let Some(count) = notebook.zero_count(0, &before.memory)?
-            && count.differ != 0
-        {
-            return Err(format!(
-                "no held cell has changed, and {} bytes differ from what stood at the point",
-                count.differ
-            ));
+        if let Some(notebook) = &line.notebook {
+            met.nothing_to_tell(notebook)?;
         }
-        Ok(())
+        met.outer_points_stay(self.store, &line.buffers)
     }
 
     /// Request A.3 by itself, from the buffers before an add: a list comes to what plain adds of its
@@ -361,7 +304,7 @@ impl<'a> Checker<'a> {
         Err(format!("after {steps} steps {other}"))
     }
 
-    /// Feeds the notebook, and looks at a zero count.
+    /// Feeds the notebook, looks at a zero count, and asks whether the notebook has what the state holds.
     fn note(
         &mut self,
         line: &mut Line,
@@ -394,13 +337,7 @@ impl<'a> Checker<'a> {
             && !self.counts_only
             && let Reading::Store { state, pending: 0 } = &line.reading
         {
-            let live: Vec<u32> = state.domains.iter().map(|d| d.handle).collect();
-            if notebook.handles() != live {
-                return Err(format!(
-                    "live domains are {live:?}, in the notebook {:?}",
-                    notebook.handles()
-                ));
-            }
+            notebook.agrees_with(state)?;
         }
         Ok(())
     }
@@ -661,92 +598,6 @@ impl<'a> Checker<'a> {
             }
             _ => {}
         }
-    }
-}
-
-/// What an advance of the innermost domain met.
-struct Met<'a> {
-    state: &'a State,
-    buffers: &'a Buffers,
-    /// The innermost domain.
-    inner: usize,
-    read_write: Vec<u32>,
-    changed: Vec<u32>,
-}
-
-impl<'a> Met<'a> {
-    /// None where no cell is held read-write.
-    fn new(state: &'a State, buffers: &'a Buffers) -> Option<Met<'a>> {
-        let inner = state.domains.len().checked_sub(1)?;
-        let cells = state.domains[inner].cells.iter();
-        let read_write: Vec<u32> = cells
-            .filter(|(_, h)| h.read_write)
-            .map(|(c, _)| *c)
-            .collect();
-        let differs = |c: &u32| state.value(inner, *c) != Some(cell_of(&buffers.memory, *c));
-        let changed = read_write.iter().copied().filter(differs).collect();
-        (!read_write.is_empty()).then_some(Met {
-            state,
-            buffers,
-            inner,
-            read_write,
-            changed,
-        })
-    }
-
-    fn is_changed(&self, cell: u32) -> bool {
-        self.changed.binary_search(&cell).is_ok()
-    }
-
-    /// The bytes of a cell that differ from the held value.
-    fn places(&self, cell: u32) -> Vec<usize> {
-        let now = cell_of(&self.buffers.memory, cell);
-        let value = self.state.value(self.inner, cell).unwrap_or(now);
-        (0..CELL).filter(|i| now[*i] != value[*i]).collect()
-    }
-
-    /// Whether memory has the next domain out's value in a cell that both hold, each its own.
-    fn parents(&self, cell: u32) -> Option<bool> {
-        let own = self.state.keeper(self.inner, cell)? == self.inner;
-        let outer = self.inner.checked_sub(1).filter(|_| own)?;
-        let value = self.state.value(outer, cell)?;
-        Some(value == cell_of(&self.buffers.memory, cell))
-    }
-
-    fn tally(&self, tally: &mut Advances, reply: &Reply) {
-        let bodies = u64::from(self.buffers.sizes().b);
-        let room = bodies.saturating_sub(self.state.copies());
-        let (k, all) = (self.changed.len() as u64, self.read_write.len() as u64);
-        let any = |is_it: &dyn Fn(u32) -> bool| self.read_write.iter().any(|c| is_it(*c)) as u64;
-        let outer = self.inner.checked_sub(1).map(|at| &self.state.domains[at]);
-        let lacks = |c: u32| outer.is_some_and(|outer| !outer.holds(c));
-        match reply.code {
-            0 => {}
-            15 => {
-                let changed = any(&|c| lacks(c) && self.is_changed(c));
-                tally.lacks_unchanged += 1 - changed;
-                return;
-            }
-            17 => {
-                tally.one_short += (k == room + 1) as u64;
-                return;
-            }
-            _ => return,
-        }
-        tally.nothing += (k == 0) as u64;
-        tally.nothing_and_full += (k == 0 && room == 0) as u64;
-        tally.some += (0 < k && k < all) as u64;
-        tally.all += (k == all) as u64;
-        tally.exact += (0 < k && k == room && k < all) as u64;
-        tally.first_byte += any(&|c| self.places(c) == [0]);
-        tally.last_byte += any(&|c| self.places(c) == [CELL - 1]);
-        let kept = |c: u32| self.state.domains[self.inner].cells[&c].kept;
-        if k > 0 {
-            tally.kept_via_parent += any(&|c| kept(c) == Kept::ViaParent && !self.is_changed(c));
-            tally.kept_rule += any(&|c| kept(c).rule().is_some() && !self.is_changed(c));
-        }
-        tally.like_parent += any(&|c| self.parents(c) == Some(true) && self.is_changed(c));
-        tally.unlike_parent += any(&|c| self.parents(c) == Some(false) && !self.is_changed(c));
     }
 }
 

@@ -4,17 +4,17 @@
 //! shows little. So the choice looks at the state that the model is in: it nests domains, adds near
 //! what is held, makes memory equal before an add via parent and like the rule before an add by a
 //! rule, puts lists of ranges together that meet each other and the room there is, settles which of
-//! its cells an advance finds changed, and cuts where steps are.
+//! its cells an advance finds changed and which of them the domain around it lacks, and cuts where steps
+//! are.
 
+mod advances;
 mod lists;
 
 use crate::check::Line;
 use crate::session::{Input, Made};
 use domain_model::calls::{COPY, PATTERN, VIA_PARENT};
 use domain_model::rules::{self, RULES};
-use domain_model::{
-    Bytes, Call, FULL, Kept, Lengths, Model, Rng, Sizes, State, Verdict, state::cell_of,
-};
+use domain_model::{Call, FULL, Kept, Lengths, Model, Rng, Sizes, State, Verdict, state::cell_of};
 use std::collections::VecDeque;
 
 /// Bits of an entry's first word.
@@ -323,14 +323,14 @@ impl Generator {
             return;
         }
         let nest = self.habits.nest;
-        let weights: [(u64, Act); 16] = [
+        let weights: [(u64, Act); 17] = [
             (200, Generator::write),
             (nest, Generator::creates),
             (160, Generator::add_copy),
             (130, Generator::add_via),
             (110, Generator::add_pattern),
             (160, Generator::add_list),
-            (30, Generator::lists_inside),
+            (45, Generator::lists_inside),
             (45, Generator::add_again),
             (55, Generator::delete),
             (70, Generator::commit),
@@ -340,6 +340,7 @@ impl Generator {
             (25, Generator::small_things),
             (30, Generator::nest),
             (45, Generator::work_inside),
+            (55, Generator::tile_inside),
         ];
         let mut left = self.rng.below(weights.iter().map(|w| w.0).sum());
         for (weight, act) in weights {
@@ -564,109 +565,6 @@ impl Generator {
         }
     }
 
-    fn advance(&mut self, state: &State, line: &Line) {
-        let inner = state.domains.len() - 1;
-        self.change_cells(state, line);
-        let handle = if self.rng.chance(950) {
-            self.handle(state, inner)
-        } else {
-            state.domains[0].handle
-        };
-        self.call(Call::Advance { handle });
-        if self.rng.chance(250) {
-            self.write(state, line);
-            self.call(Call::Restore { handle: 0 });
-        }
-    }
-
-    /// Program writes before an advance, by which so many of the innermost domain's read-write cells
-    /// differ from what is held: none, some, all, as many as there are free bodies, or one more. The
-    /// others are written back where they differ.
-    fn change_cells(&mut self, state: &State, line: &Line) {
-        let domain = state.domains.last().expect("live");
-        let cells = domain.cells.iter().filter(|(_, held)| held.read_write);
-        let cells: Vec<u32> = cells.map(|(c, _)| *c).collect();
-        if cells.is_empty() || self.rng.chance(200) {
-            return;
-        }
-        let all = cells.len() as u64;
-        let free = u64::from(self.habits.sizes.b).saturating_sub(state.copies());
-        let many = match self.rng.below(8) {
-            0 | 1 => 0,
-            2 => all,
-            // Just room enough, or one body too few.
-            3..=5 if free < all => free + self.rng.below(2),
-            _ => self.rng.below(all + 1),
-        };
-        // Neighbours mostly, so that one write serves several.
-        let from = self.rng.below(all);
-        let apart = if self.rng.chance(300) { 2 } else { 1 };
-        let mut changed: Vec<u32> = (0..many)
-            .map(|at| cells[((from + apart * at) % all) as usize])
-            .collect();
-        changed.sort_unstable();
-        changed.dedup();
-        let mut writes: Vec<(usize, Vec<u8>)> = Vec::new();
-        for c in cells {
-            let now = cell_of(&line.buffers.memory, c);
-            let value = state.value(state.domains.len() - 1, c).unwrap_or(now);
-            let wanted = match changed.binary_search(&c).is_ok() {
-                true if now != value && self.rng.chance(700) => now,
-                true => self.other_bytes(state, c, value),
-                false => value,
-            };
-            // Changed and changed back: two writes, and nothing of them is left.
-            if now == value && wanted == value && self.rng.chance(30) {
-                let letter = self.letter();
-                self.write_cell(c, vec![letter; 64]);
-                self.write_cell(c, value.to_vec());
-            }
-            let Some(first) = (0..64).find(|i| wanted[*i] != now[*i]) else {
-                continue;
-            };
-            let end = 64
-                - (0..64)
-                    .take_while(|i| wanted[63 - i] == now[63 - i])
-                    .count();
-            let at = 64 * c as usize + first;
-            match writes.last_mut() {
-                Some((to, bytes)) if *to + bytes.len() == at => {
-                    bytes.extend(&wanted[first..end]);
-                }
-                _ => writes.push((at, wanted[first..end].to_vec())),
-            }
-        }
-        // Many writes would be most of a session.
-        writes.truncate(12);
-        let writes = writes.into_iter().map(|(at, bytes)| Want::Write(at, bytes));
-        self.wants.extend(writes);
-    }
-
-    /// Bytes for a cell that differ from these: at its first byte alone, at its last, anywhere, or in
-    /// the whole; what the next domain out holds, or a rule's.
-    fn other_bytes(&mut self, state: &State, cell: u32, value: Bytes) -> Bytes {
-        let mut bytes = value;
-        let mut flip = |rng: &mut Rng, at: usize| bytes[at] ^= 1 << rng.below(8);
-        match self.rng.below(8) {
-            0 | 1 => flip(&mut self.rng, 0),
-            2 | 3 => flip(&mut self.rng, 63),
-            4 => {
-                let at = self.rng.below(64) as usize;
-                flip(&mut self.rng, at);
-            }
-            5 => {
-                let outer = state.domains.len().checked_sub(2);
-                bytes = outer.and_then(|at| state.value(at, cell)).unwrap_or(value);
-            }
-            6 => bytes = rules::pattern(self.rng.below(4) as u32).expect("a rule"),
-            _ => bytes = [self.letter(); 64],
-        }
-        if bytes == value {
-            bytes[63] ^= 1;
-        }
-        bytes
-    }
-
     fn restore(&mut self, state: &State, line: &Line) {
         if self.rng.chance(600) {
             self.write(state, line);
@@ -723,51 +621,6 @@ impl Generator {
         }
         if self.rng.chance(500) {
             self.call(Call::Commit { handle: 0 });
-        }
-    }
-
-    /// Cells that the innermost domain holds, and a domain inside it that holds each of them by a kind
-    /// of its own and advances: question 15 lets it.
-    fn work_inside(&mut self, state: &State, line: &Line) {
-        let at = state.domains.len() - 1;
-        let outer = &state.domains[at];
-        let first = self.cell(state);
-        let room = self.habits.sizes.m - first;
-        let count = (self.rng.between(2, 6) as u32).min(room);
-        self.call(Call::copy(first, count, 1));
-        self.call(Call::Create);
-        for c in first..first + count {
-            let now = cell_of(&line.buffers.memory, c);
-            let value = state.value(at, c).unwrap_or(now);
-            let label = self.rng.chance(850) as u32;
-            match self.rng.below(3) {
-                0 if outer.rule(c).is_none() => {
-                    if now != value {
-                        self.write_cell(c, value.to_vec());
-                    }
-                    self.call(Call::via_parent(c, 1, label));
-                }
-                1 => {
-                    let rule = self.rng.below(4) as u32;
-                    self.write_pattern(c, 1, rule);
-                    self.call(Call::pattern(c, 1, rule, label));
-                }
-                _ => {
-                    if self.rng.chance(500) {
-                        let letter = self.letter();
-                        self.write_cell(c, vec![letter; 64]);
-                    }
-                    self.call(Call::copy(c, 1, label));
-                }
-            }
-        }
-        for _ in 0..self.rng.between(1, 3) {
-            self.wants.push_back(Want::Advance);
-        }
-        match self.rng.below(4) {
-            0 => self.call(Call::Restore { handle: 0 }),
-            1 => self.call(Call::Commit { handle: 0 }),
-            _ => {}
         }
     }
 

@@ -2,6 +2,7 @@
 //!
 //! - [`check`]: one call on both sides and every comparison; every cut of a call with the openings
 //!   after it.
+//! - [`advances`]: what advances met, and what they may take and have to leave by restores alone.
 //! - [`lists`]: what adds of several ranges met, and what they have to come to by plain adds alone.
 //! - [`session`]: a session as a plain list of inputs, so that it can be played again, shrunk and
 //!   printed.
@@ -12,6 +13,7 @@
 //! - `walls`: the library on buffers that end, or begin, at a page that nobody may touch: guards
 //!   see stores, walls see loads too.
 
+pub mod advances;
 pub mod check;
 pub mod generate;
 pub mod lists;

@@ -1,6 +1,7 @@
 //! Many sessions, one after the other, with progress.
 
-use crate::check::{Advances, Checker, Tally};
+use crate::advances::{Advances, Given};
+use crate::check::{Checker, Tally};
 use crate::generate::Generator;
 use crate::lists::{LATER, Lists, SPARED};
 use crate::session::Session;
@@ -173,31 +174,7 @@ pub fn long(tally: &Tally) -> String {
         tally.ending_restores, tally.outward_restores, tally.turning_advances, tally.raising_commits, tally.moving_commits
     )
     .unwrap();
-    let Advances {
-        nothing,
-        nothing_and_full,
-        some,
-        all,
-        first_byte,
-        last_byte,
-        kept_via_parent,
-        kept_rule,
-        like_parent,
-        unlike_parent,
-        exact,
-        one_short,
-        lacks_unchanged,
-    } = tally.advances;
-    writeln!(
-        text,
-        "advances with nothing changed {nothing} (no body free {nothing_and_full}), some cells {some}, all {all}; the first byte alone {first_byte}, the last {last_byte}"
-    )
-    .unwrap();
-    writeln!(
-        text,
-        "unchanged and kept via parent {kept_via_parent}, by rule {kept_rule}; changed to the parent's value {like_parent}, unchanged and unlike it {unlike_parent}; bodies just enough {exact}, one short {one_short}; 15 for unchanged cells alone {lacks_unchanged}"
-    )
-    .unwrap();
+    text += &advances(&tally.advances);
     writeln!(
         text,
         "by rules: adds {}, restores {}, advances {}, commits that moved {}, looks {}",
@@ -221,6 +198,56 @@ pub fn long(tally: &Tally) -> String {
         text.push('\n');
     }
     text
+}
+
+/// What advances met.
+fn advances(advances: &Advances) -> String {
+    let Advances {
+        nothing,
+        nothing_and_full,
+        some,
+        all,
+        first_byte,
+        last_byte,
+        kept_via_parent,
+        kept_rule,
+        like_parent,
+        unlike_parent,
+        exact,
+        one_short,
+        given,
+    } = advances;
+    format!(
+        "advances with nothing changed {nothing} (no body free {nothing_and_full}), some cells {some}, all {all}; \
+         the first byte alone {first_byte}, the last {last_byte}\n\
+         unchanged and kept via parent {kept_via_parent}, by rule {kept_rule}; \
+         changed to the parent's value {like_parent}, unchanged and unlike it {unlike_parent}; \
+         bodies just enough {exact}, one short {one_short}\n{}",
+        self::given(given)
+    )
+}
+
+/// What inner advances met that the next domain out lacks.
+fn given(given: &Given) -> String {
+    let Given {
+        some,
+        rules,
+        further_out,
+        beside_held,
+        beside_unchanged,
+        unchanged,
+        read_only,
+        exact,
+        one_short,
+        both_short,
+        cut,
+    } = given;
+    format!(
+        "advances that gave cells {some}, by rule {rules}, held further out {further_out}, \
+         beside a cell held outside {beside_held}, beside an unchanged one {beside_unchanged}; \
+         nothing changed {unchanged}; read-only outside {read_only}; \
+         entries just enough {exact}, one short {one_short}, bodies short too {both_short}; stopped {cut}\n"
+    )
 }
 
 /// What lists of several ranges met.

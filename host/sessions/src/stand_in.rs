@@ -30,6 +30,7 @@ impl Store for StandIn {
             Some(
                 Fault::StepTooMany
                 | Fault::AdvanceTakesTwoStepsForNothing
+                | Fault::GivenCellsTakeNoSteps
                 | Fault::RaisedNewEntryCountedTwice
                 | Fault::EntryRaisedTwiceCountedTwice,
             ) => work.need,

@@ -287,16 +287,12 @@ pub fn note(
     }
 }
 
-/// Restores each live domain on a copy: the bytes are those of the state found, and the notebook counts none that is wrong.
+/// Restores each live domain on a copy: the bytes are those of the state found, and the notebook, which has the same holdings, counts
+/// none that is wrong.
 pub fn check_restores(opened: &Buffers, found: &State, notebook: &Notebook) -> Result<u64, String> {
-    let handles: Vec<u32> = found.domains.iter().map(|domain| domain.handle).collect();
-    if handles != notebook.handles() {
-        return Err(format!(
-            "the live domains are {handles:?}, the notebook has {:?}",
-            notebook.handles()
-        ));
-    }
-    for (index, &handle) in handles.iter().enumerate() {
+    notebook.agrees_with(found)?;
+    for (index, domain) in found.domains.iter().enumerate() {
+        let handle = domain.handle;
         let mut restored = opened.clone();
         let reply = Linked.call(&mut restored, &Call::Restore { handle }, FULL);
         if reply.code != 0 {
@@ -329,7 +325,7 @@ pub fn check_restores(opened: &Buffers, found: &State, notebook: &Notebook) -> R
             ));
         }
     }
-    Ok(handles.len() as u64)
+    Ok(found.domains.len() as u64)
 }
 
 /// The way along the plan.

@@ -152,6 +152,7 @@ pub fn scenarios() -> Vec<Scenario> {
     patterns(&mut all);
     shorter_advances(&mut all);
     lists(&mut all);
+    inner_advances(&mut all);
     all
 }
 
@@ -286,6 +287,58 @@ fn lists(all: &mut Vec<Scenario>) {
     add("list, its last refused by 18", MIXED, one(), Call::ranges([R::copy(0, 2, 1), R::copy(4, 1, 1), R::pattern(5, 1, ONES, 0)]), 18, 0, 0);
     add("list without free entries", Sizes { e: 4, ..MIXED }, one(), Call::ranges([R::copy(0, 3, 1), R::copy(5, 2, 1)]), 16, 0, 0);
     add("list without free bodies", Sizes { b: 4, ..MIXED }, one(), Call::ranges([R::copy(0, 3, 1), R::copy(5, 2, 1)]), 17, 0, 0);
+}
+
+/// Advances that give cells outwards: copies and rules, beside cells that are held outside and unchanged ones, into the lowest free
+/// entries; cut, refused, and what comes after. Each cut is followed by restores of all live domains.
+#[rustfmt::skip]
+fn inner_advances(all: &mut Vec<Scenario>) {
+    use Call::*;
+    const ADVANCE: Call = Advance { handle: 0 };
+    let made = || [vec![MAKE], write(0..4, 1)].concat();
+    // The inner domain holds these cells, and those around it nothing.
+    let inner = |around: usize, count| [made(), vec![CREATE; around + 1], vec![copy(0, count, 1)]].concat();
+    let two = || [inner(1, 2), write(0..2, 2)].concat();
+    // Domain 1 holds one cell of two that domain 2 holds.
+    let held = |label| [made(), vec![CREATE, copy(1, 1, label), CREATE, copy(0, 2, 1)], write(0..2, 2)].concat();
+    // The first two entries and bodies are free again.
+    let holes = || [made(), vec![CREATE, copy(2, 2, 1), CREATE, copy(0, 2, 1), Act::Done(Call::delete(1, 2, 2))], write(0..2, 2)].concat();
+    let rules = || [made(), vec![CREATE, CREATE], by_rule(0, SCALE, 1), by_rule(1, INDEX, 1), write(0..2, UNRULED)].concat();
+    // Domain 1 holds 0 to 2 read-write and 5 read-only. Domain 2 holds 0 via parent, 1, 4 and 5 by copies, 3 and 6 by rules, all read-write,
+    // and 7 by a copy, read-only. So it gives 3, 4 and 6.
+    let mixed = || [vec![MAKE], write(0..8, 1), vec![CREATE, copy(0, 3, 1), copy(5, 1, 0), CREATE, via_parent(0, 1, 1)], write(1..2, 2), vec![copy(1, 1, 1)],
+                    by_rule(3, SCALE, 1), vec![copy(4, 1, 1)], write(5..6, 2), vec![copy(5, 1, 1)], by_rule(6, INDEX, 1), vec![copy(7, 1, 0)],
+                    write(0..8, 3)].concat();
+    let given = |before: Vec<Act>, version| [before, vec![Act::Done(ADVANCE)], write(0..2, version)].concat();
+    let then = |before: Vec<Act>, act: Act| [before, vec![act]].concat();
+
+    let mut add = |name, sizes, before, call, number, cells, pairs| all.push(Scenario { name, sizes, before, call, number, cells, pairs });
+    //   Name, sizes, what went before, the call, and its number, cells and pairs.
+    add("advance giving one", SMALL, [inner(1, 1), write(0..1, 2)].concat(), ADVANCE, 0, 1, 4);
+    add("advance giving two", SMALL, two(), ADVANCE, 0, 2, 8);
+    add("advance giving one of two", SMALL, [inner(1, 2), touch(&[1], 63)].concat(), ADVANCE, 0, 1, 4);
+    add("advance giving nothing", SMALL, inner(1, 2), ADVANCE, 0, 0, 0);
+    add("advance giving, one held", SMALL, held(1), ADVANCE, 0, 2, 6);
+    add("advance giving, one read-only", SMALL, held(0), ADVANCE, 0, 2, 6);
+    add("advance giving into holes", SMALL, holes(), ADVANCE, 0, 2, 8);
+    add("advance giving rules", SMALL, rules(), ADVANCE, 0, 2, 8);
+    add("advance giving to the second", SMALL, [inner(2, 1), write(0..1, 2)].concat(), ADVANCE, 0, 1, 4);
+    add("advance giving over a mix", MIXED, mixed(), ADVANCE, 0, 6, 18);
+    add("advance after giving", SMALL, given(two(), 3), ADVANCE, 0, 2, 4);
+
+    add("restore the outer after giving", SMALL, given(two(), 3), Restore { handle: 1 }, 0, 2, 6);
+    add("restore the inner after giving", SMALL, given(two(), 3), Restore { handle: 2 }, 0, 2, 0);
+    add("restore rules that were given", SMALL, given(rules(), UNRULED), Restore { handle: 1 }, 0, 2, 6);
+    add("commit after giving", SMALL, given(two(), 3), Commit { handle: 0 }, 0, 0, 6);
+
+    // Cut after the store of word 6, and some steps later.
+    add("open a cut advance that gives", SMALL, then(two(), Act::Cut(ADVANCE, 2 * 64 + 2 * 8 + 1)), Open, 0, 0, 8);
+    add("open a cut giving over a mix", MIXED, then(mixed(), Act::Cut(ADVANCE, 6 * 64 + 2 * 18 + 9)), Open, 0, 0, 18);
+    add("open a cut opening after giving", SMALL, [rules(), vec![Act::Cut(ADVANCE, 2 * 64 + 2 * 8 + 3), Act::Cut(Open, 5)]].concat(), Open, 0, 0, 8);
+
+    add("advance without free entries", Sizes { e: 3, ..SMALL }, two(), ADVANCE, 16, 0, 0);
+    add("advance giving without bodies", Sizes { b: 3, ..SMALL }, two(), ADVANCE, 17, 0, 0);
+    add("advance without either", Sizes { e: 3, b: 3, ..SMALL }, two(), ADVANCE, 16, 0, 0);
 }
 
 /// The buffers and the notebook as they stand before the call. The buffers are what stood in them before the first make, any bytes.
@@ -457,6 +510,21 @@ impl Session {
         Ok(())
     }
 
+    /// A cell that neither the innermost domain nor the one around it holds: once it is held and has changed, an advance gives it outwards.
+    fn lacking(&mut self) -> Result<Option<u32>, String> {
+        let state = state::state(&self.buffers)?;
+        let [.., outer, inner] = &state.domains[..] else {
+            return Ok(None);
+        };
+        let cells = 0..self.buffers.sizes().m;
+        let free = cells.filter(|cell| !outer.holds(*cell) && !inner.holds(*cell));
+        let free: Vec<u32> = free.collect();
+        Ok(match free.is_empty() {
+            true => None,
+            false => Some(*self.random.pick(&free)),
+        })
+    }
+
     /// An add by a rule: memory is made to follow it in most cases.
     fn choose_pattern(&mut self, first: u32, count: u32, label: u32) -> Call {
         let rule = self.random.below(4) as u32;
@@ -505,16 +573,19 @@ impl Session {
             let cell = self.random.below(cells) as u32;
             self.write(cell..cell + 1)?;
         }
-        Ok(match self.random.below(24) {
+        Ok(match self.random.below(26) {
             0 if handles.len() > 2 => Call::Make,
             0..=4 => Call::Create,
-            5..=7 => Call::copy(first, count, label),
+            5..=7 => match self.lacking()? {
+                Some(cell) if self.random.below(2) == 0 => Call::copy(cell, 1, 1),
+                _ => Call::copy(first, count, label),
+            },
             8..=9 => self.choose_pattern(first, 1 + count / 3, label),
             10..=12 => Call::via_parent(first, count, label),
             13 => Call::delete(any, first, 1),
             14..=15 => Call::Commit { handle: 0 },
-            16..=17 => Call::Advance { handle: 0 },
-            18..=21 => self.choose_list(),
+            16..=19 => Call::Advance { handle: 0 },
+            20..=23 => self.choose_list(),
             _ => Call::Restore { handle: any },
         })
     }

@@ -31,7 +31,9 @@ impl Sizes {
     ///
     /// A domain takes an entry for each cell that it holds and a body for each of them that it
     /// holds as a copy. An advance takes a new body for each read-write cell of its domain that has
-    /// changed, before the old ones become free, so leave room for as many as may change.
+    /// changed, before the old ones become free, so leave room for as many as may change. Inside another
+    /// domain it also takes an entry for each of them that its parent lacks, which is the parent's from
+    /// then on, together with the old body.
     pub fn new(m: u32, e: u32, b: u32) -> Result<Sizes, SizeError> {
         let check = |what, asked, most| {
             if (1..=most).contains(&asked) {

@@ -150,6 +150,29 @@
 //! # Ok::<(), Box<dyn std::error::Error>>(())
 //! ```
 //!
+//! # An advance inside another domain
+//!
+//! A tile may hold cells that the cycle around it never needed. Where such a cell has changed, the
+//! advance gives the cycle the old value, with an entry and the body that it had, so that the cycle's
+//! checkpoint stays where it is.
+//!
+//! ```
+//! use domain_store::{Buffers, Kind, Label};
+//! # let mut buffers = Buffers::allocate(4, 8, 8)?;
+//! # let mut store = buffers.store();
+//! # store.make()?;
+//! # store.cell_mut(0).fill(7);
+//! let cycle = store.create()?; // holds nothing
+//! let tile = store.create()?;
+//! store.add(tile, 0..1, Kind::Copy, Label::ReadWrite)?; // cell 0 is 7
+//! store.cell_mut(0).fill(9);
+//! assert_eq!(store.advance(tile)?, 78); // one cell copied, and given to the cycle as it was
+//! store.cell_mut(0).fill(11);
+//! store.restore(cycle)?;
+//! assert_eq!(store.cell(0), &[7; 64]);
+//! # Ok::<(), Box<dyn std::error::Error>>(())
+//! ```
+//!
 //! # Where the buffers come from
 //!
 //! [`Store`] takes any three slices. [`Buffers`] are allocated for given sizes; [`MappedBuffers`]

@@ -10,7 +10,8 @@ use std::fmt;
 /// and 19 right after 12, and is refused by the first that is answered by no. (An add of several
 /// ranges puts 7, 8, 11, 12, 18 and 19 to one range after the other, and then 16 and 17 for all.)
 /// The text of a refusal says what was wrong and what to do about it. The header has them by the
-/// same names: `NoStore` is `DS_REFUSED_NO_STORE` in C.
+/// same names: `NoStore` is `DS_REFUSED_NO_STORE` in C. Number 15 is retired: no call answers it, and
+/// no other number has moved.
 ///
 /// ```
 /// use domain_store::{Buffers, Refusal};
@@ -61,7 +62,11 @@ pub enum Refusal {
     NotHeld = 13,
     /// 14: the next domain in holds, via this one, a cell that is to be deleted.
     ChildRelies = 14,
-    /// 15: the parent does not hold every read-write cell of the domain that is to advance.
+    /// 15: retired, and answered by no call. It told that the parent did not hold every read-write cell
+    /// of the domain that was to advance: such an advance is done now, and gives the parent what it
+    /// lacks. It is kept so that the number stays taken and programs that name it still compile; it is
+    /// in neither [`ALL`](Refusal::ALL) nor [`from_number`](Refusal::from_number).
+    #[deprecated(note = "no call answers 15 any more: an advance gives the parent what it lacks")]
     ParentLacksReadWrite = 15,
     /// 16: too few free entries.
     NoFreeEntry = 16,
@@ -99,7 +104,6 @@ impl Refusal {
         Refusal::MemoryDiffers,
         Refusal::NotHeld,
         Refusal::ChildRelies,
-        Refusal::ParentLacksReadWrite,
         Refusal::NoFreeEntry,
         Refusal::NoFreeBody,
         Refusal::PatternDiffers,
@@ -126,6 +130,7 @@ impl Refusal {
     /// # use domain_store::Refusal;
     /// assert_eq!(Refusal::from_number(3), Some(Refusal::Pending));
     /// assert_eq!(Refusal::from_number(0), None);
+    /// assert_eq!(Refusal::from_number(15), None); // retired
     /// assert_eq!(Refusal::from_number(255), None);
     /// ```
     pub fn from_number(number: u32) -> Option<Refusal> {
@@ -200,15 +205,16 @@ impl fmt::Display for Refusal {
                 "The next domain in holds one of these cells via this one: delete the cell \
                  from that domain first, or commit that domain."
             }
+            #[allow(deprecated)]
             Refusal::ParentLacksReadWrite => {
-                "The parent does not hold every read-write cell of this domain, and advancing \
-                 would lose the parent's way back: commit this domain, or hold these cells in \
-                 the parent before creating it."
+                "The parent lacks a read-write cell of the domain that is to advance: no call \
+                 tells this any more, since an advance gives the parent what it lacks."
             }
             Refusal::NoFreeEntry => {
-                "The table has too few free entries for the new cells: delete or commit what \
-                 is no longer needed, or use another store in larger buffers (a make forgets \
-                 this one)."
+                "The table has too few free entries for the new cells (an advance needs one for \
+                 each changed cell that the parent lacks, and gives it the cell there): delete or \
+                 commit what is no longer needed, or use another store in larger buffers (a make \
+                 forgets this one)."
             }
             Refusal::NoFreeBody => {
                 "There are too few free bodies for the new copies (an advance needs one for \

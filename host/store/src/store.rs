@@ -627,14 +627,20 @@ impl<'a> Store<'a> {
     /// step, and costs a comparison of 64 bytes. So a cycle with little change is cheap to advance,
     /// and cells that are held via parent or by a rule stay so as long as they keep their bytes.
     ///
-    /// Gives the steps that it took: 70 for each changed cell and 2 more, or 0 where none has
-    /// changed, so that such an advance is done with any budget.
+    /// An advance keeps the checkpoint of the domains around: a changed cell that the parent lacks is
+    /// given to it as it was held, with its kind, its value and its label, in a free entry. Its old body
+    /// changes owner and is not copied. So going back to the parent brings the bytes that stood at the
+    /// parent's own checkpoint. A cell that the parent holds already, or that has not changed, is not
+    /// given, and the outermost domain gives nothing.
+    ///
+    /// Gives the steps that it took: 70 for each changed cell, 6 more for each of them that is given to
+    /// the parent, and 2; or 0 where none has changed, so that such an advance is done with any budget.
     ///
     /// # Errors
     ///
     /// [`NoSuchDomain`](Refusal::NoSuchDomain), [`NotInnermost`](Refusal::NotInnermost),
-    /// [`ParentLacksReadWrite`](Refusal::ParentLacksReadWrite), for every read-write cell, changed or
-    /// not, [`NoFreeBody`](Refusal::NoFreeBody), for the changed ones, and those of every call.
+    /// [`NoFreeEntry`](Refusal::NoFreeEntry), for the cells that are given to the parent,
+    /// [`NoFreeBody`](Refusal::NoFreeBody), for the changed ones, and those of every call.
     ///
     /// ```
     /// # use domain_store::{Buffers, Kind, Label};
@@ -649,6 +655,27 @@ impl<'a> Store<'a> {
     /// store.cell_mut(0).fill(11);
     /// store.restore(cycle)?;
     /// assert_eq!(store.cell(0), &[9; 64]);
+    /// # Ok::<(), Box<dyn std::error::Error>>(())
+    /// ```
+    ///
+    /// A tile inside a cycle that never held the cell: both go back to checkpoints of their own.
+    ///
+    /// ```
+    /// # use domain_store::{Buffers, Kind, Label};
+    /// # let mut buffers = Buffers::allocate(4, 8, 8)?;
+    /// # let mut store = buffers.store();
+    /// # store.make()?;
+    /// store.cell_mut(0).fill(7);
+    /// let cycle = store.create()?;
+    /// let tile = store.create()?;
+    /// store.add(tile, 0..1, Kind::Copy, Label::ReadWrite)?;
+    /// store.cell_mut(0).fill(9);
+    /// assert_eq!(store.advance(tile)?, 78);
+    /// store.cell_mut(0).fill(11);
+    /// store.restore(tile)?;
+    /// assert_eq!(store.cell(0), &[9; 64]);
+    /// store.restore(cycle)?;
+    /// assert_eq!(store.cell(0), &[7; 64]);
     /// # Ok::<(), Box<dyn std::error::Error>>(())
     /// ```
     ///

@@ -44,13 +44,115 @@ fn a_copy_comes_back() {
     assert!(is_filled(&store, 0, 7));
 }
 
+/// Cycle 1 holds nothing, tile 2 copies cell 0 = 7 read-write.
+fn cycle_and_tile(buffers: &mut Buffers) -> (Store<'_>, Handle, Handle) {
+    let mut store = buffers.store();
+    let cycle = store.create().unwrap();
+    let tile = copy(&mut store, 7);
+    (store, cycle, tile)
+}
+
 #[test]
-fn an_advance_needs_the_cell_in_the_parent() {
+fn an_inner_advance_keeps_the_outer_point() {
+    for restored in [1, 2] {
+        let mut buffers = fresh();
+        let (mut store, cycle, tile) = cycle_and_tile(&mut buffers);
+        assert_eq!(store.advance(tile), Ok(0));
+        assert_eq!(store.delete(cycle, 0..1), Err(Refusal::NotHeld));
+        store.cell_mut(0).fill(9);
+        assert_eq!(store.advance(tile), Ok(78));
+        store.cell_mut(0).fill(11);
+        store.restore(Handle::new(restored).unwrap()).unwrap();
+        assert!(is_filled(&store, 0, if restored == 1 { 7 } else { 9 }));
+        // The cycle holds the cell read-write by now, with the value that it was given.
+        store.restore(cycle).unwrap();
+        assert!(is_filled(&store, 0, 7));
+        store.cell_mut(0).fill(5);
+        assert_eq!(store.advance(cycle), Ok(72));
+        store.cell_mut(0).fill(6);
+        store.restore(cycle).unwrap();
+        assert!(is_filled(&store, 0, 5));
+    }
+}
+
+/// Whichever store an inner advance is cut at, the cycle goes back to its own point, and the tile to its
+/// old point or to its new one.
+#[test]
+fn every_cut_of_an_inner_advance_keeps_both_points() {
+    for budget in 0..=78 {
+        for handle in [1, 2] {
+            let mut buffers = fresh();
+            let (mut store, _, tile) = cycle_and_tile(&mut buffers);
+            store.cell_mut(0).fill(9);
+            let outcome = store.advance_with_budget(tile, budget).unwrap();
+            assert_eq!((outcome.steps(), outcome.is_done()), (budget, budget == 78));
+            // 64 bytes, four pairs and word 6: from there on the advance is made.
+            let made = budget >= 73;
+            let steps = store.open().unwrap();
+            assert_eq!(steps, if made && budget < 78 { 5 } else { 0 });
+            store.cell_mut(0).fill(11);
+            store.restore(Handle::new(handle).unwrap()).unwrap();
+            let byte = if handle == 2 && made { 9 } else { 7 };
+            assert!(is_filled(&store, 0, byte), "{handle} at budget {budget}");
+        }
+    }
+}
+
+#[test]
+fn an_inner_advance_needs_entries_for_what_it_gives() {
+    // Two cells held; entries and bodies for both, and one too few of each.
+    for (entries, bodies, advanced) in [
+        (4, 4, Ok(2 * 76 + 2)),
+        (3, 4, Err(Refusal::NoFreeEntry)),
+        (4, 3, Err(Refusal::NoFreeBody)),
+        (3, 3, Err(Refusal::NoFreeEntry)),
+    ] {
+        let mut buffers = sized(4, entries, bodies);
+        let (mut store, _, tile) = cycle_and_tile(&mut buffers);
+        store.add(tile, 1..2, Kind::Copy, Label::ReadWrite).unwrap();
+        store.memory_mut().fill(9);
+        assert_eq!(store.advance(tile), advanced);
+        // One of them by itself has room in every case.
+        if advanced.is_err() {
+            store.cell_mut(1).fill(0);
+            assert_eq!(store.advance(tile), Ok(78));
+        }
+    }
+}
+
+#[test]
+fn what_the_parent_holds_is_not_given() {
     let mut buffers = fresh();
     let mut store = buffers.store();
-    store.create().unwrap();
-    let two = copy(&mut store, 7);
-    assert_eq!(store.advance(two), Err(Refusal::ParentLacksReadWrite));
+    let one = hold(&mut store, 7, Kind::Copy, Label::ReadOnly);
+    let two = copy(&mut store, 8);
+    store.cell_mut(0).fill(9);
+    assert_eq!(store.advance(two), Ok(72));
+    store.restore(one).unwrap();
+    assert!(is_filled(&store, 0, 7));
+    // It is read-only as before, so that an advance leaves it.
+    store.cell_mut(0).fill(11);
+    assert_eq!(store.advance(one), Ok(0));
+    store.restore(one).unwrap();
+    assert!(is_filled(&store, 0, 7));
+}
+
+#[test]
+fn a_rule_is_given_as_a_rule() {
+    // One body, which the new copy takes.
+    let mut buffers = sized(4, 8, 1);
+    let mut store = buffers.store();
+    let one = store.create().unwrap();
+    *store.cell_mut(0) = Rule::Scale.bytes();
+    let two = store.create().unwrap();
+    let scale = Kind::Pattern(Rule::Scale);
+    store.add(two, 0..1, scale, Label::ReadWrite).unwrap();
+    store.cell_mut(0).fill(9);
+    assert_eq!(store.advance(two), Ok(78));
+    assert_eq!(store.look_place(one, 0), Ok(Place::Rule(Rule::Scale)));
+    assert!(matches!(store.look_place(two, 0), Ok(Place::Bodies { .. })));
+    store.restore(one).unwrap();
+    assert_eq!(store.cell(0), &Rule::Scale.bytes());
 }
 
 #[test]

@@ -5,8 +5,8 @@ use domain_store::{
 };
 use std::collections::BTreeMap;
 
-/// Document 01, "Questions put to every call, in this order", with those of requests A.1 and A.3: the number, the question, and what a no is
-/// called here.
+/// Document 01, "Questions put to every call, in this order", with those of requests A.1, A.3 and A.4: the number, the question, and what a
+/// no is called here. Request A.4 retires 15.
 #[rustfmt::skip]
 const QUESTIONS: &[(u32, &str, Refusal)] = &[
     (1, "Are the three lengths allowed?", Refusal::Lengths),
@@ -23,13 +23,16 @@ const QUESTIONS: &[(u32, &str, Refusal)] = &[
     (12, "Does memory equal that domain's value in each of them?", Refusal::MemoryDiffers),
     (13, "Does the domain hold every cell?", Refusal::NotHeld),
     (14, "Is none of them held via parent by the next domain in?", Refusal::ChildRelies),
-    (15, "Does the next domain out, if any, hold every read-write cell?", Refusal::ParentLacksReadWrite),
-    (16, "Are live entries plus newly held cells at most E?", Refusal::NoFreeEntry),
+    (16, "Are live entries plus newly held cells, and cells given outwards, at most E?", Refusal::NoFreeEntry),
     (17, "Are copies in use plus new bodies at most B?", Refusal::NoFreeBody),
     (18, "Is the rule at most 3, and memory like it in every newly held cell?", Refusal::PatternDiffers),
     (19, "Does the next domain out hold none of them by a rule?", Refusal::ParentHoldsByRule),
     (20, "Are there at least 1 and at most 64 records?", Refusal::NumberOfRanges),
 ];
+
+/// The retired number, which keeps its name.
+#[allow(deprecated)]
+const RETIRED: (u32, Refusal) = (15, Refusal::ParentLacksReadWrite);
 
 /// The header's constants: name and number.
 fn constants() -> BTreeMap<String, u32> {
@@ -64,6 +67,7 @@ fn header_crate_and_document_01_number_alike() {
 
     let mut expected: BTreeMap<String, u32> = asked
         .iter()
+        .chain([&RETIRED])
         .map(|(number, refusal)| (name_in_c(*refusal), *number))
         .collect();
     expected.extend(
@@ -100,9 +104,27 @@ fn a_number_is_one_refusal_or_none() {
     }
 }
 
+/// No call answers 15 any more: what was refused by it is done, and where there is no entry for what is given, 16 tells so.
+#[test]
+fn a_retired_number_is_kept_and_not_answered() {
+    let (number, refusal) = RETIRED;
+    assert_eq!(refusal.number(), number);
+    assert_eq!(Refusal::from_number(number), None);
+    assert!(!Refusal::ALL.contains(&refusal));
+    for (entries, advanced) in [(2, Ok(78)), (1, Err(Refusal::NoFreeEntry))] {
+        let mut buffers = store(4, entries, 8, 2);
+        let mut store = buffers.store();
+        let two = Handle::new(2).unwrap();
+        store.add(two, 0..1, Kind::Copy, Label::ReadWrite).unwrap();
+        assert_eq!(store.advance(two), Ok(0));
+        store.cell_mut(0).fill(9);
+        assert_eq!(store.advance(two), advanced);
+    }
+}
+
 #[test]
 fn each_refusal_says_what_and_what_to_do() {
-    for refusal in Refusal::ALL {
+    for refusal in Refusal::ALL.iter().chain([&RETIRED.1]) {
         let text = refusal.to_string();
         assert!(text.ends_with('.') && text.contains(": "), "{text}");
         assert!(!text.contains("  "), "{text}");
@@ -170,10 +192,6 @@ fn provoked(number: u32) -> Option<Refusal> {
             }
         }
         13 => store.delete(one, 0..1).err(),
-        15 => {
-            store.add(two, 0..1, copy, rw).unwrap();
-            store.advance(two).err()
-        }
         16 => small.add(one, 0..2, copy, rw).err(),
         17 => {
             small.add(one, 0..1, copy, rw).unwrap();

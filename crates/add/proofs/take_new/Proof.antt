@@ -11,9 +11,9 @@ use Rattle.add.proofs.take_new.Statement.{statement}
 use Rattle.add.proofs.take_new.Tie as tie
 use Rattle.add.proofs.beyond.Reads as beyond-reads
 use Rattle.add.proofs.copy_taken.Reads as copy-taken-reads
-use Rattle.add.proofs.next_free_slot.Reads as next-free-slot-reads
 use Rattle.add.proofs.take_body.Reads as take-body-reads
 use Rattle.changes.proofs.stage_entry.Reads as stage-entry-reads
+use Rattle.search.proofs.next_free_slot.Reads as next-free-slot-reads
 use Rattle.table.proofs.fields.entry_word.Reads as entry-word-reads
 use Rattle.table.proofs.fields.second_of.Reads as second-of-reads
 use Rattle.words.proofs.layout.bodies_of.Reads as bodies-of-reads

@@ -25,13 +25,13 @@ same-length-5 c = search needs
 
 returns : tie.Need-returns
 returns c =
-    let a = c .before .before .before .before .before .before .before .before .before .before .before .before .before .before .before .before .before .before .before .before .args in
-    advance-refused (a .memory .now) (a .bodies .now) (a .table .now) (a .handle) (a .budget) _ (c .before .before .before .before .before .before .before .advance-check .ensures .0) (c .if1 .taken)
+    let a = c .before .before .before .before .before .before .before .before .before .before .before .before .before .before .before .before .before .before .before .before .before .args in
+    advance-refused (a .memory .now) (a .bodies .now) (a .table .now) (a .handle) (a .budget) _ (c .before .before .before .before .before .before .before .before .advance-check .ensures .0) (c .if1 .taken)
 
 advance-stored-requires : tie.Need-advance-stored-requires
 advance-stored-requires c κs =
-    let ready = c .before .before .before .before .before .before .before .before .before .before .before .before .before .advance-check .ensures .1 (c .before .before .before .before .before .before .if1 .left) in
-    ((ready .0, c .before .before .before .before .before .before .before .before .before .before .before .before .before .advance-check .kept .1 .1 .1 .1 .1 .1 .0 ∙ c .before .before .before .before .before .before .before .before .before .before .before .before .before .before .before .before .before .before .before .before .before .before .before .before .before .before .pre .0 .bodies), (ready .1, c .before .before .before .before .before .before .before .before .before .before .before .before .before .before .before .before .before .before .before .before .before .before .before .before .before .before .pre .1 .1 ∙ sym (c .before .before .before .before .before .before .before .before .before .before .before .before .before .advance-check .kept .1 .1 .1 .1 .1 .1 .1 .0)))
+    let ready = c .before .before .before .before .before .before .before .before .before .before .before .before .before .before .advance-check .ensures .1 (c .before .before .before .before .before .before .if1 .left) in
+    ((ready .0, c .before .before .before .before .before .before .before .before .before .before .before .before .before .before .advance-check .kept .1 .1 .1 .1 .1 .1 .0 ∙ c .before .before .before .before .before .before .before .before .before .before .before .before .before .before .before .before .before .before .before .before .before .before .before .before .before .before .before .pre .0 .bodies), (ready .1, c .before .before .before .before .before .before .before .before .before .before .before .before .before .before .before .before .before .before .before .before .before .before .before .before .before .before .before .pre .1 .1 ∙ sym (c .before .before .before .before .before .before .before .before .before .before .before .before .before .before .advance-check .kept .1 .1 .1 .1 .1 .1 .1 .0)))
 
 same-length-6 : tie.Need-same-length-6
 same-length-6 c = search needs
@@ -53,8 +53,8 @@ same-length-11 c = search needs
 
 returns-2 : tie.Need-returns-2
 returns-2 c =
-    let a = c .before .before .before .before .before .before .before .before .before .before .before .before .before .before .before .before .before .before .before .before .before .before .before .before .before .before .before .before .before .before .before .before .before .args in
-    c .before .before .before .before .before .before .advance-stored .ensures ∙ advance-goes (a .memory .now) (a .bodies .now) (a .table .now) (a .handle) (a .budget) (sym (c .before .before .before .before .before .before .before .before .before .before .before .before .before .before .before .before .before .before .before .before .advance-check .ensures .0) ∙ c .before .before .before .before .before .before .before .before .before .before .before .before .before .if1 .left)
+    let a = c .before .before .before .before .before .before .before .before .before .before .before .before .before .before .before .before .before .before .before .before .before .before .before .before .before .before .before .before .before .before .before .before .before .before .args in
+    c .before .before .before .before .before .before .advance-stored .ensures ∙ advance-goes (a .memory .now) (a .bodies .now) (a .table .now) (a .handle) (a .budget) (sym (c .before .before .before .before .before .before .before .before .before .before .before .before .before .before .before .before .before .before .before .before .before .advance-check .ensures .0) ∙ c .before .before .before .before .before .before .before .before .before .before .before .before .before .if1 .left)
 
 pub advance-asked-spec : {M : Type 1} → statement M
 advance-asked-spec =

@@ -10,8 +10,8 @@ use Rattle.store.proofs.Checks.{orElse-go, orElse-stop, store-lengths}
 use Rattle.store.proofs.Named.{innermost-no, innermost-then, innermost-named}
 use Rattle.store.proofs.Raw.{check-rule}
 use Rattle.advance.specs.Notes.{entriesCheck}
-use Rattle.advance.proofs.Noting.{entries-cells, turned-advances}
-use Rattle.advance.proofs.Advanced.{check-is, advance-room}
+use Rattle.advance.proofs.Noting.{given-count, entries-cells, turned-advances}
+use Rattle.advance.proofs.Advanced.{check-is, advance-slots, advance-room}
 use Rattle.advance.proofs.advance_check.Statement.{statement}
 use Rattle.advance.proofs.advance_check.Tie as tie
 
@@ -85,10 +85,11 @@ returns-3 c =
     ∙ sym (check-is _ _ ∙ orElse-go _ _ pass) in (
       no,
       λ z.
-          let bits = rw (c .before .before .before .before .before .slots-of .ensures) at (c .before .before .entries-check .ensures .1 z) in (
+          let bits = rw (c .before .before .before .before .before .slots-of .ensures) at (c .before .before .entries-check .ensures .1 .1) in (
             record {
               stands = pass;
               lives = low;
+              slots = advance-slots (buffers (a .memory .now) (a .bodies .now) (a .table .now)) (a .handle) (sym no ∙ z);
               room = advance-room (buffers (a .memory .now) (a .bodies .now) (a .table .now)) (a .handle) (sym no ∙ z);
               marks = marks .copies;
             },
@@ -100,6 +101,8 @@ returns-3 c =
                 front = bits .front;
               };
               ends = c .before .before .before .before .before .before .before .before .before .before .before .before .before .before .before .before .before .before .before .before .before .before .pre .0 .reached (f .slots-low) (f .slots-high) .0;
+              marked = marks .cells;
+              number = (rw (c .before .before .before .before .before .slots-of .ensures) at (c .before .before .entries-check .ensures .1 .0)) ∙ given-count (a .memory .now) (a .bodies .now) (a .table .now) ok low;
             },
           ),
     )

@@ -5,9 +5,10 @@ use native.Mathlib.Omega.{arith}
 use borrow.Author.Needs.{needs}
 use lib.ListN.{length}
 use Rattle.words.specs.Layout.{cellsOf, groupAt}
+use Rattle.store.specs.Outcome.{buffers}
 use Rattle.store.proofs.Checks.{store-lengths}
-use Rattle.advance.specs.Notes.{byGroup}
-use Rattle.advance.proofs.Performing.{ready-front, ready-once, ready-count, ready-inside, ready-order, ready-low}
+use Rattle.advance.specs.Notes.{byGroup, Outwards}
+use Rattle.advance.proofs.Performing.{ready-front, ready-once, ready-count, ready-inside, ready-order, ready-room, ready-low}
 use Rattle.advance.proofs.advance_marked.Statement.{statement}
 use Rattle.advance.proofs.advance_marked.Tie as tie
 
@@ -57,7 +58,13 @@ store-listed-requires c κs = let a = c .before .before .before .before .before 
     let list = ready-order (a .memory .now) (a .bodies .now) (a .table .now) (a .used .now) ready x (told .cells) _ _ number (rw (c .before .before .before .before .before .before .before .before .before .before .before .before .before .slots-of .ensures) at (c .before .before .before .before .before .before .before .before .before .list-slots .ensures .1)) in
     let low = ready-low (a .memory .now) (a .bodies .now) (a .table .now) (a .used .now) ready _ _ list (a .top) (told .ends) in
     let room = c .before .before .before .before .before .before .before .before .before .before .before .before .before .before .before .before .before .before .before .before .before .before .before .before .before .before .pre .1 .1 .1 .0 in
-    (c .before .before .before .before .before .before .before .before .before .before .before .before .before .before .before .before .before .before .before .before .before .before .before .before .before .before .pre .0, ((list, omega (arith, number, few, c .before .before .before .before .before .before .before .before .before .before .before .before .before .before .before .before .before .before .before .before .before .before .before .before .before .before .pre .1 .1 .0 .1, c .before .before .before .before .before .before .before .before .before .list-slots .kept .1 .1 .1 .1 .1 .1 .1 .0)), (number, ((λ r l. omega (arith, low r l, room .0), room .1), c .before .before .before .before .before .before .before .before .before .before .before .before .before .before .before .before .before .before .before .before .before .before .before .before .before .before .pre .1 .1 .1 .1))))
+    let out : Outwards (buffers (a .memory .now) (a .bodies .now) (a .table .now)) (a .given) (a .seen .now) (a .changed .now) = record {
+      kept = told .blocks .kept;
+      marked = told .marked;
+      number = told .number;
+      room = λ k l. omega (arith, ready-room (a .memory .now) (a .bodies .now) (a .table .now) (a .used .now) ready (a .given) (a .top) (told .number) (told .ends) k l, room .1);
+    } in
+    (c .before .before .before .before .before .before .before .before .before .before .before .before .before .before .before .before .before .before .before .before .before .before .before .before .before .before .pre .0, ((list, omega (arith, number, few, c .before .before .before .before .before .before .before .before .before .before .before .before .before .before .before .before .before .before .before .before .before .before .before .before .before .before .pre .1 .1 .0 .1, c .before .before .before .before .before .before .before .before .before .list-slots .kept .1 .1 .1 .1 .1 .1 .1 .0)), (number, (out, ((λ r l. omega (arith, low r l, room .0 .0), room .0 .1), c .before .before .before .before .before .before .before .before .before .before .before .before .before .before .before .before .before .before .before .before .before .before .before .before .before .before .pre .1 .1 .1 .1)))))
 
 same-length : tie.Need-same-length
 same-length c = search needs

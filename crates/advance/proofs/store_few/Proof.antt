@@ -23,7 +23,7 @@ slice-aggregate-advance-marked-3 : tie.Need-slice-aggregate-advance-marked-3
 slice-aggregate-advance-marked-3 c = search needs
 
 advance-marked-requires : tie.Need-advance-marked-requires
-advance-marked-requires c κs = (c .before .before .before .before .before .before .before .before .before .before .before .before .before .before .before .before .pre .0, (c .before .before .before .before .before .before .before .before .before .before .before .before .before .before .before .before .pre .1 .0, ((c .before .before .before .before .before .before .before .before .before .before .before .before .before .before .before .before .pre .1 .1 .0, search needs), ((search needs, search needs), stages-start 4 (c .before .before .before .before .before .before .few-bits .ensures)))))
+advance-marked-requires c κs = (c .before .before .before .before .before .before .before .before .before .before .before .before .before .before .before .before .pre .0, (c .before .before .before .before .before .before .before .before .before .before .before .before .before .before .before .before .pre .1 .0, ((c .before .before .before .before .before .before .before .before .before .before .before .before .before .before .before .before .pre .1 .1 .0, search needs), (((search needs, search needs), search needs), stages-start 4 (c .before .before .before .before .before .before .few-bits .ensures)))))
 
 same-length : tie.Need-same-length
 same-length c = search needs

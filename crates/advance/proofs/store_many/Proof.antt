@@ -26,7 +26,7 @@ slice-aggregate-advance-marked-3 c = search needs
 advance-marked-requires : tie.Need-advance-marked-requires
 advance-marked-requires c κs = let a = c .before .before .before .before .before .before .before .before .before .before .before .before .before .before .before .before .args in
     let f = store-lengths _ _ (a .table .now) (c .before .before .before .before .before .before .before .before .before .before .before .before .before .before .before .before .pre .0 .0 .stands) in
-    (c .before .before .before .before .before .before .before .before .before .before .before .before .before .before .before .before .pre .0, (c .before .before .before .before .before .before .before .before .before .before .before .before .before .before .before .before .pre .1 .0, ((c .before .before .before .before .before .before .before .before .before .before .before .before .before .before .before .before .pre .1 .1, search needs), ((search needs, search needs), stages-start 64 (c .before .before .before .before .before .before .many-bits .ensures)))))
+    (c .before .before .before .before .before .before .before .before .before .before .before .before .before .before .before .before .pre .0, (c .before .before .before .before .before .before .before .before .before .before .before .before .before .before .before .before .pre .1 .0, ((c .before .before .before .before .before .before .before .before .before .before .before .before .before .before .before .before .pre .1 .1, search needs), (((search needs, search needs), search needs), stages-start 64 (c .before .before .before .before .before .before .many-bits .ensures)))))
 
 same-length : tie.Need-same-length
 same-length c = search needs

@@ -1,12 +1,14 @@
 //! The edges on the lent buffers, and fixed cases at both ends of the sizes.
 
 use crate::{agreed, fail, library};
-use domain_model::calls::REFUSALS;
+use domain_model::calls::refusals;
 use domain_model::edges::{Line as Edge, scripts};
 use domain_model::rules::pattern;
-use domain_model::{Buffers, Call, FULL, Lengths, Model, Sizes, Store};
+use domain_model::{
+    Buffers, Call, FULL, Lengths, Model, STOPPED, Sizes, Store, Verdict, plan, table,
+};
 use domain_sessions::StandIn;
-use domain_sessions::check::{Checker, Line};
+use domain_sessions::check::{Checker, Line, Tally};
 use domain_sessions::session::{Input, Made, Session};
 
 /// The stand-in goes first, to show that a script itself is right; the account is the library's.
@@ -28,6 +30,53 @@ pub fn made(checker: &mut Checker, sizes: Sizes) -> Line {
     line.buffers.memory.fill(0);
     done(checker, &mut line, &Call::Make);
     line
+}
+
+/// Plays a session on the library, which has to do as the model says, and gives what was tried.
+pub fn played(session: &Session) -> Tally {
+    let store = library();
+    let mut checker = Checker::new(&*store, Model::default());
+    if let Err((at, m)) = session.play(&mut checker) {
+        panic!("input {}: {}: {}", at + 1, m.call, m.what);
+    }
+    agreed(&checker.tally);
+    checker.tally
+}
+
+/// An input of a session: a call, and one that is first cut at its joints.
+pub fn plain(call: Call) -> Input {
+    Input::Call(Made::with_budget(call, FULL))
+}
+
+pub fn cut(call: Call) -> Input {
+    Input::Call(Made {
+        every_cut: Some(11),
+        ..Made::with_budget(call, FULL)
+    })
+}
+
+/// A call that takes the lowest free places, in order of cell: so its stores, and what each cut leaves, are
+/// known beforehand.
+pub fn takes_the_lowest_places(checker: &Checker, line: &Line, call: &Call) {
+    let model = Model::default();
+    let reading = table::reading(&line.buffers.decode(None));
+    let lengths = line.buffers.lengths();
+    let verdict = model.verdict(lengths, &reading, &line.buffers.memory, call);
+    let Verdict::Work(work) = verdict else {
+        panic!("{call}: {verdict:?}");
+    };
+    let steps = plan::lowest(model, &line.buffers, call, &work).expect("places");
+    let mut should = line.buffers.clone();
+    for budget in 0..=steps.len() {
+        let mut found = line.buffers.clone();
+        let reply = checker.store.call(&mut found, call, budget as u64);
+        let number = if budget < steps.len() { STOPPED } else { 0 };
+        assert_eq!((reply.code, reply.steps), (number, budget as u64));
+        assert_eq!(found.differs(&should), None, "{call} after {budget} steps");
+        if let Some(step) = steps.get(budget) {
+            step.apply(&mut should);
+        }
+    }
 }
 
 pub fn done(checker: &mut Checker, line: &mut Line, call: &Call) {
@@ -152,13 +201,6 @@ fn lengths() {
 /// The largest store: nearly all entries and bodies in use, some calls cut at their joints.
 #[test]
 fn the_largest_store() {
-    let plain = |call| Input::Call(Made::with_budget(call, FULL));
-    let cut = |call| {
-        Input::Call(Made {
-            every_cut: Some(11),
-            ..Made::with_budget(call, FULL)
-        })
-    };
     let stopped = |call, budget| {
         Input::Call(Made {
             openings: vec![3, 700],
@@ -223,23 +265,15 @@ fn the_largest_store() {
             stopped(Call::Commit { handle: 0 }, 9000),
         ],
     };
-    let store = library();
-    let mut checker = Checker::new(&*store, Model::default());
-    if let Err((at, m)) = session.play(&mut checker) {
-        panic!("input {}: {}: {}", at + 1, m.call, m.what);
-    }
-    assert!(
-        checker.tally.entries > 3500,
-        "most entries {}",
-        checker.tally.entries
-    );
+    let tally = played(&session);
+    assert!(tally.entries > 3500, "most entries {}", tally.entries);
     // One add past memory, three without a free entry, each of them also as a list of one; one advance
     // of changed cells without free bodies; all else was done or stopped.
-    let refused: Vec<(u32, u64)> = REFUSALS
-        .map(|n| (n, checker.tally.answered(n)))
+    let refused: Vec<(u32, u64)> = refusals()
+        .map(|n| (n, tally.answered(n)))
         .filter(|(_, times)| *times > 0)
         .collect();
-    let probes = (3, checker.tally.answered(3));
+    let probes = (3, tally.answered(3));
     assert_eq!(
         refused
             .into_iter()
@@ -247,7 +281,6 @@ fn the_largest_store() {
             .collect::<Vec<_>>(),
         [(8, 2), (16, 6), (17, 1)]
     );
-    agreed(&checker.tally);
 }
 
 /// Only what the questions ask is asked: a store of the smallest sizes, every call cut at every

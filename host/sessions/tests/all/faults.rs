@@ -63,11 +63,17 @@ fn each_error_in_a_store_is_found() {
 }
 
 /// The errors that document 01 names break demand 3, and so does an advance that leaves a changed cell
-/// at its old value, and an add that holds a part of its ranges: the notebook, which sees neither table
-/// nor bodies, finds them by itself.
+/// at its old value, an inner advance by which a domain around it loses its point, and an add that holds a
+/// part of its ranges: the notebook, which sees neither table nor bodies, finds them by itself.
 #[test]
 fn the_named_errors_are_found_by_zero_counts_alone() {
-    let faults = [&Fault::NAMED[..], &Fault::STALE, &Fault::HALF_HELD].concat();
+    let faults = [
+        &Fault::NAMED[..],
+        &Fault::STALE,
+        &Fault::OUTER_LOST,
+        &Fault::HALF_HELD,
+    ]
+    .concat();
     let missed = missed("in a store by zero counts alone", &faults, |fault| {
         found(&StandIn { fault: Some(fault) }, None, true, 6000)
     });
@@ -81,9 +87,10 @@ fn the_named_errors_are_found_by_zero_counts_alone() {
 fn a_failing_session_is_shrunk() {
     let store = library();
     for (fault, most) in [
-        (Fault::NewestWinsInRestore, 8),
+        (Fault::NewestWinsInRestore, 9),
         (Fault::CommitForgetsRaise, 7),
         (Fault::NoQuestion12, 7),
+        (Fault::AdvanceGivesNewValue, 7),
         (Fault::LaterRecordWins, 4),
         (Fault::SixtyFourthLeftOut, 4),
     ] {

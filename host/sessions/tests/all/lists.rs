@@ -1,13 +1,13 @@
 //! Request A.3 on the lent buffers: an add of several ranges holds all of them or none, takes the lowest
 //! free places in order of cell, and one of a single range is the plain add.
 
-use crate::edges::{both, done, made};
-use crate::{agreed, fail, library};
+use crate::edges::{both, cut, done, made, plain, played, takes_the_lowest_places};
+use crate::fail;
 use domain_model::edges::{TILE, one_cell_records};
 use domain_model::rules::{INDEX, SCALE, pattern};
-use domain_model::{Call, FULL, Model, Record, STOPPED, Sizes, Verdict, plan, table};
+use domain_model::{Call, FULL, Record, Sizes};
 use domain_sessions::check::{Checker, Line};
-use domain_sessions::session::{Input, Made, Session};
+use domain_sessions::session::{Input, Session};
 
 /// Domain 1 holds cells 0 to 3 and leaves holes in table and bodies; domain 2, inside it, holds cell 6
 /// read-only. The cells of the tile have the values that it needs.
@@ -64,8 +64,7 @@ fn nine_ranges_of_a_tile() {
     });
 }
 
-/// Places are the lowest free ones in order of cell, whichever record takes a cell: so the stores of a
-/// list, and what each cut leaves, are known beforehand.
+/// Places are the lowest free ones in order of cell, whichever record takes a cell.
 #[test]
 fn the_lowest_places_in_order_of_cell() {
     both(|checker| {
@@ -79,27 +78,7 @@ fn the_lowest_places_in_order_of_cell() {
             Record::copy(7, 1, 1),
         ];
         for records in [&TILE[..], &turned, &overlapping] {
-            let call = Call::ranges(records);
-            let model = Model::default();
-            let reading = table::reading(&line.buffers.decode(None));
-            let lengths = line.buffers.lengths();
-            let verdict = model.verdict(lengths, &reading, &line.buffers.memory, &call);
-            let Verdict::Work(work) = verdict else {
-                panic!("{call}: {verdict:?}");
-            };
-            let steps = plan::lowest(model, &line.buffers, &call, &work).expect("places");
-            let mut should = line.buffers.clone();
-            for (budget, step) in steps.iter().enumerate() {
-                let mut found = line.buffers.clone();
-                let reply = checker.store.call(&mut found, &call, budget as u64);
-                assert_eq!((reply.code, reply.steps), (STOPPED, budget as u64));
-                assert_eq!(found.differs(&should), None, "{call} after {budget} steps");
-                step.apply(&mut should);
-            }
-            let mut found = line.buffers.clone();
-            let reply = checker.store.call(&mut found, &call, steps.len() as u64);
-            assert_eq!((reply.code, reply.steps), (0, steps.len() as u64));
-            assert_eq!(found.differs(&should), None, "{call}");
+            takes_the_lowest_places(checker, &line, &Call::ranges(records));
         }
     });
 }
@@ -188,13 +167,6 @@ fn as_many_as_there_may_be() {
 /// held, one that is cut at its joints, and lists that take all the room there is and a little more.
 #[test]
 fn lists_in_the_largest_store() {
-    let plain = |call| Input::Call(Made::with_budget(call, FULL));
-    let cut = |call| {
-        Input::Call(Made {
-            every_cut: Some(11),
-            ..Made::with_budget(call, FULL)
-        })
-    };
     // An odd factor, so that no cell comes twice.
     let record = |at: u32| Record::copy((at * 40_503 + 17) % 65_536, 1, at % 2);
     let list = |from: u32| Call::ranges((from..from + 64).map(record).collect::<Vec<_>>());
@@ -227,16 +199,7 @@ fn lists_in_the_largest_store() {
         fill: 77,
         inputs,
     };
-    let store = library();
-    let mut checker = Checker::new(&*store, Model::default());
-    if let Err((at, m)) = session.play(&mut checker) {
-        panic!("input {}: {}: {}", at + 1, m.call, m.what);
-    }
-    assert!(
-        checker.tally.entries > 3_900,
-        "most entries {}",
-        checker.tally.entries
-    );
-    assert_eq!(checker.tally.answered(16), 1);
-    agreed(&checker.tally);
+    let tally = played(&session);
+    assert!(tally.entries > 3_900, "most entries {}", tally.entries);
+    assert_eq!(tally.answered(16), 1);
 }

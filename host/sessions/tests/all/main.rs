@@ -4,6 +4,7 @@ mod advances;
 mod bits;
 mod edges;
 mod faults;
+mod inner_advances;
 mod lists;
 mod meddling;
 mod patterns;

@@ -53,9 +53,14 @@ fn is_still(call: &Call, reply: &Reply) -> bool {
     matches!(call, Call::Advance { .. }) && (reply.code, reply.steps) == (0, 0)
 }
 
+/// Whether an advance that was done gave a cell: it took more than 70k + 2 steps.
+fn gave(reply: &Reply) -> bool {
+    reply.code == 0 && reply.steps > 0 && reply.steps % 70 != 2
+}
+
 #[test]
 fn each_small_thing_is_seen() {
-    let list: [(&str, Meddle); 29] = [
+    let list: [(&str, Meddle); 32] = [
         ("one byte past memory", |b, c, _| {
             if matches!(c, Call::Restore { .. }) {
                 past(&mut b.memory, |v| v ^ 1)
@@ -120,8 +125,28 @@ fn each_small_thing_is_seen() {
             }
         }),
         ("steps told by a refused call", |_, _, r| {
-            if r.code == 15 {
+            if r.code == 13 {
                 r.steps = 1
+            }
+        }),
+        ("steps told by an advance without entries", |_, c, r| {
+            if matches!(c, Call::Advance { .. }) && r.code == 16 {
+                r.steps = 1
+            }
+        }),
+        ("a spare pair in an advance without entries", |b, c, r| {
+            let last = b.table.len().saturating_sub(1);
+            if matches!(c, Call::Advance { .. }) && r.code == 16 {
+                flip(&mut b.table, last, |v| v ^ 1);
+            }
+        }),
+        ("the label of what an advance gave", |b, c, r| {
+            if matches!(c, Call::Advance { .. }) && gave(r) {
+                let entries = b.table[16..].iter_mut().step_by(2);
+                let mut outer = entries.filter(|first| **first >> 27 == 0b11);
+                if let Some(first) = outer.next() {
+                    *first ^= 1 << 27;
+                }
             }
         }),
         ("a handle left over in a list", |_, c, r| {

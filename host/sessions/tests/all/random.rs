@@ -1,7 +1,8 @@
 //! Random sessions with fixed seeds: no difference, and deep enough to mean something.
 
 use crate::{agreed, library};
-use domain_model::{Store, calls::REFUSALS};
+use domain_model::Store;
+use domain_model::calls::{RETIRED, refusals};
 use domain_sessions::StandIn;
 use domain_sessions::check::Tally;
 use domain_sessions::run::{Plan, long, run};
@@ -16,12 +17,12 @@ fn no_difference(store: &dyn Store, seed: u64, sessions: u64) -> Tally {
 
 #[test]
 fn the_store_and_the_model_agree() {
-    let mut tally = no_difference(&*library(), 1, 500);
-    tally.join(&no_difference(&*library(), 2, 500));
+    let mut tally = no_difference(&*library(), 1, 600);
+    tally.join(&no_difference(&*library(), 2, 600));
     agreed(&tally);
     println!("{}", long(&tally));
     // A run that never gets to a question says nothing about it.
-    for number in REFUSALS.filter(|n| *n != 10) {
+    for number in refusals().filter(|n| *n != 10) {
         assert!(
             tally.answered(number) >= 20,
             "answer {number} came {} times",
@@ -44,7 +45,12 @@ fn the_store_and_the_model_agree() {
     assert!(met.kept_via_parent >= 30 && met.kept_rule >= 50);
     assert!(met.like_parent >= 30 && met.unlike_parent >= 200);
     assert!(met.exact >= 10 && met.one_short >= 30 && met.nothing_and_full >= 30);
-    assert!(met.lacks_unchanged >= 200);
+    let met = met.given;
+    assert!(met.some >= 200 && met.rules >= 50 && met.further_out >= 50);
+    assert!(met.beside_held >= 50 && met.beside_unchanged >= 50 && met.unchanged >= 200);
+    assert!(met.read_only >= 20 && met.cut >= 50);
+    assert!(met.exact >= 20 && met.one_short >= 20 && met.both_short >= 10);
+    assert_eq!(tally.answered(RETIRED), 0);
     let met = tally.lists;
     assert!(met.several >= 400 && met.nine >= 30 && met.sixty_four >= 10 && met.kinds >= 10);
     assert!(met.falling >= 100 && met.touching >= 200 && met.overlapping >= 200);

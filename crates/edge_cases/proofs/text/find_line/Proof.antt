@@ -35,6 +35,12 @@ add-line-number-2 c = search needs
 shared-slice-read-line-number-2 : tie.Need-shared-slice-read-line-number-2 Inv-loop μ-loop
 shared-slice-read-line-number-2 c = search needs
 
+add-line-number-3 : tie.Need-add-line-number-3 Inv-loop μ-loop
+add-line-number-3 c = search needs
+
+shared-slice-read-line-number-3 : tie.Need-shared-slice-read-line-number-3 Inv-loop μ-loop
+shared-slice-read-line-number-3 c = search needs
+
 line-number-requires : tie.Need-line-number-requires Inv-loop μ-loop
 line-number-requires c κs = search needs
 
@@ -70,6 +76,8 @@ find-line-spec =
     shared-slice-read-line-number
     add-line-number-2
     shared-slice-read-line-number-2
+    add-line-number-3
+    shared-slice-read-line-number-3
     line-number-requires
     add-result
     returns-2

@@ -1,14 +1,13 @@
--- `add::next_free_slot` meets its contract. Assumes nothing.
+-- `next_free_slot` meets its contract. The loop's invariant: every slot passed is in use. Assumes nothing.
 use Prim.Native.Nat.{_-_, _≤_}
 use mathlib.Core.Path.{sym, _∙_}
 use borrow.Author.Tests.{eq-eqb, ne-eqb}
-use Rattle.words.proofs.Scan.{not-lt}
-use Rattle.search.specs.Free.{slotFree}
-use Rattle.search.proofs.From.{Failing, failing-none, failing-more, from-at}
-use Rattle.add.specs.Walking.{freeFrom}
 use borrow.Author.Needs.{needs}
-use Rattle.add.proofs.next_free_slot.Statement.{statement}
-use Rattle.add.proofs.next_free_slot.Tie as tie
+use Rattle.words.proofs.Scan.{not-lt}
+use Rattle.search.specs.Free.{slotFree, freeFrom}
+use Rattle.search.proofs.From.{Failing, failing-none, failing-more, from-at}
+use Rattle.search.proofs.next_free_slot.Statement.{statement}
+use Rattle.search.proofs.next_free_slot.Tie as tie
 use Rattle.table.proofs.first_word.Reads as first-word-reads
 
 abbrev Inv-loop : tie.InvT-loop
