@@ -86,8 +86,9 @@ extern "C" {
 #define DS_REFUSED_NOT_HELD 13u
 /* The next domain in holds, via this one, a cell that is to be deleted. */
 #define DS_REFUSED_CHILD_RELIES 14u
-/* Retired: no call answers 15 any more. It told that the parent did not hold every read-write cell of the domain that was to advance; an advance now gives
- * the parent what it lacks (ds_advance). No other number has moved, and this one is not used again. */
+/* Retired: no call answers 15 any more. It told that the parent did not hold every read-write cell of the domain that was to advance; such an
+ * advance is done now if there is room, and gives the parent the changed cells that it lacks (ds_advance). No other number has moved, and this one is not
+ * used again. */
 #define DS_REFUSED_PARENT_LACKS_READ_WRITE 15u
 /* Too few free entries for the new cells: in an advance one for each cell that is given to the parent. */
 #define DS_REFUSED_NO_FREE_ENTRY 16u

@@ -1,6 +1,6 @@
 -- What is given outwards along the list is what the call gives: the k-th entry of the list whose cell the parent lacks has the k-th of the cells that
 -- are given outwards, and takes the k-th free slot. Assumes nothing.
-use Prim.Native.Nat.{ℕ, _+_, _≤_, _<_}
+use Prim.Native.Nat.{ℕ, _≤_, _<_}
 use mathlib.Core.Bool.{Bool, true, false, not}
 use mathlib.Core.List.{List}
 use mathlib.Core.Path.{_≡_, sym, ap, _∙_}

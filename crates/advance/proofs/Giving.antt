@@ -4,34 +4,27 @@ use mathlib.Core.Bool.{Bool, true, false}
 use mathlib.Core.List.{List}
 use mathlib.Core.Path.{_≡_, refl, sym, _∙_}
 use native.Mathlib.Omega.{arith}
-use borrow.Author.Tests.{eqb-true, eqb-false, lt-ltb, le-ltb}
+use borrow.Author.Tests.{ne-eqb, eqb-true, eqb-false, lt-ltb, le-ltb}
 use lib.Dec.{eqb, ltb}
 use lib.ListN.{getD}
 use Rattle.words.specs.Scan.{count}
-use Rattle.words.proofs.Scan.{by-bool, by-le, and-split, is-false, true≢, count-more, count-stop}
+use Rattle.words.proofs.Scan.{by-bool, by-le, true≢, count-more}
 use Rattle.words.proofs.Nth.{count-below, nth-of, same-rank}
-use Rattle.table.specs.Entry.{word1, word2, depthOf, cellOf, outward}
+use Rattle.table.specs.Entry.{word1, word2, depthOf, outward}
 use Rattle.table.specs.Marks.{FreeRun}
 use Rattle.table.specs.Changes.{Change, put}
 use Rattle.search.specs.Free.{slotFree, freeFrom}
+use Rattle.search.proofs.Counts.{count-front}
 use Rattle.search.proofs.Free.{free-below, free-passed, free-holds, free-rank}
 use Rattle.changes.specs.Staged.{but, Stages}
 use Rattle.changes.proofs.Staging.{stages-but, stages-ext}
-use Rattle.advance.specs.Advance.{turns}
-use Rattle.advance.specs.Notes.{lacksIt, givesIt, lacksAt, GivenOne, giveTo}
+use Rattle.advance.specs.Notes.{givesIt, lacksAt, GivenOne, giveTo}
 
 -- ---- how many: free entries give no cell outwards, so that no pass need look at them
 
 pub given-front : (e : ℕ) (t : List ℕ) (top : ℕ) → top ≤ e → FreeRun e t top e → (n : ℕ) → 1 ≤ n → (seen : List ℕ) (f : ℕ → Bool)
     → count top (λ i. givesIt seen n f (word1 e t i)) ≡ count e (λ i. givesIt seen n f (word1 e t i))
-given-front e t top within free n low seen f =
-    sym
-    (count-stop e top (λ i. givesIt seen n f (word1 e t i)) within
-    (λ k l h.
-    is-false (givesIt seen n f (word1 e t k)) (λ y.
-    let goes = and-split (turns n f (word1 e t k)) (lacksIt seen n (word1 e t k)) y .0 in
-    let depth : depthOf (word1 e t k) ≡ n = eqb-true _ _ (and-split (eqb (depthOf (word1 e t k)) n) (f (cellOf (word1 e t k))) goes .0) in
-    omega (arith, depth, free k l h .0, low))))
+given-front e t top within free n low seen f = count-front e t top within free (givesIt seen n f) (rw (ne-eqb (depthOf 0) n (λ q. omega arith)))
 
 -- ---- what is staged on the way
 

@@ -69,7 +69,8 @@ givenFirst e t c = outward (word1 e t (findIn e t (innermost t) c))
 abbrev pub givenSecond : ℕ → List ℕ → ℕ → ℕ
 givenSecond e t c = word2 e t (findIn e t (innermost t) c)
 
--- where `slot c` is the one of cell c: what is changed, `other`, and entry i besides, if its slot is taken by one of m cells, which is given outwards
+-- where `slot c` is the one that cell c takes: slot i gets the words of that one of m cells given outwards that takes it; else its change is that of
+-- `other`
 unfoldable pub giveWith : (m e : ℕ) (t : List ℕ) (f : ℕ → Bool) (slot : ℕ → ℕ) (other : ℕ → Change) → ℕ → Change
 giveWith m e t f slot other i =
     let c = takerOf m (givesWith e t f) slot i in

@@ -1,7 +1,7 @@
 -- Document 01, "What the statements have to decide": "Two things are left free: which entries and bodies a call takes, though each was free before
 -- the call". An advance takes an entry slot for each cell that it gives outwards, and a body for each cell that advances: `slot c` and `body c` are
 -- those of cell c. The call made with any such places means the same (proofs/Advanced); the contract's call takes the lowest free ones, `slotFor` and
--- `bodyFor`. The innermost domain's entry stays in its slot.
+-- `bodyFor`. That the given entry takes the free slot and the innermost domain's own stays where it is, is fixed here.
 use Prim.Native.Nat.{ℕ}
 use mathlib.Core.Path.{_≡_}
 use lib.ListN.{length}

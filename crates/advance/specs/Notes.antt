@@ -1,5 +1,5 @@
 -- What the parts of advance's code pass on to each other: which cells advance, as bits; the list of the entries that advance, in the order of
--- their cells; and what is staged for them.
+-- their cells; what is staged for them; and what is given outwards.
 use Prim.Native.Nat.{ℕ, _+_, _*_, _≤_, _<_}
 use mathlib.Core.Bool.{Bool, true, false, cond, not, _&&_}
 use mathlib.Core.Path.{_≡_}
@@ -34,8 +34,8 @@ entriesCheck memory bodies e t =
     ask (leb (usedSlots e t + count e (entryGiven memory bodies e t)) e) 16
     (ask (leb (copies e t + count e (entryChanged memory bodies e t (innermost t))) (bodiesOf (length bodies))) 17 0)
 
--- by marks of the cells: does the parent of depth d lack the cell of an entry with first word w? Is that cell given outwards, where the cells that
--- advance are those of which f holds?
+-- by marks of the cells: does the parent of the domain at depth d lack the cell of an entry with first word w? Is that cell given outwards, where the
+-- cells that advance are those of which f holds?
 abbrev pub lacksIt : (seen : List ℕ) (d w : ℕ) → Bool
 lacksIt seen d w = not (has (parent d) (markAt seen w))
 
@@ -155,7 +155,7 @@ changeTo e b t used f r i = cond (ltb (rankOf e t f i) r) (turnWith e t f (lowes
 abbrev pub lacksAt : (e : ℕ) (t seen places : List ℕ) → ℕ → Bool
 lacksAt e t seen places k = lacksIt seen (innermost t) (word1 e t (getD places k 0))
 
--- there is a free slot for the cell of each of the n entries listed that the parent lacks, with room to stage it; `given` tells whether there is any
+-- for each of the n entries listed whose cell the parent lacks there is a free slot, with room to stage it; `given` tells whether there is any
 pub record Givable (e : ℕ) (t : List ℕ) (n given : ℕ) (places seen words bits : List ℕ) : Type 0 where
   pub kept : Kept seen
   pub low : 1 ≤ live t
@@ -172,13 +172,14 @@ pub record GivenOne (e : ℕ) (t : List ℕ) (lacks : Bool) (i at next : ℕ) (w
   pub on : lacks ≡ true → next ≡ freeFrom e t at + 1
   pub kept : lacks ≡ false → (next ≡ at) × (words′ ≡ words) × (bits′ ≡ bits)
 
--- once the first r of the n entries listed are: the k-th free slot takes the k-th of them whose cell the parent lacks; the rest is `other`
+-- the change of entry i once the first r of the n entries listed are passed: the k-th free slot takes the k-th of them whose cell the parent lacks; any
+-- other has its change by `other`
 unfoldable pub giveTo : (e : ℕ) (t seen places : List ℕ) (n r : ℕ) (other : ℕ → Change) → ℕ → Change
 giveTo e t seen places n r other i =
     let j = getD places (nth n (lacksAt e t seen places) (count i (slotFree e t))) 0 in
     cond (slotFree e t i && ltb (count i (slotFree e t)) (count r (lacksAt e t seen places))) (put (outward (word1 e t j)) (word2 e t j)) (other i)
 
--- whatever was staged, what is given outwards is now, too
+-- what was staged stays, and what is given outwards is staged besides
 pub record GivenListed (e : ℕ) (t : List ℕ) (n given : ℕ) (places seen words bits words′ bits′ : List ℕ) : Type 0 where
   pub none : given ≡ 0 → (words′ ≡ words) × (bits′ ≡ bits)
   pub some : (given ≡ 0 → ⊥) → (other : ℕ → Change) → Stages e other words bits → Stages e (giveTo e t seen places n n other) words′ bits′

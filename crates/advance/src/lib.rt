@@ -1,6 +1,6 @@
 // Advance: every read-write cell of the innermost domain whose value memory has no more gets memory's bytes, as a copy in a body that was free. The
 // others have them already, and keep kind and body. Of those that change, the next domain out gets what it lacks, as it was: by an entry with the
-// old words, so that the old body changes owner and is not copied.
+// old words but for the depth, so that the old body changes owner and is not copied.
 //
 // A body in use is never written, so that a cut leaves the old copies whole. The questions are asked of the entries and not of the cells: there
 // may be 65,536 cells, but no more than 4,096 entries. Each innermost read-write entry is compared with memory once (values): by its own body or
@@ -8,8 +8,8 @@
 // a number, and there is a number for each block of the marks that question 4 made: so they cost what the table has and not what memory has. A
 // walk over the groups that have a block notes how many bits there are up to the end of each. That tells the rank of each cell, and a pass over
 // the entries lists the slots of those that advance in the order of their cells. Along the list each cell is copied into the lowest body that is
-// free, and its entry is staged with that body; along it, too, the cells that the marks say the parent lacks are staged for the lowest free slots. Then
-// the staged words are written by the journal.
+// free, and its entry is staged with that body. Where the marks say that the parent lacks the cell, the old words are staged besides, for the lowest
+// slot that is free. Then the staged words are written by the journal.
 use changes::few_bits;
 use changes::few_words;
 use changes::many_bits;
@@ -80,7 +80,7 @@ ghost use Rattle.values.specs.Values.{entryChanged};
 ghost use Rattle.changes.specs.Staged.{RoomFor, Inside, Restaged, Stages};
 ghost use Rattle.store.specs.Outcome.{buffers, report, Makes};
 ghost use Rattle.store.specs.Means.{Shows};
-ghost use Rattle.advance.specs.Advance.{advances, advanceCheck, advanceCall, advanceMeans};
+ghost use Rattle.advance.specs.Advance.{advances, turns as turnsBy, advanceCheck, advanceCall, advanceMeans};
 ghost use Rattle.advance.specs.Notes.{entryGiven, entriesCheck, lacksIt, givesIt, Comparable, byGroup, hasBit, BlockBits, markTurning, ChangedBits, Ready, Told, performed, Ends, listSlot, ListedSlots, InOrder, RoomForListed, changeTo, Givable, GivenOne, GivenListed, Outwards};
 
 // ---- the questions: 0, or the number of the first no
@@ -276,6 +276,14 @@ fn has_bit(seen: &[u8], bits: &[u64], cell: usize) -> bool
     (bits[b] >> (cell % GROUP_SIZE)) % 2 == 1
 }
 
+// Does an entry with this first word advance: is it innermost, and has its cell its bit?
+fn turns(seen: &[u8], bits: &[u64], word: u32, live: u32) -> bool
+    requires { ⌜ BlockBits (now seen) (now bits) ⌝ }
+    ensures { λ r. ⌜ r ≡ turnsBy live (hasBit (now (seen .entry)) (now (bits .entry))) word ⌝ }
+{
+    (depth_of(word) == live) & has_bit(seen, bits, cell_of(word))
+}
+
 // Does the parent lack the cell of an entry, as the marks of the cells tell?
 fn parent_lacks(seen: &[u8], word: u32, live: u32) -> bool
     requires { ⌜ Kept (now seen) × (1 ≤ live) × (live ≤ maxLive) ⌝ }
@@ -306,8 +314,7 @@ fn count_given(
     let mut i: usize = 0;
     while i < top {
         let word = first_word(table, slots, i);
-        let goes = (depth_of(word) == live) & has_bit(seen, bits, cell_of(word));
-        n += (goes & parent_lacks(seen, word, live)) as usize;
+        n += (turns(seen, bits, word, live) & parent_lacks(seen, word, live)) as usize;
         i += 1;
     }
     n
@@ -365,10 +372,10 @@ fn advance_check(
     if no != 0 {
         return Asked { no, given: 0 };
     }
-    let outer = innermost_check(table, handle);
-    if outer != 0 {
+    let stale = innermost_check(table, handle);
+    if stale != 0 {
         return Asked {
-            no: outer,
+            no: stale,
             given: 0,
         };
     }
@@ -416,7 +423,7 @@ fn rank_of(seen: &[u8], bits: &[u64], ends: &[u16], cell: usize) -> usize
     ends[b] as usize - wide(u64::count_ones(bits[b] >> (cell % GROUP_SIZE)))
 }
 
-// Puts slot i into the list if its entry advances, at the rank of its cell: if it is innermost, and its cell has its bit.
+// Puts slot i into the list if its entry advances, at the rank of its cell.
 fn list_slot(
     table: &[u32],
     slots: usize,
@@ -434,11 +441,10 @@ fn list_slot(
     ensures { λ _. ⌜ now (places .exit) ≡ listSlot live (hasBit (now (seen .entry)) (now (bits .entry))) (word1 slots (now (table .entry)) i) i (now (places .entry)) ⌝ }
 {
     let word = first_word(table, slots, i);
-    let cell = cell_of(word);
-    if !((depth_of(word) == live) & has_bit(seen, bits, cell)) {
+    if !turns(seen, bits, word, live) {
         return;
     }
-    places[rank_of(seen, bits, ends, cell)] = i as u16;
+    places[rank_of(seen, bits, ends, cell_of(word))] = i as u16;
 }
 
 // Lists the slots of all entries that advance, in the order of their cells. Returns how many there are.
@@ -572,7 +578,7 @@ fn give_one(
     slot + 1
 }
 
-// Gives the cells of the n entries listed outwards that the parent lacks, `given` of them, in the order of the cells. Most often there is none.
+// Of the n entries listed, gives outwards the cells that the parent lacks, `given` of them, in the order of the cells. Most often there is none.
 fn give_listed(
     table: &[u32],
     slots: usize,
@@ -601,7 +607,7 @@ fn give_listed(
     }
 }
 
-// ---- the call, carried out
+// ---- the bytes, and all that is staged, stored
 
 // Copies the cells of the n entries listed, stages these entries and those given outwards, and writes the staged words.
 fn store_listed(
@@ -731,7 +737,8 @@ fn many_places() -> [u16; 4096] {
 }
 
 // What is needed only once a cell advances is made here, so that it can stand where question 4 had its copy of the table: for few
-// entries, where clearing arrays for the most would take longer than all else. No entry from `top` on is in use, so none of these is listed.
+// entries, where clearing arrays for the most would take longer than all else. No entry from `top` on is in use, so none of these is listed, and what is
+// given outwards takes no slot from `top + given` on.
 fn store_few(
     memory: &[u8],
     bodies: &mut [u8],

@@ -37,7 +37,7 @@ use Rattle.advance.proofs.Advanced.{advance-takes, advance-is, gives-few, advan
 use Rattle.look.proofs.Placing.{look-means, look-within}
 use Rattle.look.proofs.Shown.{look-tells}
 use Rattle.demands.specs.Session.{callOn}
-use Rattle.demands.specs.Demands.{asked, opens, Found, not-made, wholly-made, lengthsRight, advanceSteps, advancing, givenOut, madeFrom, Demand2}
+use Rattle.demands.specs.Demands.{asked, opens, Found, not-made, wholly-made, lengthsRight, advanceSteps, advancingCells, outwardCells, madeFrom, Demand2}
 use Rattle.demands.proofs.Seen.{call-means, call-passed}
 use Rattle.demands.proofs.Calls.{facts}
 use Rattle.demands.proofs.Bounded.{input-bounded}
@@ -151,7 +151,7 @@ demand-2 = record {
   advance-is = advance-is;
   advance-any = λ h b slot body may. record { shown = advance-with-means h b slot body may; reopens = advance-with-reopens h b slot body may };
   advance-steps = λ h b pass k. advance-steps b h pass k;
-  advance-most = λ b. steps-most (advancing b) (givenOut b) (gives-few b);
+  advance-most = λ b. steps-most (advancingCells b) (outwardCells b) (gives-few b);
   stands = stands-for;
   one-state = λ b s e. only-state b e s;
   reached = reached;

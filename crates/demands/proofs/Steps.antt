@@ -109,7 +109,7 @@ viewed-free (change b w h new) k s m n f =
     (λ t. rw t)
     (λ t. let g = rw t at f in absurd (true≢false g))
 
-pub exact : {cells : ℕ} {b : Buffers} {d : Due} → Fits cells b d → length (b .memory) ≡ 64 * cellsOf (length (b .memory))
+exact : {cells : ℕ} {b : Buffers} {d : Due} → Fits cells b d → length (b .memory) ≡ 64 * cellsOf (length (b .memory))
 exact {b = b} f = lengths-facts (length (b .memory)) (length (b .bodies)) (length (b .table)) (f .lengths) .memory-exact
 
 call-moves : (cells : ℕ) (c : Request) (k : ℕ) (b : Buffers) → Fits cells b nothingDue → Moves cells (call c k) b nothingDue

@@ -1,6 +1,6 @@
 -- Demand 3 over lent buffers: every session over buffers is a session over what they stand for, so every mismatch count in it is 0; and the laws
 -- against an empty count. Assumes nothing.
-use Prim.Native.Nat.{ℕ, suc, _*_}
+use Prim.Native.Nat.{ℕ, suc}
 use mathlib.Core.Bool.{Bool, true, false, not, _||_}
 use mathlib.Core.List.{List, [], _∷_, _++_, append-assoc, append-nil}
 use mathlib.Core.Option.{Option, none, some}
@@ -32,7 +32,7 @@ use Rattle.store.proofs.Reopened.{done-enough}
 use Rattle.demands.specs.Session.{callOn, inputOn, session, buffersAfter, wasStopped, isOpening, openingRule}
 use Rattle.demands.specs.Demands.{lengthsRight, asked, opens, madeFrom, MakeDone, Demand3, historyOf, historyNow, openings, allStopped, countsOf, CountsOne, Counted}
 use Rattle.demands.proofs.Shape.{input-alike, refused-kept}
-use Rattle.demands.proofs.Steps.{Fits, Pends, Moves, worldOf, exact, open-seen, open-refusal, not-due, input-moves}
+use Rattle.demands.proofs.Steps.{Fits, Pends, Moves, worldOf, open-seen, open-refusal, not-due, input-moves}
 use Rattle.demands.proofs.Seen.{call-means, call-passed}
 
 -- ---- from make
@@ -67,9 +67,6 @@ make-fits k b e =
       size = ap cellsOf (a .memory);
       pends = λ s q. make-pending k b (make-passed k b e) (leb-true (makeSteps (slots b)) k (make-enough k b e));
     }
-
-make-exact : (k : ℕ) (b : Buffers) → MakeDone b k → length ((madeFrom b k) .memory) ≡ 64 * cellsIn b
-make-exact k b e = let f = make-fits k b e in exact f ∙ ap (λ (n : ℕ). 64 * n) (f .size)
 
 -- ---- reports
 
@@ -196,7 +193,7 @@ whole (i ∷ is) due b r =
 
 pub demand-3 : Demand3
 demand-3 b k l e rule =
-    abstract.demand-3 (cellsIn b) ((madeFrom b k) .memory) (session l (madeFrom b k)) _ (make-exact k b e) (from-make b k l [] e (whole l false (madeFrom b k) rule))
+    abstract.demand-3 (cellsIn b) ((madeFrom b k) .memory) (session l (madeFrom b k)) _ (from-make b k l [] e (whole l false (madeFrom b k) rule))
 
 -- ---- the history agrees with the state that the buffers stand for
 
@@ -205,7 +202,7 @@ pub history-agrees : (b : Buffers) (k : ℕ) (l : List Input) (s : State) → Ma
 history-agrees b k l s e rule there =
     let r = whole l false (madeFrom b k) rule in
     go (run b k l [] e r .due) (run b k l [] e r .fits .pends)
-    (abstract.history-agrees (cellsIn b) ((madeFrom b k) .memory) (session l (madeFrom b k)) s (last .memory) (run b k l [] e r .due) (make-exact k b e)
+    (abstract.history-agrees (cellsIn b) ((madeFrom b k) .memory) (session l (madeFrom b k)) s (last .memory) (run b k l [] e r .due)
     (subst (λ (o : Option State). Session (cellsIn b) (afterMake ((madeFrom b k) .memory)) (session l (madeFrom b k)) (world o (last .memory) (run b k l [] e r .due))) there (from-make b k l [] e r)))
   where
     last : Buffers
@@ -259,7 +256,7 @@ module _ (b : Buffers) (k : ℕ) (l : List Input) (h j : ℕ) (e : MakeDone b k)
       (ap (λ (v : View). v .report .status) (sym seen-is) ∙ d) in
       let r : (callOn (restore h) j last) .report ≡ done (v .0) (v .1 .0) = ap (λ (v : View). v .report) seen-is ∙ v .1 .1 in
       abstract.restore-counted (cellsIn b) ((madeFrom b k) .memory) (session l (madeFrom b k)) (stateOf last) (last .memory) h j (v .0) (v .1 .0)
-      (worldOf ((callOn (restore h) j last) .buffers) (moves .due)) (make-exact k b e)
+      (worldOf ((callOn (restore h) j last) .buffers) (moves .due))
       (subst (λ (o : Option State). Session (cellsIn b) (afterMake ((madeFrom b k) .memory)) (session l (madeFrom b k)) (world o (last .memory) nothingDue)) (stands z) here)
       (subst (λ (o : Option State). Move (cellsIn b) (world o (last .memory) nothingDue) (call (restore h) j) (done (v .0) (v .1 .0)) (worldOf ((callOn (restore h) j last) .buffers) (moves .due))) (stands z)
       (subst (λ (x : Report). Move (cellsIn b) (worldOf last nothingDue) (call (restore h) j) x (worldOf ((callOn (restore h) j last) .buffers) (moves .due))) r (moves .move)))
@@ -320,7 +317,7 @@ module _ (b : Buffers) (k : ℕ) (l : List Input) (h j : ℕ) (e : MakeDone b k)
       by-due finishDue p m =
           let c =
           abstract.restore-counted-late (cellsIn b) ((madeFrom b k) .memory) (session l (madeFrom b k)) (stateOf last) (last .memory) (left .memory) h j i x
-          ((callOn (restore h) j (buffersAfter l (madeFrom b k))) .report) (standing left) (make-exact k b e)
+          ((callOn (restore h) j (buffersAfter l (madeFrom b k))) .report) (standing left)
           (subst (λ (o : Option State). Session (cellsIn b) (afterMake ((madeFrom b k) .memory)) (session l (madeFrom b k)) (world o (last .memory) nothingDue)) (stands z) here)
           (subst (λ (o : Option State). Move (cellsIn b) (world o (last .memory) nothingDue) (call (restore h) j) ((callOn (restore h) j (buffersAfter l (madeFrom b k))) .report) (worldOf left finishDue)) (stands z) m) in
           (c .0, c .1, λ g. ap (λ (t : History). countEvent (opened i isDone (suc x)) (left .memory) t) history-is ∙ c .2 g)

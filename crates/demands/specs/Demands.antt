@@ -32,7 +32,7 @@ use Rattle.add.specs.Add as add-calls
 use Rattle.add.specs.Add.{addCall, addMeans}
 use Rattle.add.specs.Choice as adding
 use Rattle.advance.specs.Advance.{advances, gives, advanceCheck, advanceCall, slotFor, bodyFor, advanceMeans}
-use Rattle.advance.specs.Choice as advance-choice
+use Rattle.advance.specs.Choice as advancing
 use Rattle.look.specs.Look.{lookPlace, placeByState, placeWithin, shownAt, lookMeans}
 use Rattle.begin.proofs.make.Statement as make-contract
 use Rattle.begin.proofs.open.Statement as open-contract
@@ -214,17 +214,17 @@ lowestSlot rs b = add-calls.slotFor (slots b) (b .table) rs
 abbrev pub lowestBody : List Range → Buffers → (c : ℕ) → ℕ
 lowestBody rs b = add-calls.bodyFor (slots b) (bodiesOf (length (b .bodies))) (b .table) rs
 
--- "With k such cells an advance takes at most 70k + 2 steps, and none when k is 0", and with A.4 "The step bound becomes 76k + 2": of n cells that
+-- "With k such cells an advance takes at most 70k + 2 steps, and none when k is 0", and by A.4 two words more for each cell given: of n cells that
 -- advance, of which g are given outwards, exactly so many
 abbrev pub advanceSteps : (n g : ℕ) → ℕ
 advanceSteps n g = cond (eqb n 0) 0 (70 * n + 6 * g + 2)
 
 -- how many cells an advance changes, and how many of them it gives outwards
-abbrev pub advancing : Buffers → ℕ
-advancing b = count (cellsOf (length (b .memory))) (advances b)
+abbrev pub advancingCells : Buffers → ℕ
+advancingCells b = count (cellsOf (length (b .memory))) (advances b)
 
-abbrev pub givenOut : Buffers → ℕ
-givenOut b = count (cellsOf (length (b .memory))) (gives b)
+abbrev pub outwardCells : Buffers → ℕ
+outwardCells b = count (cellsOf (length (b .memory))) (gives b)
 
 pub record Means (call : Call) (means : (k : ℕ) → View) (b : Buffers) : Type 0 where
   pub shown : (k : ℕ) → visibleOf (outcome call k b) ≡ means k
@@ -291,14 +291,15 @@ pub record Demand2 : Type 0 where
   pub add-is : (h : ℕ) (rs : List Range) (b : Buffers) → addCall h rs b ≡ adding.addWith (lowestSlot rs b) (lowestBody rs b) h rs b
   pub add-any : (h : ℕ) (rs : List Range) (b : Buffers) (slot body : ℕ → ℕ) → adding.MayTake h rs b slot body
       → Means (adding.addWith slot body h rs b) (λ k. addMeans h rs k b) b
-  pub advance-takes : (h : ℕ) (b : Buffers) → advance-choice.MayTake h b (slotFor b) (bodyFor b)
-  pub advance-is : (h : ℕ) (b : Buffers) → advanceCall h b ≡ advance-choice.advanceWith (slotFor b) (bodyFor b) h b
-  pub advance-any : (h : ℕ) (b : Buffers) (slot body : ℕ → ℕ) → advance-choice.MayTake h b slot body
-      → Means (advance-choice.advanceWith slot body h b) (λ k. advanceMeans h k b) b
+  pub advance-takes : (h : ℕ) (b : Buffers) → advancing.MayTake h b (slotFor b) (bodyFor b)
+  pub advance-is : (h : ℕ) (b : Buffers) → advanceCall h b ≡ advancing.advanceWith (slotFor b) (bodyFor b) h b
+  pub advance-any : (h : ℕ) (b : Buffers) (slot body : ℕ → ℕ) → advancing.MayTake h b slot body
+      → Means (advancing.advanceWith slot body h b) (λ k. advanceMeans h k b) b
   -- an advance that no question refuses is done in so many steps, or stopped; where no cell advances it is done at every budget
   pub advance-steps : (h : ℕ) (b : Buffers) → advanceCheck b h ≡ 0 → (k : ℕ)
-      → (outcome (advanceCall h b) k b) .report ≡ ended (advanceSteps (advancing b) (givenOut b)) 0 k
-  pub advance-most : (b : Buffers) → advanceSteps (advancing b) (givenOut b) ≤ 76 * advancing b + 2
+      → (outcome (advanceCall h b) k b) .report ≡ ended (advanceSteps (advancingCells b) (outwardCells b)) 0 k
+  -- "The step bound becomes 76k + 2"
+  pub advance-most : (b : Buffers) → advanceSteps (advancingCells b) (outwardCells b) ≤ 76 * advancingCells b + 2
   -- "A table that opening accepts stands for one state of domains and holdings"
   pub stands : (b : Buffers) → opens b ≡ 0 → StandsFor (slots b) (effectiveTable b) (b .bodies) (stateOf b)
   pub one-state : (b : Buffers) (s : State) → opens b ≡ 0 → StandsFor (slots b) (effectiveTable b) (b .bodies) s → s ≡ stateOf b

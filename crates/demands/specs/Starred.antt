@@ -85,8 +85,8 @@ abbrev pub innerPoint : List Act
 innerPoint =
     fill 0 7 ∷ does create ∷ does create ∷ does (plainAdd 2 0 1 byCopy noRule readWrite) ∷ fill 0 9 ∷ takes (advance 2) 78 ∷ fill 0 11 ∷ []
 
--- ---- the twelve edges, in document 01's order, five of document 02's A.3 and two of its A.4. plainAdd names a handle, first cell, count, kind, rule and label; add a
--- handle and a list of ranges; delete a handle, first cell and count.
+-- ---- the twelve edges, in document 01's order, five of document 02's A.3 and two of its A.4. plainAdd names a handle, first cell, count, kind, rule and
+-- label; add a handle and a list of ranges; delete a handle, first cell and count.
 
 abbrev pub starred : List Edge
 starred =

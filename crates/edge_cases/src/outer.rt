@@ -154,7 +154,7 @@ fn show_room(m: &mut [u8], b: &mut [u8], t: &mut [u32]) {
 1043 E = B = 2, and the write: exactly enough. After a further write 17, since each keeps a body; done once that is written back:
 1044 E = B = 4, two cells, of which cell 1 was added first, and both changed: exactly enough. Places and bodies go by cell:
 1045 With each budget from 0 to 155; then an opening, cells of zeros, restore 2, cells of zeros again, and restore 1:
-1046 E = 3 and B = 4, and the same: 16.
+1046 E = 3 and B = 4, two cells, both changed: 16.
 1047 E = 4 and B = 3: 17.
 1048 E = B = 3: 16. With one of the two changed back both are exactly enough:
 1049 E = 4 and B = 5 are exactly enough where 1 holds one of the two cells: one is given, and both take a body:

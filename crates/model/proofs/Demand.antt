@@ -1,6 +1,6 @@
 -- DEMAND 3 over abstract states: in every session every count is 0. And against an empty count: the history agrees with the state throughout, and
 -- every restore that is done, of a domain not excluded, is counted. Assumes nothing.
-use Prim.Native.Nat.{ℕ, zero, suc, _*_, _≤_, _<_}
+use Prim.Native.Nat.{ℕ, zero, suc, _≤_, _<_}
 use mathlib.Core.Bool.{Bool, true, false, cond}
 use mathlib.Core.List.{List, [], _∷_, _++_, map}
 use mathlib.Core.Logic.{_⊎_, inl, inr}
@@ -25,22 +25,22 @@ use Rattle.model.specs.Session.{Input, call, shown, Due, nothingDue, dro
 use Rattle.model.proofs.Agree.{agree-length, agree-named, agree-inside, agree-write}
 use Rattle.model.proofs.Effects.{passed}
 use Rattle.model.proofs.Invariant.{Inv, inv-write}
-use Rattle.model.proofs.Sound.{Sound, sound-waiting, fresh-sound, length-restored, depth, restore-sound, restore-zero, restore-mixed}
+use Rattle.model.proofs.Sound.{Sound, sound-waiting, fresh-sound, depth, restore-sound, restore-zero, restore-mixed}
 use Rattle.model.proofs.Lawful.{lawful}
 
 -- ---- any call, carried out
 
-pub carried : (room : Room) (c : Request) (s new : State) (m : List ℕ) (n : History) (b w h : ℕ) → length m ≡ 64 * room .cells
+pub carried : (room : Room) (c : Request) (s new : State) (m : List ℕ) (n : History) (b w h : ℕ)
     → effectOf room m c s ≡ change b w h new → Sound s m n
     → Sound new (memoryAfter c s m) (line c (memoryAfter c s m) n) × AllZero (completed c (memoryAfter c s m) (n .domains))
-carried room (changes c) s new m n b w h size e z = (lawful room m c s .keeps b w h new e size n z, tt)
-carried room (restore a) s new m n b w h size e z =
+carried room (changes c) s new m n b w h e z = (lawful room m c s .keeps b w h new e n z, tt)
+carried room (restore a) s new m n b w h e z =
     let y = passed _ _ _ _ b w h _ new e in (
       subst (λ (t : State). Sound t (restoredMemory (named a s) s m) (line (restore a) (restoredMemory (named a s) s m) n)) (y .leaves)
           (restore-sound s m n a (y .yes-to-all) z),
       restore-zero s m n a (y .yes-to-all) z,
     )
-carried room (reads r) s new m n b w h size e z =
+carried room (reads r) s new m n b w h e z =
     let y = passed (readChecks (room .cells) r s) _ _ _ b w h _ new e in (subst (λ (t : State). Sound t m n) (y .leaves) z, tt)
 
 -- ---- any call, stopped
@@ -110,66 +110,57 @@ make-matches : (slots k : ℕ) (o : Option State) (m : List ℕ) (n : History) �
 make-matches slots zero o m n e z = subst (λ (p : Option State). Matches (world p m dropDue) n) (sym (uncut-state slots o e)) (drop-matches o m n z)
 make-matches slots (suc k) o m n e z = subst (λ (p : Option State). Matches (world p m dropDue) begun) (sym (torn-state slots k o e)) tt
 
-length-after : (c : Request) (s : State) (m : List ℕ) → length (memoryAfter c s m) ≡ length m
-length-after (changes c) s m = refl
-length-after (restore h) s m = length-restored (named h s) s m
-length-after (reads r) s m = refl
-
-pub moved : {cells : ℕ} {w v : World} {i : Input} {r : Report} (n : History) → Move cells w i r v → length (memoryOf w) ≡ 64 * cells → Matches w n
-    → (length (memoryOf v) ≡ 64 * cells) × Matches v (observe (observed (shown i r) (memoryOf v)) n) × AllZero (countEvent (shown i r) (memoryOf v) n)
-moved n make-refused size z = (size, z, tt)
-moved n (make-done {o = o} {m = m} {k = k} slots e) size z =
-    (size, subst (λ (p : Option State). Matches (world p m nothingDue) begun) (sym (made-state slots k o e)) (fresh-sound m), tt)
-moved n (make-stopped {o = o} {m = m} {k = k} slots e) size z = (size, make-matches slots k o m n e z, tt)
-moved n call-refused size z = (size, z, tt)
-moved n (call-done {s = s} {new = new} {m = m} {c = c} {bytes = b} {words = w} {h = h} room f e) size z =
-    let y = carried room c s new m n b w h (size ∙ ap (λ (k : ℕ). 64 * k) (sym f)) e z in
-    (length-after c s m ∙ size, y .0, y .1)
-moved n (call-early {s = s} {new = new} {m = m} {now = now} {c = c} {bytes = b} {words = w} {h = h} room f e d) size z =
-    (d .same-length ∙ size, halted room c s new m now n b w h e d z, tt)
-moved n (call-late {s = s} {new = new} {m = m} {c = c} {bytes = b} {words = w} {h = h} room f e) size z =
+pub moved : {cells : ℕ} {w v : World} {i : Input} {r : Report} (n : History) → Move cells w i r v → Matches w n
+    → Matches v (observe (observed (shown i r) (memoryOf v)) n) × AllZero (countEvent (shown i r) (memoryOf v) n)
+moved n make-refused z = (z, tt)
+moved n (make-done {o = o} {m = m} {k = k} slots e) z =
+    (subst (λ (p : Option State). Matches (world p m nothingDue) begun) (sym (made-state slots k o e)) (fresh-sound m), tt)
+moved n (make-stopped {o = o} {m = m} {k = k} slots e) z = (make-matches slots k o m n e z, tt)
+moved n call-refused z = (z, tt)
+moved n (call-done {s = s} {new = new} {m = m} {c = c} {bytes = b} {words = w} {h = h} room f e) z = carried room c s new m n b w h e z
+moved n (call-early {s = s} {new = new} {m = m} {now = now} {c = c} {bytes = b} {words = w} {h = h} room f e d) z =
+    (halted room c s new m now n b w h e d z, tt)
+moved n (call-late {s = s} {new = new} {m = m} {c = c} {bytes = b} {words = w} {h = h} room f e) z =
     let n′ : History = withWaiting (some c) (withDomains (stopLine c (n .domains)) n) in
     let x : Sound s m n′ = halted room c s new m m n b w h e (record { same-length = refl; each-byte = λ x. inl refl }) z in
-    let y = carried room c s new m n′ b w h (size ∙ ap (λ (k : ℕ). 64 * k) (sym f)) e x in
-    (length-after c s m ∙ size, (c, refl, y .0, y .1), tt)
-moved n open-idle size z = (size, sound-waiting none z, tt)
-moved n open-drops size z = (size, sound-waiting none z, tt)
-moved n (open-finishes {s = s} {m = m}) size z = (
-  size,
+    let y = carried room c s new m n′ b w h e x in
+    ((c, refl, y .0, y .1), tt)
+moved n open-idle z = (sound-waiting none z, tt)
+moved n open-drops z = (sound-waiting none z, tt)
+moved n (open-finishes {s = s} {m = m}) z = (
   subst (λ (o : Option Request). Sound s m (finished o m n)) (sym (z .1)) (sound-waiting none (z .2)),
   subst (λ (o : Option Request). AllZero (completedWaiting o m (n .domains))) (sym (z .1)) (z .3),
 )
-moved n open-stopped size z = (size, z, tt)
-moved n open-refused size z = (size, tt, tt)
-moved n (written-to {o = none} {m = m} {ws = ws}) size z = (length-stores ws m ∙ size, tt, tt)
-moved n (written-to {o = some s} {m = m} {ws = ws}) size z = (length-stores ws m ∙ size, write-sound s m n ws z, tt)
+moved n open-stopped z = (z, tt)
+moved n open-refused z = (tt, tt)
+moved n (written-to {o = none} {m = m} {ws = ws}) z = (tt, tt)
+moved n (written-to {o = some s} {m = m} {ws = ws}) z = (write-sound s m n ws z, tt)
 
 all-append : (ks ls : List ℕ) → AllZero ks → AllZero ls → AllZero (ks ++ ls)
 all-append [] ls a b = b
 all-append (k ∷ ks) ls a b = (a .0, all-append ks ls (a .1) b)
 
-pub through : {cells : ℕ} {w v : World} {l : List Observation} (n : History) → Session cells w l v → length (memoryOf w) ≡ 64 * cells → Matches w n
+pub through : {cells : ℕ} {w v : World} {l : List Observation} (n : History) → Session cells w l v → Matches w n
     → Matches v (historyAfter n l) × AllZero (counts n l)
-through n end size z = (z, tt)
-through n (next {w′ = w′} {i = i} {r = r} {l = l} t rest) size z =
-    let y = moved n t size z in
-    let x = through (observe (observed (shown i r) (memoryOf w′)) n) rest (y .0) (y .1) in
-    (x .0, all-append (countEvent (shown i r) (memoryOf w′) n) (counts (observe (observed (shown i r) (memoryOf w′)) n) l) (y .2) (x .1))
+through n end z = (z, tt)
+through n (next {w′ = w′} {i = i} {r = r} {l = l} t rest) z =
+    let y = moved n t z in
+    let x = through (observe (observed (shown i r) (memoryOf w′)) n) rest (y .0) in
+    (x .0, all-append (countEvent (shown i r) (memoryOf w′) n) (counts (observe (observed (shown i r) (memoryOf w′)) n) l) (y .1) (x .1))
 
 -- DEMAND 3: from a freshly made store, over memory of so many cells with any contents, every count of every session is 0
-pub demand-3 : (cells : ℕ) (memory : List ℕ) (l : List Observation) (w : World) → length memory ≡ 64 * cells
-    → Session cells (afterMake memory) l w → AllZero (counts begun l)
-demand-3 cells memory l w size r = through begun r size (fresh-sound memory) .1
+pub demand-3 : (cells : ℕ) (memory : List ℕ) (l : List Observation) (w : World) → Session cells (afterMake memory) l w → AllZero (counts begun l)
+demand-3 cells memory l w r = through begun r (fresh-sound memory) .1
 
 -- ---- against an empty count
 
 -- wherever there is a store, the history agrees with it: next handle, handles in order, cells, labels and values
-pub history-agrees : (cells : ℕ) (memory : List ℕ) (l : List Observation) (s : State) (m : List ℕ) (d : Due) → length memory ≡ 64 * cells
+pub history-agrees : (cells : ℕ) (memory : List ℕ) (l : List Observation) (s : State) (m : List ℕ) (d : Due)
     → Session cells (afterMake memory) l (world (some s) m d) → Agrees s (atOpening d m (historyAfter begun l))
-history-agrees cells memory l s m nothingDue size r = (through begun r size (fresh-sound memory) .0) .agrees
-history-agrees cells memory l s m dropDue size r = sound-waiting none (through begun r size (fresh-sound memory) .0) .agrees
-history-agrees cells memory l s m finishDue size r =
-    let z = through begun r size (fresh-sound memory) .0 in
+history-agrees cells memory l s m nothingDue r = (through begun r (fresh-sound memory) .0) .agrees
+history-agrees cells memory l s m dropDue r = sound-waiting none (through begun r (fresh-sound memory) .0) .agrees
+history-agrees cells memory l s m finishDue r =
+    let z = through begun r (fresh-sound memory) .0 in
     subst (λ (o : Option Request). Agrees s (finished o m (historyAfter begun l))) (sym (z .1)) (sound-waiting none (z .2) .agrees)
 
 depth-le : (h : ℕ) (ds : List Domain) → depthIn h ds ≤ length ds
@@ -209,12 +200,12 @@ named-domain h s qs q a =
 
 -- every restore that is done adds exactly one count, the mismatches of the domain that it names, unless that domain is excluded
 pub restore-counted : (cells : ℕ) (memory : List ℕ) (l : List Observation) (s : State) (m : List ℕ) (h k n x : ℕ) (w : World)
-    → length memory ≡ 64 * cells → Session cells (afterMake memory) l (world (some s) m nothingDue)
+    → Session cells (afterMake memory) l (world (some s) m nothingDue)
     → Move cells (world (some s) m nothingDue) (call (restore h) k) (done n x) w
     → (q : Tracked) × (trackedAt (named h s) ((historyAfter begun l) .domains) ≡ some q)
     × (q .excluded ≡ false → countEvent (called (restore h) k isDone) (memoryOf w) (historyAfter begun l) ≡ mismatches (memoryOf w) q ∷ [])
-restore-counted cells memory l s m h k n x w size r (call-done {new = new} {bytes = b} {words = u} room f e) =
-    let a = history-agrees cells memory l s m nothingDue size r .same-domains in
+restore-counted cells memory l s m h k n x w r (call-done {new = new} {bytes = b} {words = u} room f e) =
+    let a = history-agrees cells memory l s m nothingDue r .same-domains in
     let t = named-domain h s ((historyAfter begun l) .domains) (passed _ _ _ _ b u _ _ new e .yes-to-all) a in (
       t .domain,
       t .by-state,
@@ -233,14 +224,14 @@ still-named (suc i) qs = not-inside i qs
 
 -- and so does every restore that is stopped late, at the opening that carries it out
 pub restore-counted-late : (cells : ℕ) (memory : List ℕ) (l : List Observation) (s : State) (m m′ : List ℕ) (h k j i : ℕ) (r : Report) (o : Option State)
-    → length memory ≡ 64 * cells → Session cells (afterMake memory) l (world (some s) m nothingDue)
+    → Session cells (afterMake memory) l (world (some s) m nothingDue)
     → Move cells (world (some s) m nothingDue) (call (restore h) k) r (world o m′ finishDue)
     → (q : Tracked) × (trackedAt (named h s) ((historyAfter begun l) .domains) ≡ some q)
     × (q .excluded ≡ false
     → countEvent (opened j isDone (suc i)) m′ (observe (observed (called (restore h) k isStopped) m′) (historyAfter begun l)) ≡ mismatches m′ q ∷ [])
-restore-counted-late cells memory l s m m′ h k j i r o size t (call-late {new = new} {bytes = b} {words = u} room f e) =
+restore-counted-late cells memory l s m m′ h k j i r o t (call-late {new = new} {bytes = b} {words = u} room f e) =
     let qs : List Tracked = (historyAfter begun l) .domains in
-    let a : SameDomains (s .domains) qs = history-agrees cells memory l s m nothingDue size t .same-domains in
+    let a : SameDomains (s .domains) qs = history-agrees cells memory l s m nothingDue t .same-domains in
     let d : Named h s qs = named-domain h s qs (passed _ _ _ _ b u _ _ new e .yes-to-all) a in
     let after : namedAmong h (excludeInside (namedAmong h qs) qs) ≡ namedAmong h qs =
     sym (agree-named h s (excludeInside (namedAmong h qs) qs) (agree-inside (namedAmong h qs) a)) ∙ agree-named h s qs a in

@@ -77,7 +77,7 @@ line-cons : (memory : List ℕ) (q r t : Tracked) (qs : List Tracked) → advanc
 line-cons memory q r t [] = refl
 line-cons memory q r t (u ∷ qs) = refl
 
--- a domain around the innermost: its picture stays, and what changed is held by the next domain out
+-- a domain around the innermost: its snapshot stays, and what changed is held by the next domain out
 line-good : (x : ℕ) (memory : List ℕ) (p : ℕ) (q r : Tracked) (qs : List Tracked) (b : Bool) → good b p (getD memory x 0) (keptAt x (q ∷ r ∷ qs))
     → good b p (getD memory x 0) (keptAt x (advanceLine memory (q ∷ r ∷ qs)))
 line-good x memory p q r [] b g = give-byte b p x memory q r g

@@ -82,11 +82,12 @@ outer-point : counts begun (does (changed create) 7 ∷ does (changed create) 7 
 unfolding count all sameCell
 outer-point = refl
 
--- what is given outwards is protected there: deleted from 2 after the advance, a restore of 1 has to put it back
-given-out : counts begun (does (changed create) 7 ∷ does (changed create) 7 ∷ does (changed (add 2 (oneRange 0 1 0 0 1))) 7 ∷ does (written places) 9
-    ∷ does (changed (advance 2)) 9 ∷ does (changed (commit 2)) 9 ∷ does (written places) 11 ∷ does (called (restore 1) 100 isDone) 9 ∷ []) ≡ 64 ∷ []
+-- what is given outwards is protected there: once 2 is gone, a write falls on a cell that 1 holds, and a restore of 1 has to put it back
+given-stays : counts begun (does (changed create) 7 ∷ does (changed create) 7 ∷ does (changed (add 2 (oneRange 0 1 0 0 1))) 7 ∷ does (written places) 9
+    ∷ does (changed (advance 2)) 9 ∷ does (called (restore 1) 100 isDone) 7 ∷ does (written places) 11 ∷ does (called (restore 1) 100 isDone) 11 ∷ [])
+    ≡ 0 ∷ 64 ∷ []
 unfolding count all sameCell
-given-out = refl
+given-stays = refl
 
 -- ---- two cells: no line leaves more unprotected than document 01 says
 

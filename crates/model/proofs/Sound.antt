@@ -1,6 +1,6 @@
 -- A state, memory and a history that go together, and that each call, carried out, keeps them so; a restore counts no mismatch. Assumes nothing.
-use Prim.Native.Nat.{ℕ, zero, suc, _+_, _-_, _*_, _<_}
-use mathlib.Core.Bool.{Bool, true, not, _||_}
+use Prim.Native.Nat.{ℕ, zero, suc, _+_, _-_, _<_}
+use mathlib.Core.Bool.{true, not, _||_}
 use mathlib.Core.List.{List, [], _∷_}
 use mathlib.Core.Logic.{_⊎_, inl, inr}
 use mathlib.Core.Option.{Option}
@@ -11,17 +11,16 @@ use lib.ListN.{length, getD, take}
 use Rattle.words.proofs.Plans.{length-tab}
 use Rattle.ranges.specs.declared.Range.{Range}
 use Rattle.model.specs.State.{State}
-use Rattle.model.specs.Answer.{ask}
 use Rattle.model.specs.Calls.{created, fresh}
-use Rattle.model.specs.Holdings.{Room, named, isLive, isInnermost, isVia, isSome, ruleOf, ruleFits, kindNumbered, labelNumbered, addRange, addRanges, listChecks, addChecks, parentSame, deleteFrom}
+use Rattle.model.specs.Holdings.{Room, named, isLive, isVia, isSome, ruleOf, ruleFits, kindNumbered, labelNumbered, addRange, addRanges, listChecks, addChecks, parentSame, deleteFrom}
 use Rattle.model.specs.Holdings.{advance as advanceState, commit as commitState}
-use Rattle.model.specs.Restore.{cellOfByte, restoredByte, restoredMemory, restored, restoreChecks}
+use Rattle.model.specs.Restore.{restoredByte, restoredMemory, restored, restoreChecks}
 use Rattle.model.specs.History.{create, add, delete, advance, commit, Request, restore, changeLine, Tracked, History, withDomains, withWaiting, namedAmong, atDepth, atInnermost, begun, addTracked, addLine, addLines, line, downTo, excludeInside, stopLine, trackedAt, countOf, completed}
 use Rattle.model.specs.Session.{Mixed, next, AllZero, SameDomains, none-left, Agrees}
 use Rattle.model.proofs.Byte.{backAt}
 use Rattle.model.proofs.Agree.{agree-length, agree-named, agree-create, at-length, Matched, agree-add, agree-delete, agree-advance, agree-commit, agree-take, agree-inside}
 use Rattle.model.proofs.Bytes.{keptAt, agree-bytes, restored-byte}
-use Rattle.model.proofs.Asking.{ask-yes, ask-rest}
+use Rattle.model.proofs.Asking.{ask-yes}
 use Rattle.model.proofs.Ranged.{RangeAsked, range-asked, add-asked, ranges-named, ranges-length}
 use Rattle.model.proofs.Invariant.{Inv, inv-create, inv-add, inv-delete, inv-advance, inv-commit, inv-restore, inv-stopped, count-restored}
 

@@ -184,7 +184,8 @@ abbrev pub deleteLine : (h first n : ℕ) → List Tracked → List Tracked
 deleteLine h first n qs = deleteAround first n (namedAmong h qs) qs
 
 -- ---- "Advance: the innermost's read-write cells and its picture take memory's bytes"; by document 02, before that, of the read-write cells whose
--- bytes memory differs from, those that the next domain out lacks enter there with their label and bytes. Its picture, spoilt bytes and mark stay
+-- bytes memory differs from, those that the next domain out lacks enter there with their label and bytes. That domain keeps its picture, spoilt bytes
+-- and mark
 
 abbrev pub differing : List ℕ → Option Kept → Bool
 differing bytes none = false

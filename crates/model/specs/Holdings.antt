@@ -130,13 +130,14 @@ onInnermost f [] = []
 onInnermost f (x ∷ []) = f x ∷ []
 onInnermost f (x ∷ y ∷ ys) = x ∷ onInnermost f (y ∷ ys)
 
--- the innermost's parent, if any, is changed by what the innermost holds: which stays, or leaves
+-- the innermost's parent, if any, is changed by what the innermost holds
 abbrev pub onParent : (Domain → Domain → Domain) → List Domain → List Domain
 onParent f [] = []
 onParent f (x ∷ []) = x ∷ []
 onParent f (x ∷ y ∷ []) = f x y ∷ y ∷ []
 onParent f (x ∷ y ∷ z ∷ zs) = x ∷ onParent f (y ∷ z ∷ zs)
 
+-- the same, and the innermost leaves
 abbrev pub onCommit : (Domain → Domain → Domain) → List Domain → List Domain
 onCommit f [] = []
 onCommit f (x ∷ []) = []

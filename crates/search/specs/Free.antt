@@ -48,7 +48,7 @@ takerOf n wants place i = first n (λ j. wants j && eqb (place j) i)
 unfoldable pub freeFrom : ℕ → List ℕ → ℕ → ℕ
 freeFrom e t from = from + first (e - from) (λ k. slotFree e t (from + k))
 
--- how far a call that takes the lowest `new` free slots of e changes entries, those from `top` on being free: no entry from here on
+-- no entry from here on changes: of e slots those from `top` on are free, and a call takes the lowest `new` free ones
 abbrev pub endOf : (e new top : ℕ) → ℕ
 endOf e new top = min e (top + new)
 

@@ -108,12 +108,9 @@ parent d = d - 1
 abbrev pub child : ℕ → ℕ
 child d = suc d
 
--- has it a parent? Is it the outermost, or nobody?
+-- has it a parent?
 abbrev pub hasParent : ℕ → Bool
 hasParent d = leb 2 d
-
-abbrev pub isOutermost : ℕ → Bool
-isOutermost d = leb d 1
 
 -- is the domain at depth k inside it (a descendant)?
 abbrev pub isInside : (d k : ℕ) → Bool

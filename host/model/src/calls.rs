@@ -361,6 +361,13 @@ pub struct Sizes {
 }
 
 impl Sizes {
+    /// The largest store that there is.
+    pub const LARGEST: Sizes = Sizes {
+        m: 65_536,
+        e: 4_096,
+        b: 4_096,
+    };
+
     pub fn lengths(&self) -> Lengths {
         Lengths {
             memory: self.m as usize * CELL,

@@ -88,13 +88,12 @@ impl Habits {
                 e,
                 b,
             };
-            let largest = Sizes {
-                m: 65_536,
-                e: 4_096,
-                b: 4_096,
-            };
             (
-                if rng.chance(300) { largest } else { sizes },
+                if rng.chance(300) {
+                    Sizes::LARGEST
+                } else {
+                    sizes
+                },
                 rng.between(8, 25),
                 1500,
                 20,

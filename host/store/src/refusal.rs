@@ -63,10 +63,12 @@ pub enum Refusal {
     /// 14: the next domain in holds, via this one, a cell that is to be deleted.
     ChildRelies = 14,
     /// 15: retired, and answered by no call. It told that the parent did not hold every read-write cell
-    /// of the domain that was to advance: such an advance is done now, and gives the parent what it
-    /// lacks. It is kept so that the number stays taken and programs that name it still compile; it is
-    /// in neither [`ALL`](Refusal::ALL) nor [`from_number`](Refusal::from_number).
-    #[deprecated(note = "no call answers 15 any more: an advance gives the parent what it lacks")]
+    /// of the domain that was to advance: such an advance is done now if there is room for it, and gives
+    /// the parent the changed cells that it lacks. It is kept so that the number stays taken and programs
+    /// that name it still compile; it is in neither [`ALL`](Refusal::ALL) nor [`from_number`](Refusal::from_number).
+    #[deprecated(
+        note = "no call answers 15 any more: an advance gives the parent the changed cells that it lacks"
+    )]
     ParentLacksReadWrite = 15,
     /// 16: too few free entries.
     NoFreeEntry = 16,
@@ -208,13 +210,12 @@ impl fmt::Display for Refusal {
             #[allow(deprecated)]
             Refusal::ParentLacksReadWrite => {
                 "The parent lacks a read-write cell of the domain that is to advance: no call \
-                 tells this any more, since an advance gives the parent what it lacks."
+                 tells this any more, since an advance gives the parent the changed cells that it lacks."
             }
             Refusal::NoFreeEntry => {
                 "The table has too few free entries for the new cells (an advance needs one for \
-                 each changed cell that the parent lacks, and gives it the cell there): delete or \
-                 commit what is no longer needed, or use another store in larger buffers (a make \
-                 forgets this one)."
+                 each changed cell that the parent lacks): delete or commit what is no longer \
+                 needed, or use another store in larger buffers (a make forgets this one)."
             }
             Refusal::NoFreeBody => {
                 "There are too few free bodies for the new copies (an advance needs one for \

@@ -5,7 +5,6 @@ use mathlib.Core.Path.{_≡_, refl, sym, ap, _∙_}
 use native.Mathlib.Omega.{arith}
 use borrow.Author.Needs.{needs}
 use borrow.Author.Tests.{not-true, not-false}
-use lib.Dec.{eqb}
 use Rattle.words.specs.Scan.{count}
 use Rattle.words.proofs.Scan.{count-le}
 use Rattle.table.specs.Entry.{word1}
@@ -34,27 +33,21 @@ loop-holds c = (search needs, refl)
 first-word-requires : tie.Need-first-word-requires Inv-loop μ-loop
 first-word-requires c κs = let p = c .before .before .before .before .before .before .before .pre .0 in (omega (arith, c .loop-test .taken, p .4 .0), p .0, p .1)
 
-depth-of-requires : tie.Need-depth-of-requires Inv-loop μ-loop
-depth-of-requires c κs = search needs
-
-cell-of-requires : tie.Need-cell-of-requires Inv-loop μ-loop
-cell-of-requires c κs = search needs
-
-has-bit-requires : tie.Need-has-bit-requires Inv-loop μ-loop
-has-bit-requires c κs = (c .before .before .before .before .before .before .before .before .before .before .pre .1, omega (arith, c .cell-of .ensures))
+turns-requires : tie.Need-turns-requires Inv-loop μ-loop
+turns-requires c κs = c .before .before .before .before .before .before .before .before .pre .1
 
 parent-lacks-requires : tie.Need-parent-lacks-requires Inv-loop μ-loop
-parent-lacks-requires c κs = let p = c .before .before .before .before .before .before .before .before .before .before .before .pre in (p .1 .kept, p .0 .2, p .0 .3)
+parent-lacks-requires c κs = let p = c .before .before .before .before .before .before .before .before .before .pre in (p .1 .kept, p .0 .2, p .0 .3)
 
 cast-n : tie.Need-cast-n Inv-loop μ-loop
 cast-n c = search needs
 
 add-n : tie.Need-add-n Inv-loop μ-loop
 add-n c =
-    let a = c .before .before .before .before .before .before .before .before .before .before .before .before .args in
-    let p = c .before .before .before .before .before .before .before .before .before .before .before .before .pre .0 in
-    let s = c .before .before .before .before .before .before .loop in
-    omega (arith, count-le (s .i) (λ k. givesIt (a .seen .now) (a .live) (hasBit (a .seen .now) (a .bits .now)) (word1 (a .slots) (a .table .now) k)), byte-small (eqb (c .before .before .before .depth-of .result) (a .live) && c .before .has-bit .result && c .parent-lacks .result), s .inv .1, s .inv .0, p .4 .0, p .0)
+    let a = c .before .before .before .before .before .before .before .before .before .before .args in
+    let p = c .before .before .before .before .before .before .before .before .before .before .pre .0 in
+    let s = c .before .before .before .before .loop in
+    omega (arith, count-le (s .i) (λ k. givesIt (a .seen .now) (a .live) (hasBit (a .seen .now) (a .bits .now)) (word1 (a .slots) (a .table .now) k)), byte-small (c .before .turns .result && c .parent-lacks .result), s .inv .1, s .inv .0, p .4 .0, p .0)
 
 add-i : tie.Need-add-i Inv-loop μ-loop
 add-i c = search needs
@@ -64,11 +57,11 @@ loop-less c = search needs
 
 loop-again : tie.Need-loop-again Inv-loop μ-loop
 loop-again c =
-    let a = c .before .before .before .before .before .before .before .before .before .before .before .before .args in
-    let s = c .before .before .before .before .before .before .loop in
+    let a = c .before .before .before .before .before .before .before .before .before .before .args in
+    let s = c .before .before .before .before .loop in
     let gives : ℕ → Bool = λ w. givesIt (a .seen .now) (a .live) (hasBit (a .seen .now) (a .bits .now)) w in
-    let now : (eqb (c .before .before .before .depth-of .result) (a .live) && c .before .has-bit .result && c .parent-lacks .result) ≡ gives (word1 (a .slots) (a .table .now) (s .i)) =
-    rw (c .before .before .before .depth-of .ensures, c .before .has-bit .ensures, c .parent-lacks .ensures, c .before .before .cell-of .ensures, c .before .before .before .before .first-word .ensures) in
+    let now : (c .before .turns .result && c .parent-lacks .result) ≡ gives (word1 (a .slots) (a .table .now) (s .i)) =
+    rw (c .before .turns .ensures, c .parent-lacks .ensures, c .before .before .first-word .ensures) in
     (search needs, count-byte (λ k. gives (word1 (a .slots) (a .table .now) k)) (s .i) (s .n) (s .inv .1) _ now)
 
 returns-2 : tie.Need-returns-2 Inv-loop μ-loop
@@ -92,9 +85,7 @@ count-given-spec =
     returns
     loop-holds
     first-word-requires
-    depth-of-requires
-    cell-of-requires
-    has-bit-requires
+    turns-requires
     parent-lacks-requires
     cast-n
     add-n

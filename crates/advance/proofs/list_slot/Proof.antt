@@ -1,12 +1,13 @@
 -- `advance::list_slot` meets its contract. Assumes nothing.
-use mathlib.Core.Bool.{_&&_, true}
-use mathlib.Core.Path.{_≡_, sym, _∙_}
+use mathlib.Core.Bool.{true}
+use mathlib.Core.Path.{_≡_, sym, ap, _∙_}
 use native.Mathlib.Omega.{arith}
 use borrow.Author.Tests.{not-true, not-false}
 use borrow.Author.Needs.{needs}
+use Prim.Native.Nat.{ℕ}
 use lib.Dec.{eqb}
 use Rattle.words.proofs.Scan.{and-split}
-use Rattle.table.specs.Entry.{word1}
+use Rattle.table.specs.Entry.{word1, depthOf, cellOf}
 use Rattle.advance.specs.Advance.{turns}
 use Rattle.advance.specs.Notes.{hasBit, listSlot}
 use Rattle.advance.proofs.list_slot.Statement.{statement}
@@ -15,31 +16,28 @@ use Rattle.advance.proofs.list_slot.Tie as tie
 first-word-requires : tie.Need-first-word-requires
 first-word-requires c κs = search needs
 
-cell-of-requires : tie.Need-cell-of-requires
-cell-of-requires c κs = search needs
-
-depth-of-requires : tie.Need-depth-of-requires
-depth-of-requires c κs = search needs
-
-has-bit-requires : tie.Need-has-bit-requires
-has-bit-requires c κs = (c .before .before .before .before .before .before .before .before .pre .1 .0 .0, omega (arith, c .before .cell-of .ensures))
+turns-requires : tie.Need-turns-requires
+turns-requires c κs = c .before .before .before .before .before .before .pre .1 .0 .0
 
 returns : tie.Need-returns
 unfolding listSlot
 returns c =
-    let a = c .before .before .before .before .before .before .before .before .before .before .args in
-    let told : (eqb (c .before .before .depth-of .result) (a .live) && c .before .has-bit .result) ≡ turns (a .live) (hasBit (a .seen .now) (a .bits .now)) (word1 (a .slots) (a .table .now) (a .i)) =
-    rw (c .before .before .depth-of .ensures, c .before .has-bit .ensures, c .before .before .before .cell-of .ensures, c .before .before .before .before .first-word .ensures) in
+    let a = c .before .before .before .before .before .before .before .before .args in
+    let told = c .before .turns .ensures ∙ ap (turns (a .live) (hasBit (a .seen .now) (a .bits .now))) (c .before .before .first-word .ensures) in
     rw (sym told ∙ not-true _ (c .if1 .taken))
 
 cast-places : tie.Need-cast-places
 cast-places c = search needs
 
+cell-of-requires : tie.Need-cell-of-requires
+cell-of-requires c κs = search needs
+
 rank-of-requires : tie.Need-rank-of-requires
 rank-of-requires c κs =
-    let a = c .before .before .before .before .before .before .before .before .before .before .args in
-    let goes : (eqb (c .before .before .depth-of .result) (a .live) && c .before .has-bit .result) ≡ true = not-false _ (c .if1 .left) in
-    (c .before .before .before .before .before .before .before .before .before .before .pre .1 .0, (c .before .before .before .before .before .before .before .before .before .before .pre .1 .1 .0, sym (c .before .has-bit .ensures) ∙ and-split (eqb (c .before .before .depth-of .result) (a .live)) (c .before .has-bit .result) goes .1))
+    let a = c .before .before .before .before .before .before .before .before .before .args in
+    let w = c .before .before .before .first-word .result in
+    let goes = sym (c .before .before .turns .ensures) ∙ not-false _ (c .before .if1 .left) in
+    (c .before .before .before .before .before .before .before .before .before .pre .1 .0, (c .before .before .before .before .before .before .before .before .before .pre .1 .1 .0, ap (hasBit (a .seen .now) (a .bits .now)) (c .cell-of .ensures) ∙ and-split (eqb (depthOf w) (a .live)) (hasBit (a .seen .now) (a .bits .now) (cellOf w)) goes .1))
 
 mul-places : tie.Need-mul-places
 mul-places c = search needs
@@ -53,21 +51,19 @@ same-length c = search needs
 returns-2 : tie.Need-returns-2
 unfolding listSlot
 returns-2 c =
-    let a = c .before .before .before .before .before .before .before .before .before .before .before .args in
-    let told : (eqb (c .before .before .before .depth-of .result) (a .live) && c .before .before .has-bit .result) ≡ turns (a .live) (hasBit (a .seen .now) (a .bits .now)) (word1 (a .slots) (a .table .now) (a .i)) =
-    rw (c .before .before .before .depth-of .ensures, c .before .before .has-bit .ensures, c .before .before .before .before .cell-of .ensures, c .before .before .before .before .before .first-word .ensures) in
-    rw (sym told ∙ not-false _ (c .before .if1 .left), c .rank-of .ensures .0, c .before .before .before .before .cell-of .ensures, c .before .before .before .before .before .first-word .ensures)
+    let a = c .before .before .before .before .before .before .before .before .before .before .args in
+    let told = c .before .before .before .turns .ensures ∙ ap (turns (a .live) (hasBit (a .seen .now) (a .bits .now))) (c .before .before .before .before .first-word .ensures) in
+    rw (sym told ∙ not-false _ (c .before .before .if1 .left), c .rank-of .ensures .0, c .before .cell-of .ensures, c .before .before .before .before .first-word .ensures)
 
 pub list-slot-spec : {M : Type 1} → statement M
 list-slot-spec =
     tie.close
     (tie.spec
     first-word-requires
-    cell-of-requires
-    depth-of-requires
-    has-bit-requires
+    turns-requires
     returns
     cast-places
+    cell-of-requires
     rank-of-requires
     mul-places
     slice-write-places

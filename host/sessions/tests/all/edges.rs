@@ -219,11 +219,7 @@ fn the_largest_store() {
     };
     let advance = || Call::Advance { handle: 2 };
     let session = Session {
-        sizes: Sizes {
-            m: 65_536,
-            e: 4_096,
-            b: 4_096,
-        },
+        sizes: Sizes::LARGEST,
         fill: 77,
         inputs: vec![
             plain(Call::Make),

@@ -272,11 +272,7 @@ fn in_the_largest_store() {
         bytes: vec![byte; 64 * count],
     };
     let session = Session {
-        sizes: Sizes {
-            m: 65_536,
-            e: 4_096,
-            b: 4_096,
-        },
+        sizes: Sizes::LARGEST,
         fill: 77,
         inputs: vec![
             plain(Call::Make),

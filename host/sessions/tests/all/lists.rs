@@ -191,11 +191,7 @@ fn lists_in_the_largest_store() {
         plain(Call::Restore { handle: 1 }),
     ]);
     let session = Session {
-        sizes: Sizes {
-            m: 65_536,
-            e: 4_096,
-            b: 4_096,
-        },
+        sizes: Sizes::LARGEST,
         fill: 77,
         inputs,
     };
