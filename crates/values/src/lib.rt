@@ -96,7 +96,7 @@ fn is_unchanged(
 }
 
 // Is an entry with this first word a read-write one of this depth?
-pub fn writes_word(word: u32, depth: u32) -> bool
+fn writes_word(word: u32, depth: u32) -> bool
     ensures { λ r. ⌜ r ≡ writes depth word ⌝ }
 {
     (depth_of(word) == depth) & is_writable(word)
