@@ -19,11 +19,10 @@ FIELD = re.compile(r"^\s+pub (" + WORD + r")\s*:\s")
 CONSTRUCTOR = re.compile(r"^\s+((?:" + WORD + r"\s+)+):\s")
 # Names that Rattle or its library gives, which look like ours.
 NOT_OURS = {"goal", "tie", "arith", "rules"}
-# Where the plain respelling would be the name of something else that is in scope.
 # A local name that would fall together with a definition used beside it, by the file where it stands.
 LOCAL = {"crates/advance/proofs/Turning.antt": {"turns_at": "turned_here"}}
-LEMMAS = "add-means advance-means advance-steps any-writable by_number call-means commit-means create-means create-words cut_inside delete-means deleted-inside depth-of entry-word first-at held-changed in-range kept_byte list-refused look-means make-means make-view mark-at one-range open-means or-inner parent-same parent-told restore-means restored-byte restored-cell two-ranges".split()
-OTHERWISE = {n: n.replace("-", "_") + "_lem" for n in LEMMAS}
+# Lemmas that port.py had given the name that a definition now gets, and a field that would have the name of a definition in its type.
+OTHERWISE = {"by_number": "by_number_lem", "cut_inside": "cut_inside_lem", "kept_byte": "kept_byte_lem", "advance-steps": "advance_step_count"}
 TYPES = {"allStopped": "AllStopped", "offsetWithin": "OffsetWithin", "placeWithin": "PlaceWithin", "wrOk": "WrOk"}
 
 
@@ -31,7 +30,7 @@ def snake(name):
     name = name.replace("getD", "get_or")
     name = re.sub(r"(?<=[a-z0-9₀-₉])(?=[A-Z])", "_", name)
     name = re.sub(r"(?<=[A-Z])(?=[A-Z][a-z])", "_", name)
-    parts = [p if re.match(r"^[A-Z]", p) and i == 0 and "_" not in p else p for i, p in enumerate(name.replace("-", "_").split("_"))]
+    parts = name.replace("-", "_").split("_")
     return "_".join(p.lower() if not (i == 0 and p[:1].isupper()) else p for i, p in enumerate(parts)).replace("′", "'")
 
 
@@ -49,7 +48,7 @@ def respelled(name):
 
 def declared(path):
     """The names that an .antt file declares, with what each is: 'top', 'field' or 'constructor'."""
-    found, inside = [], None
+    found, inside, section = [], None, False
     with open(path, encoding="utf-8") as f:
         lines = f.read().split("\n")
     for l in lines:
@@ -59,6 +58,7 @@ def declared(path):
         if l and not l.startswith((" ", "--")):
             m = HEAD.match(l)
             inside = None
+            section = l.startswith("module ")
             if m:
                 kind = m.group(1).split()
                 if not ((m.group(4) or "").startswith("tie.") or m.group(2).endswith("-spec") and "proofs/" in path and path.endswith("Proof.antt")):
@@ -69,6 +69,11 @@ def declared(path):
                     inside = "data"
             elif re.match(r"^(pub )?(data|record) ", l):
                 inside = "data" if "data " in l else "record"
+        elif section:
+            # definitions in a section with parameters of its own
+            m = re.match(r"^(?:  )+((?:(?:abbrev|unfoldable|pub)\s+)*)(" + WORD + r")\s*:(?:\s+(.*))?$", l)
+            if m and m.group(2) not in ("module", "where", "let", "in"):
+                found.append((m.group(2), "top"))
         elif inside:
             m = FIELD.match(l)
             if inside == "record" and m:
@@ -156,7 +161,16 @@ def main():
                 shared[n] = respelled(n)
     for p in files(root, ["proofs/*/**/*.antt"]):
         local[p] = {n: respelled(n) for n, kind in declared(p) if n not in NOT_OURS and respelled(n) != n}
+    # a lemma that would have the name of a definition
+    to = collections.defaultdict(set)
+    for n in where:
+        to[shared.get(n, n)].add(n)
+    for t, ns in to.items():
+        for n in ns:
+            if len(ns) > 1 and "-" in n and all(k != "field" for w, k in where[n]):
+                shared[n] = t + "_lem"
     own = set(os.listdir(os.path.join(root, "crates")))
+    fields = {n for n in where if any(k == "field" for w, k in where[n])}
     fields = {n for n in where if any(k == "field" for w, k in where[n])}
     if "--list" in sys.argv:
         for n in sorted(shared):

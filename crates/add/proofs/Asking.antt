@@ -16,16 +16,16 @@ use Rattle.table.specs.Entry.{live, word1, parent, find_in, holds_in, parent_has
 use Rattle.table.specs.Marks.{mark_of, has, Marked}
 use Rattle.marks.proofs.Digits.{has_zero}
 use Rattle.table.proofs.Marks.{marked_holds}
-use Rattle.table.proofs.Entry.{holds-found, pattern_zero}
+use Rattle.table.proofs.Entry.{holds_found, pattern_zero}
 use Rattle.search.specs.Search.{source_in, value_in, ruled_in}
 use Rattle.search.specs.Free.{is_copy, used_slots, copies}
 use Rattle.search.proofs.Free.{slots_all}
-use Rattle.search.proofs.Value.{ends-in-own, body-fits}
+use Rattle.search.proofs.Value.{ends_in_own, body_fits_lem}
 use Rattle.model.specs.Answer.{ask, or_else}
 use Rattle.model.specs.Holdings.{range_ok}
 use Rattle.store.specs.Checks.{store_check, lent}
-use Rattle.store.proofs.Checks.{ask_go, ask_stop, store-lengths}
-use Rattle.store.proofs.Raw.{raw-rule}
+use Rattle.store.proofs.Checks.{ask_go, ask_stop, store_lengths}
+use Rattle.store.proofs.Raw.{raw_rule}
 use Rattle.add.specs.Walking.{parent_check, rule_check, value_check, part_check, room_check, backed, alike, unruled, value_number, cell_number, range_number, follows, Source}
 
 -- ---- Bools
@@ -56,21 +56,21 @@ count_add j new f q = sym (count_more j f ∙ by_bool (f j) (λ h. rw (h, q)) (�
 -- ---- questions 16 and 17
 
 module _ (e : ℕ) (t : List ℕ) (b new more : ℕ) where
-  pub used-small : used_slots e t ≤ e
-  used-small = omega (arith, slots_all e t)
+  pub used_small : used_slots e t ≤ e
+  used_small = omega (arith, slots_all e t)
 
-  pub copies-small : copies e t ≤ e
+  pub copies_small : copies e t ≤ e
   unfolding copies
-  copies-small = count_le e (is_copy e t)
+  copies_small = count_le e (is_copy e t)
 
-  pub room-16 : e < used_slots e t + new → 16 ≡ room_check e t b new more
+  pub room_16 : e < used_slots e t + new → 16 ≡ room_check e t b new more
   unfolding room_check
-  room-16 h = sym (ask_stop _ 16 _ (lt-leb (used_slots e t + new) e h))
+  room_16 h = sym (ask_stop _ 16 _ (lt-leb (used_slots e t + new) e h))
 
   module _ (q16 : used_slots e t + new ≤ e) where
-    pub room-17 : b < copies e t + more → 17 ≡ room_check e t b new more
+    pub room_17 : b < copies e t + more → 17 ≡ room_check e t b new more
     unfolding room_check
-    room-17 h = sym (ask_go _ 16 _ (le-leb (used_slots e t + new) e q16) ∙ ask_stop _ 17 _ (lt-leb (copies e t + more) b h))
+    room_17 h = sym (ask_go _ 16 _ (le-leb (used_slots e t + new) e q16) ∙ ask_stop _ 17 _ (lt-leb (copies e t + more) b h))
 
     pub room_0 : copies e t + more ≤ b → 0 ≡ room_check e t b new more
     unfolding room_check
@@ -97,17 +97,17 @@ module _ (memory bodies : List ℕ) (e : ℕ) (t : List ℕ) (new : ℕ → Bool
   abbrev pub plain : ℕ → Bool
   plain j = not (new (base + j)) || not (ruled_in e t (parent (live t)) (base + j))
 
-  pub parent-11 : all n covered ≡ false → 11 ≡ parent_check memory bodies e t new base n
+  pub parent_11 : all n covered ≡ false → 11 ≡ parent_check memory bodies e t new base n
   unfolding parent_check
-  parent-11 h = sym (ask_stop _ 11 _ h)
+  parent_11 h = sym (ask_stop _ 11 _ h)
 
-  pub parent-then : all n covered ≡ true → (q : ℕ) → q ≡ range_number memory bodies e t (live t) new base n → q ≡ parent_check memory bodies e t new base n
+  pub parent_then : all n covered ≡ true → (q : ℕ) → q ≡ range_number memory bodies e t (live t) new base n → q ≡ parent_check memory bodies e t new base n
   unfolding parent_check range_number
-  parent-then p q h = h ∙ sym (ask_go _ 11 _ p)
+  parent_then p q h = h ∙ sym (ask_go _ 11 _ p)
 
   -- the same over marks
-  pub covered-is : (held : List ℕ) → Marked e t e held → 1 ≤ live t → all n (λ j. backed held (live t) new (base + j)) ≡ all n covered
-  covered-is held m inner =
+  pub covered_is : (held : List ℕ) → Marked e t e held → 1 ≤ live t → all n (λ j. backed held (live t) new (base + j)) ≡ all n covered
+  covered_is held m inner =
       all_ext n (λ j. backed held (live t) new (base + j)) covered
       (λ j l. rw (twice (has (parent (live t)) (mark_of held (base + j))), parent_told_lem e t held m inner (base + j)))
 
@@ -139,14 +139,14 @@ module _ (memory bodies : List ℕ) (e : ℕ) (t : List ℕ) (d : ℕ) (new : �
     pub same : all j like ≡ true
     pub told : ruled ≡ ask (all j free) 19 0
 
-  pub numbered-none : Numbered 0 0
+  pub numbered_none : Numbered 0 0
   unfolding all
-  numbered-none = record { same = refl; told = refl }
+  numbered_none = record { same = refl; told = refl }
 
   module _ (j ruled no : ℕ) (so_far : Numbered j ruled) (here : no ≡ cell_number memory bodies e t d new (base + j)) where
-    pub numbered-stop : no ≡ 12 → j < n → 12 ≡ range_number memory bodies e t d new base n
+    pub numbered_stop : no ≡ 12 → j < n → 12 ≡ range_number memory bodies e t d new base n
     unfolding range_number
-    numbered-stop q l = sym (ask_stop _ 12 _ (all_not n like j l (asked_12 (like j) (free j) (sym here ∙ q))))
+    numbered_stop q l = sym (ask_stop _ 12 _ (all_not n like j l (asked_12 (like j) (free j) (sym here ∙ q))))
 
     pub numbered_more : (no ≡ 12 → ⊥) → (next : ℕ) → next ≡ or_else ruled no → Numbered (j + 1) next
     numbered_more ne next q =
@@ -156,17 +156,17 @@ module _ (memory bodies : List ℕ) (e : ℕ) (t : List ℕ) (d : ℕ) (new : �
           told = q ∙ (λ i. or_else (so_far.told i) ((here ∙ on.1) i)) ∙ both_19 (all j free) (free j) ∙ ap (λ (a : Bool). ask a 19 0) (all_next j free);
         }
 
-  pub numbered-all : (ruled : ℕ) → Numbered n ruled → ruled ≡ range_number memory bodies e t d new base n
+  pub numbered_all : (ruled : ℕ) → Numbered n ruled → ruled ≡ range_number memory bodies e t d new base n
   unfolding range_number
-  numbered-all ruled s = s.told ∙ sym (ask_go _ 12 _ s.same)
+  numbered_all ruled s = s.told ∙ sym (ask_go _ 12 _ s.same)
 
 -- one cell: not new, or by its value
 module _ (memory bodies : List ℕ) (e : ℕ) (t : List ℕ) (d : ℕ) (new : ℕ → Bool) (c : ℕ) where
-  pub number-held : new c ≡ false → 0 ≡ cell_number memory bodies e t d new c
-  number-held h = rw h
+  pub number_held : new c ≡ false → 0 ≡ cell_number memory bodies e t d new c
+  number_held h = rw h
 
-  pub number-new : new c ≡ true → (q : ℕ) → q ≡ value_number memory bodies e t (parent d) c → q ≡ cell_number memory bodies e t d new c
-  number-new h q p = p ∙ rw h
+  pub number_new : new c ≡ true → (q : ℕ) → q ≡ value_number memory bodies e t (parent d) c → q ≡ cell_number memory bodies e t d new c
+  number_new h q p = p ∙ rw h
 
 -- ---- question 18
 
@@ -174,18 +174,18 @@ module _ (memory : List ℕ) (new : ℕ → Bool) (base n r : ℕ) where
   abbrev pub fitting : ℕ → Bool
   fitting j = not (new (base + j)) || same_cell (pattern r) (cell_bytes memory (base + j))
 
-  pub rule-high : max_rule < r → 18 ≡ rule_check memory new base n r
+  pub rule_high : max_rule < r → 18 ≡ rule_check memory new base n r
   unfolding rule_check
-  rule-high h = sym (ask_stop _ 18 0 (ap (λ (x : Bool). x && all n fitting) (lt-leb r max_rule h)))
+  rule_high h = sym (ask_stop _ 18 0 (ap (λ (x : Bool). x && all n fitting) (lt-leb r max_rule h)))
 
   module _ (low : r ≤ max_rule) where
-    pub rule-unlike : all n fitting ≡ false → 18 ≡ rule_check memory new base n r
+    pub rule_unlike : all n fitting ≡ false → 18 ≡ rule_check memory new base n r
     unfolding rule_check
-    rule-unlike h = sym (ask_stop _ 18 0 ((λ i. le-leb r max_rule low i && h i)))
+    rule_unlike h = sym (ask_stop _ 18 0 ((λ i. le-leb r max_rule low i && h i)))
 
-    pub rule-like : all n fitting ≡ true → 0 ≡ rule_check memory new base n r
+    pub rule_like : all n fitting ≡ true → 0 ≡ rule_check memory new base n r
     unfolding rule_check
-    rule-like h = sym (ask_go _ 18 0 (and_join _ _ (le-leb r max_rule low) h))
+    rule_like h = sym (ask_go _ 18 0 (and_join _ _ (le-leb r max_rule low) h))
 
   pub follows_is : (v : List ℕ) → v ≡ pattern r → all n (λ j. follows memory v new (base + j)) ≡ all n fitting
   follows_is v q = ap (λ (x : List ℕ). all n (λ j. follows memory x new (base + j))) q
@@ -193,20 +193,20 @@ module _ (memory : List ℕ) (new : ℕ → Bool) (base n r : ℕ) where
 -- ---- the questions on values, by the kind
 
 module _ (memory bodies : List ℕ) (e : ℕ) (t : List ℕ) (new : ℕ → Bool) (base n k r : ℕ) where
-  pub value-copy : k ≡ 0 → 0 ≡ value_check memory bodies e t new base n k r
-  value-copy z = sym (ap (λ (x : ℕ). value_check memory bodies e t new base n x r) z)
+  pub value_copy : k ≡ 0 → 0 ≡ value_check memory bodies e t new base n k r
+  value_copy z = sym (ap (λ (x : ℕ). value_check memory bodies e t new base n x r) z)
 
-  pub value-parent : k ≡ 1 → parent_check memory bodies e t new base n ≡ value_check memory bodies e t new base n k r
-  value-parent z = sym (ap (λ (x : ℕ). value_check memory bodies e t new base n x r) z)
+  pub value_parent : k ≡ 1 → parent_check memory bodies e t new base n ≡ value_check memory bodies e t new base n k r
+  value_parent z = sym (ap (λ (x : ℕ). value_check memory bodies e t new base n x r) z)
 
   -- all those on the range
   module _ (l : ℕ) where
-    pub part-7 : (leb k 2 && leb l 1) ≡ false → 7 ≡ part_check memory bodies e t new base n k r l
-    part-7 h = sym (ask_stop _ 7 _ h)
+    pub part_7 : (leb k 2 && leb l 1) ≡ false → 7 ≡ part_check memory bodies e t new base n k r l
+    part_7 h = sym (ask_stop _ 7 _ h)
 
     module _ (yes7 : (leb k 2 && leb l 1) ≡ true) where
-      pub part-8 : range_ok (cells_of (length memory)) base n ≡ false → 8 ≡ part_check memory bodies e t new base n k r l
-      part-8 h = sym (ask_go _ 7 _ yes7 ∙ ask_stop _ 8 _ h)
+      pub part_8 : range_ok (cells_of (length memory)) base n ≡ false → 8 ≡ part_check memory bodies e t new base n k r l
+      part_8 h = sym (ask_go _ 7 _ yes7 ∙ ask_stop _ 8 _ h)
 
       pub part_then : range_ok (cells_of (length memory)) base n ≡ true → value_check memory bodies e t new base n k r ≡ part_check memory bodies e t new base n k r l
       part_then h = sym (ask_go _ 7 _ yes7 ∙ ask_go _ 8 _ h)
@@ -225,12 +225,12 @@ module _ (memory bodies t : List ℕ) (yes : store_check (lent (length memory) (
   source_of d c low h =
       let e : ℕ = slots_of (length t) in
       let i = source_in (slots_of (length t)) t d c in
-      let k = ends-in-own _ (slots_of (length t)) _ t (raw-rule memory bodies t yes) d c low h in
+      let k = ends_in_own _ (slots_of (length t)) _ t (raw_rule memory bodies t yes) d c low h in
       record {
         slot = k.slot;
         fits = λ p.
-            let f = body-fits _ e _ t (raw-rule memory bodies t yes) i (record { slot = k.slot; used = k.used; copy = k.own; plain = pattern_zero (word1 e t i) p }) in
-            omega (arith, (store-lengths _ _ t yes).bodies_exact, f);
+            let f = body_fits_lem _ e _ t (raw_rule memory bodies t yes) i (record { slot = k.slot; used = k.used; copy = k.own; plain = pattern_zero (word1 e t i) p }) in
+            omega (arith, (store_lengths _ _ t yes).bodies_exact, f);
       }
 
   -- where the parent holds every new cell
@@ -241,4 +241,4 @@ module _ (memory bodies t : List ℕ) (yes : store_check (lent (length memory) (
       let has = or_right (not (new (base + j))) (parent_has e t (live t) (base + j)) (all_at n (covered memory bodies e t new base n) a j l) (ap not fresh) in
       let s = and_split (leb 2 (live t)) (holds_in e t (parent (live t)) (base + j)) has in
       let two = leb-true 2 (live t) s.0 in
-      source_of (parent (live t)) (base + j) (omega arith) (holds-found e t (parent (live t)) (base + j) s.1)
+      source_of (parent (live t)) (base + j) (omega arith) (holds_found e t (parent (live t)) (base + j) s.1)

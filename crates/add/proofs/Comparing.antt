@@ -15,7 +15,7 @@ use Rattle.table.specs.Entry.{live, word1, word2, is_pattern}
 use Rattle.search.specs.Search.{source_in, value_in, value_from}
 use Rattle.search.specs.declared.Held.{Held}
 use Rattle.search.specs.declared.Held.TheVariants.{Nowhere, InBody, ByRule}
-use Rattle.search.proofs.Behind.{value-here}
+use Rattle.search.proofs.Behind.{value_here}
 use Rattle.model.specs.Answer.{ask}
 use Rattle.add.specs.Walking.{Source, value_number}
 
@@ -31,8 +31,8 @@ module _ (memory bodies : List ℕ) (e : ℕ) (t : List ℕ) (d c : ℕ) (l : d 
   told : Told
   told =
       by_bool (is_pattern (word1 e t src))
-      (λ p. ruled p (value-here e t d c l s.slot ∙ rw p))
-      (λ p. bodied p (value-here e t d c l s.slot ∙ rw p))
+      (λ p. ruled p (value_here e t d c l s.slot ∙ rw p))
+      (λ p. bodied p (value_here e t d c l s.slot ∙ rw p))
 
   module _ (v : Held) (q : v ≡ value_from e t d c) where
     pub somewhere : v ≡ Nowhere → ⊥
@@ -47,32 +47,32 @@ module _ (memory bodies : List ℕ) (e : ℕ) (t : List ℕ) (d c : ℕ) (l : d 
       own_body n (bodied p r) = (p, cc)
       own_body n (ruled p r) = absurd (let z : ◌≡◌ {A = ℕ} 0 1 = cc in omega arith)
 
-      own-rule : v ≡ ByRule x k → Told → (is_pattern (word1 e t src) ≡ true) × (k ≡ word2 e t src)
-      own-rule n (bodied p r) = absurd (let z : ◌≡◌ {A = ℕ} 0 1 = cc in omega arith)
-      own-rule n (ruled p r) = (p, cc)
+      own_rule : v ≡ ByRule x k → Told → (is_pattern (word1 e t src) ≡ true) × (k ≡ word2 e t src)
+      own_rule n (bodied p r) = absurd (let z : ◌≡◌ {A = ℕ} 0 1 = cc in omega arith)
+      own_rule n (ruled p r) = (p, cc)
 
       -- a body lies in the bodies, and is compared
       module _ (n : v ≡ InBody x k) where
         facts : (is_pattern (word1 e t src) ≡ false) × (k ≡ word2 e t src)
         facts = own_body n told
 
-        pub body-within : cell_at k + 64 ≤ length bodies
-        body-within = omega (arith, s.fits facts.0, facts.1)
+        pub body_within : cell_at k + 64 ≤ length bodies
+        body_within = omega (arith, s.fits facts.0, facts.1)
 
-        pub body-number : (w : ℕ) → w ≡ k → (same : Bool) → same ≡ same_cell (cell_bytes bodies w) (cell_bytes memory c) → (number : ℕ) → number ≡ ask same 12 0
+        pub body_number : (w : ℕ) → w ≡ k → (same : Bool) → same ≡ same_cell (cell_bytes bodies w) (cell_bytes memory c) → (number : ℕ) → number ≡ ask same 12 0
             → number ≡ value_number memory bodies e t d c
         unfolding value_in
-        body-number w p same r number h =
+        body_number w p same r number h =
             h ∙ ap (λ (b : Bool). ask b 12 0) (r ∙ ap (λ (y : ℕ). same_cell (cell_bytes bodies y) (cell_bytes memory c)) (p ∙ facts.1)) ∙ rw facts.0
 
       -- the bytes of a rule are compared
       module _ (n : v ≡ ByRule x k) where
-        rule-facts : (is_pattern (word1 e t src) ≡ true) × (k ≡ word2 e t src)
-        rule-facts = own-rule n told
+        rule_facts : (is_pattern (word1 e t src) ≡ true) × (k ≡ word2 e t src)
+        rule_facts = own_rule n told
 
-        pub rule-number : (bytes : List ℕ) → bytes ≡ pattern k → (same : Bool) → same ≡ same_cell (cell_bytes bytes 0) (cell_bytes memory c) → (number : ℕ) → number ≡ ask same 12 19
+        pub rule_number : (bytes : List ℕ) → bytes ≡ pattern k → (same : Bool) → same ≡ same_cell (cell_bytes bytes 0) (cell_bytes memory c) → (number : ℕ) → number ≡ ask same 12 19
             → number ≡ value_number memory bodies e t d c
         unfolding value_in
-        rule-number bytes p same r number h =
+        rule_number bytes p same r number h =
             let long : length bytes ≡ 64 = ap length p ∙ pattern_length k in
-            h ∙ ap (λ (b : Bool). ask b 12 19) (r ∙ ap (λ (y : List ℕ). same_cell y (cell_bytes memory c)) (first_cell bytes long ∙ p ∙ ap pattern rule-facts.1)) ∙ rw rule-facts.0
+            h ∙ ap (λ (b : Bool). ask b 12 19) (r ∙ ap (λ (y : List ℕ). same_cell y (cell_bytes memory c)) (first_cell bytes long ∙ p ∙ ap pattern rule_facts.1)) ∙ rw rule_facts.0

@@ -19,7 +19,7 @@ use Rattle.patterns.specs.Pattern.{max_rule, pattern}
 use Rattle.ranges.specs.declared.Range.{Range}
 use Rattle.ranges.specs.Ranges.{list_ok, max_ranges}
 use Rattle.ranges.specs.Batch.{range_at, ranges_in, Within, NoneEmpty}
-use Rattle.ranges.proofs.Ranges.{covers-make, ranges-length, ranges_more}
+use Rattle.ranges.proofs.Ranges.{covers_make, ranges_length, ranges_more}
 use Rattle.table.specs.Entry.{live, parent, parent_has}
 use Rattle.search.specs.Domain.{depth_named}
 use Rattle.search.specs.Search.{value_in, ruled_in}
@@ -31,32 +31,32 @@ use Rattle.store.specs.Checks.{store_check, lent, ask_innermost_in}
 use Rattle.store.specs.Outcome.{buffers}
 use Rattle.store.specs.State.{state_in, state_of}
 use Rattle.store.specs.Means.{room_of}
-use Rattle.store.proofs.Checks.{ask_yes, ask_rest, ask_go, ask_stop, or_else_go, or_else_stop, or_else_both, store-lengths}
-use Rattle.store.proofs.Domains.{state_named, domains-count}
-use Rattle.store.proofs.InUse.{entries-in-use, copies-in-use}
-use Rattle.store.proofs.Raw.{raw-rule, raw-state}
+use Rattle.store.proofs.Checks.{ask_yes, ask_rest, ask_go, ask_stop, or_else_go, or_else_stop, or_else_both, store_lengths}
+use Rattle.store.proofs.Domains.{state_named, domains_count}
+use Rattle.store.proofs.InUse.{entries_in_use, copies_in_use_lem}
+use Rattle.store.proofs.Raw.{raw_rule, raw_state}
 use Rattle.add.specs.Add.{is_new, is_new_copy, add_check}
 use Rattle.add.specs.declared.Part.{Part}
 use Rattle.add.specs.Walking.{lacks, new_to, fresh_to, parent_check, rule_check, value_check, part_check, room_check, copies_of, PartOf, Askable, Asking, Counted}
-use Rattle.add.proofs.Numbers.{newly-is, bodies-is}
-use Rattle.add.proofs.Questions.{fresh_new, part-is, list_then, stops_at, goes_on, counted-more, counted_none}
+use Rattle.add.proofs.Numbers.{newly_is, bodies_is}
+use Rattle.add.proofs.Questions.{fresh_new, part_is, list_then, stops_at, goes_on, counted_more, counted_none}
 
 -- ---- the records of a list
 
 module _ (ws : List ℕ) where
-  ranges-suc : (n : ℕ) → ranges_in (suc n) ws ≡ ranges_in n ws ++ range_at ws n ∷ []
-  ranges-suc n = subst (λ (k : ℕ). ranges_in k ws ≡ ranges_in n ws ++ range_at ws n ∷ []) (add-one n) (ranges_more ws n)
+  ranges_suc : (n : ℕ) → ranges_in (suc n) ws ≡ ranges_in n ws ++ range_at ws n ∷ []
+  ranges_suc n = subst (λ (k : ℕ). ranges_in k ws ≡ ranges_in n ws ++ range_at ws n ∷ []) (add-one n) (ranges_more ws n)
 
   -- those before the i-th, it, and those behind it
-  pub ranges-split : (n i : ℕ) → i < n → (qs : List Range) × (ranges_in n ws ≡ ranges_in i ws ++ range_at ws i ∷ qs)
-  ranges-split zero i l = absurd (not-suc-le-zero l)
-  ranges-split (suc n) i l =
+  pub ranges_split : (n i : ℕ) → i < n → (qs : List Range) × (ranges_in n ws ≡ ranges_in i ws ++ range_at ws i ∷ qs)
+  ranges_split zero i l = absurd (not-suc-le-zero l)
+  ranges_split (suc n) i l =
       ⊎_elim
-      (λ (q : i ≡ n). ([], subst (λ (k : ℕ). ranges_in (suc n) ws ≡ ranges_in k ws ++ range_at ws k ∷ []) (sym q) (ranges-suc n)))
+      (λ (q : i ≡ n). ([], subst (λ (k : ℕ). ranges_in (suc n) ws ≡ ranges_in k ws ++ range_at ws k ∷ []) (sym q) (ranges_suc n)))
       (λ (q : i < n).
-      let s = ranges-split n i q in (
+      let s = ranges_split n i q in (
         s.0 ++ range_at ws n ∷ [],
-        ranges-suc n ∙ ap (λ (rs : List Range). rs ++ range_at ws n ∷ []) s.1 ∙ append_assoc (ranges_in i ws) (range_at ws i ∷ s.0) (range_at ws n ∷ []),
+        ranges_suc n ∙ ap (λ (rs : List Range). rs ++ range_at ws n ∷ []) s.1 ∙ append_assoc (ranges_in i ws) (range_at ws i ∷ s.0) (range_at ws n ∷ []),
       ))
       (eq-or-lt_of_le (le_of_suc-le-suc l))
 
@@ -69,14 +69,14 @@ module _ (ws : List ℕ) where
         let s = and_split (leb 1 (length (ranges_in n ws))) (leb (length (ranges_in n ws)) max_ranges) p in
         let low = leb-true 1 (length (ranges_in n ws)) s.0 in
         let high = leb-true (length (ranges_in n ws)) max_ranges s.1 in
-        true≢ h (rw (le-ltb n 1 (omega (arith, ranges-length ws n)), le-ltb max_ranges n (omega (arith, ranges-length ws n)))))
+        true≢ h (rw (le-ltb n 1 (omega (arith, ranges_length ws n)), le-ltb max_ranges n (omega (arith, ranges_length ws n)))))
 
-    pub list-taken : (ltb n 1 || ltb max_ranges n) ≡ false → (n ≤ max_ranges) × (list_ok (ranges_in n ws) ≡ true)
-    list-taken h =
+    pub list_taken : (ltb n 1 || ltb max_ranges n) ≡ false → (n ≤ max_ranges) × (list_ok (ranges_in n ws) ≡ true)
+    list_taken h =
         let s = or_split (ltb n 1) (ltb max_ranges n) h in
         let low = ltb-false n 1 s.0 in
         let high = ltb-false max_ranges n s.1 in
-        (high, rw (ranges-length ws n) (and_join (leb 1 n) (leb n max_ranges) (le-leb 1 n low) (le-leb n max_ranges high)))
+        (high, rw (ranges_length ws n) (and_join (leb 1 n) (leb n max_ranges) (le-leb 1 n low) (le-leb n max_ranges high)))
 
 -- ---- the questions on a range go by which of its own cells are new
 
@@ -91,14 +91,14 @@ module _ (memory bodies : List ℕ) (e : ℕ) (t : List ℕ) (new other : ℕ �
       (ask (all_same (λ j. same_cell (value_in e t bodies (parent (live t)) (base + j)) (cell_bytes memory (base + j))) i) 12
       (ask (all_same (λ j. not (ruled_in e t (parent (live t)) (base + j))) i) 19 0))
 
-  rule-same : (r : ℕ) → rule_check memory new base n r ≡ rule_check memory other base n r
+  rule_same : (r : ℕ) → rule_check memory new base n r ≡ rule_check memory other base n r
   unfolding rule_check
-  rule-same r = λ i. ask (leb r max_rule && all_same (λ j. same_cell (pattern r) (cell_bytes memory (base + j))) i) 18 0
+  rule_same r = λ i. ask (leb r max_rule && all_same (λ j. same_cell (pattern r) (cell_bytes memory (base + j))) i) 18 0
 
   values_same : (k r : ℕ) → value_check memory bodies e t new base n k r ≡ value_check memory bodies e t other base n k r
   values_same zero r = refl
   values_same (suc zero) r = parent_same_lem
-  values_same (suc (suc k)) r = rule-same r
+  values_same (suc (suc k)) r = rule_same r
 
   pub part_same : (k r l : ℕ) → part_check memory bodies e t new base n k r l ≡ part_check memory bodies e t other base n k r l
   part_same k r l = ap (λ (x : ℕ). ask (leb k 2 && leb l 1) 7 (ask_range (cells_of (length memory)) base n x)) (values_same k r)
@@ -113,8 +113,8 @@ part_fits memory bodies e t new base n k r l q =
 
 module _ (memory bodies t : List ℕ) (top : ℕ) (held ws : List ℕ) where
   -- what the questions have before them of the whole list they have of fewer of its records
-  pub asking-fewer : (n i : ℕ) → i ≤ n → Asking memory bodies t top held ws n → Asking memory bodies t top held ws i
-  asking-fewer n i l a = record {
+  pub asking_fewer : (n i : ℕ) → i ≤ n → Asking memory bodies t top held ws n → Asking memory bodies t top held ws i
+  asking_fewer n i l a = record {
     store = a.store;
     inner = a.inner;
     ends = a.ends;
@@ -124,11 +124,11 @@ module _ (memory bodies t : List ℕ) (top : ℕ) (held ws : List ℕ) where
     listed = omega (arith, a.listed);
   }
 
-  pub asking-part : (p : Part) → Asking memory bodies t top held ws p.seen → p.first + p.count ≤ cells_of (length memory) → Askable memory held ws (live t) p
-  asking-part p a fits =
-      let f = store-lengths _ _ t a.store in
+  pub asking_part : (p : Part) → Asking memory bodies t top held ws p.seen → p.first + p.count ≤ cells_of (length memory) → Askable memory held ws (live t) p
+  asking_part p a fits =
+      let f = store_lengths _ _ t a.store in
       record {
-        deep = (raw-rule memory bodies t a.store).live;
+        deep = (raw_rule memory bodies t a.store).live;
         few = omega (arith, f.cells_high);
         fits = omega (arith, f.memory_exact);
         cells = omega (arith, f.cells_high, a.cells);
@@ -142,16 +142,16 @@ module _ (memory bodies t : List ℕ) (top : ℕ) (held ws : List ℕ) where
     pub counted : Counted (cells_of (length memory)) (slots_of (length t)) t (ranges_in i ws) new more
 
   -- there are no more of them than cells of memory
-  pub passing-few : store_check (lent (length memory) (length bodies) t) ≡ 0 → (i new more : ℕ) → Passing i new more → (new ≤ max_cells) × (more ≤ max_cells)
-  passing-few good i new more so_far =
-      let f = store-lengths _ _ t good in (
+  pub passing_few : store_check (lent (length memory) (length bodies) t) ≡ 0 → (i new more : ℕ) → Passing i new more → (new ≤ max_cells) × (more ≤ max_cells)
+  passing_few good i new more so_far =
+      let f = store_lengths _ _ t good in (
         omega (arith, f.cells_high, so_far.counted.cells, count_le (cells_of (length memory)) (is_new (slots_of (length t)) t (ranges_in i ws))),
         omega (arith, f.cells_high, so_far.counted.copies, count_le (cells_of (length memory)) (is_new_copy (slots_of (length t)) t (ranges_in i ws))),
       )
 
-  pub passing-none : Passing 0 0 0
+  pub passing_none : Passing 0 0 0
   unfolding ranges_in
-  passing-none = record { passed = refl; counted = counted_none (cells_of (length memory)) (slots_of (length t)) t }
+  passing_none = record { passed = refl; counted = counted_none (cells_of (length memory)) (slots_of (length t)) t }
 
   module _ (n : ℕ) (a : Asking memory bodies t top held ws n) (i : ℕ) (p : Part) (o : PartOf ws i p) where
     abbrev m : ℕ
@@ -166,55 +166,55 @@ module _ (memory bodies t : List ℕ) (top : ℕ) (held ws : List ℕ) where
     -- which of its cells are new is told by the records that need be asked
     agree : (j : ℕ) → j < p.count → fresh_to held (live t) (ranges_in p.seen ws) (p.first + j) ≡ new_to (slots_of (length t)) t (ranges_in i ws) (p.first + j)
     agree j l =
-        let here = covers-make (range_at ws i) (p.first + j) (omega (arith, o.first)) (omega (arith, o.first, o.count)) in
+        let here = covers_make (range_at ws i) (p.first + j) (omega (arith, o.first)) (omega (arith, o.first, o.count)) in
         ap (λ (x : Bool). lacks held (live t) (p.first + j) && not x) (o.same (p.first + j) here)
         ∙ ap (λ (f : ℕ → Bool). f (p.first + j)) (fresh_new e t held a.marks a.inner (ranges_in i ws))
 
     module _ (x : ℕ) (asked : x ≡ part_check memory bodies (slots_of (length t)) t (fresh_to held (live t) (ranges_in p.seen ws)) p.first p.count p.kind p.rule p.label) where
-      pub part-number : x ≡ range_checks (cells_of (length memory)) memory (range_at ws i) (add_ranges memory (ranges_in i ws) (state_in (slots_of (length t)) t bodies)) 0
-      part-number =
+      pub part_number : x ≡ range_checks (cells_of (length memory)) memory (range_at ws i) (add_ranges memory (ranges_in i ws) (state_in (slots_of (length t)) t bodies)) 0
+      part_number =
           asked
           ∙ part_same memory bodies e t (fresh_to held (live t) (ranges_in p.seen ws)) (new_to e t (ranges_in i ws)) p.first p.count agree p.kind p.rule p.label
           ∙ (λ k. part_check memory bodies e t (new_to e t (ranges_in i ws)) (o.first k) (o.count k) (o.kind k) (o.rule k) (o.label k))
-          ∙ part-is memory m e (bodies_of (length bodies)) t bodies (raw-rule memory bodies t a.store) a.inner (ranges_in i ws) (range_at ws i) refl
+          ∙ part_is memory m e (bodies_of (length bodies)) t bodies (raw_rule memory bodies t a.store) a.inner (ranges_in i ws) (range_at ws i) refl
 
       -- a no is the list's
-      pub passing-stop : (new more : ℕ) → Passing i new more → i < n → (x ≡ 0 → ⊥) → x ≡ list_checks (cells_of (length memory)) memory (ranges_in n ws) (state_in (slots_of (length t)) t bodies) 0
-      passing-stop new more so_far l ne =
-          let q = ranges-split ws n i l in
-          stops_at m memory (ranges_in i ws) q.0 (range_at ws i) s so_far.passed x part-number ne
+      pub passing_stop : (new more : ℕ) → Passing i new more → i < n → (x ≡ 0 → ⊥) → x ≡ list_checks (cells_of (length memory)) memory (ranges_in n ws) (state_in (slots_of (length t)) t bodies) 0
+      passing_stop new more so_far l ne =
+          let q = ranges_split ws n i l in
+          stops_at m memory (ranges_in i ws) q.0 (range_at ws i) s so_far.passed x part_number ne
           ∙ ap (λ (rs : List Range). list_checks m memory rs s 0) (sym q.1)
 
       -- else its new cells are counted
-      pub part-asks : i < n → x ≡ 0 → Askable memory held ws (live t) p
-      part-asks l none =
-          asking-part p (asking-fewer n p.seen (omega (arith, o.seen)) a)
+      pub part_asks : i < n → x ≡ 0 → Askable memory held ws (live t) p
+      part_asks l none =
+          asking_part p (asking_fewer n p.seen (omega (arith, o.seen)) a)
           (part_fits memory bodies e t (fresh_to held (live t) (ranges_in p.seen ws)) p.first p.count p.kind p.rule p.label (sym asked ∙ none))
 
-      pub passing-more : (new more y : ℕ) → Passing i new more → x ≡ 0 → y ≡ count p.count (λ j. fresh_to held (live t) (ranges_in p.seen ws) (p.first + j))
+      pub passing_more : (new more y : ℕ) → Passing i new more → x ≡ 0 → y ≡ count p.count (λ j. fresh_to held (live t) (ranges_in p.seen ws) (p.first + j))
           → (z : ℕ) → z ≡ copies_of p.kind y → Passing (i + 1) (new + y) (more + z)
-      passing-more new more y so_far none many z copies =
+      passing_more new more y so_far none many z copies =
           let r : Range = range_at ws i in
           let fits : p.first + p.count ≤ m =
           part_fits memory bodies e t (fresh_to held (live t) (ranges_in p.seen ws)) p.first p.count p.kind p.rule p.label (sym asked ∙ none) in
           let told : y ≡ count r.count (λ j. new_to e t (ranges_in i ws) (r.first + j)) =
           many ∙ count_ext p.count _ (λ j. new_to e t (ranges_in i ws) (p.first + j)) agree
           ∙ (λ k. count (o.count k) (λ j. new_to e t (ranges_in i ws) (o.first k + j))) in
-          let next = counted-more m e t (ranges_in i ws) r (omega (arith, o.first, o.count)) new more y so_far.counted told in
+          let next = counted_more m e t (ranges_in i ws) r (omega (arith, o.first, o.count)) new more y so_far.counted told in
           rw (copies, o.kind)
           (record {
-            passed = rw (ranges_more ws i) (goes_on m memory (ranges_in i ws) r s so_far.passed (sym part-number ∙ none));
+            passed = rw (ranges_more ws i) (goes_on m memory (ranges_in i ws) r s so_far.passed (sym part_number ∙ none));
             counted = rw (ranges_more ws i) next;
           })
 
 -- ---- those on ranges, and then the rest
 
 module _ (m : ℕ) (memory : List ℕ) (rs : List Range) (s : State) (rest : ℕ) where
-  pub list-stop : (x : ℕ) → x ≡ list_checks m memory rs s 0 → (x ≡ 0 → ⊥) → x ≡ list_checks m memory rs s rest
-  list-stop x q ne = q ∙ sym (list_then m memory rs s rest ∙ or_else_stop _ _ (λ z. ne (q ∙ z)))
+  pub list_stop : (x : ℕ) → x ≡ list_checks m memory rs s 0 → (x ≡ 0 → ⊥) → x ≡ list_checks m memory rs s rest
+  list_stop x q ne = q ∙ sym (list_then m memory rs s rest ∙ or_else_stop _ _ (λ z. ne (q ∙ z)))
 
-  pub list-go : list_checks m memory rs s 0 ≡ 0 → rest ≡ list_checks m memory rs s rest
-  list-go q = sym (list_then m memory rs s rest ∙ or_else_go _ _ q)
+  pub list_go : list_checks m memory rs s 0 ≡ 0 → rest ≡ list_checks m memory rs s rest
+  list_go q = sym (list_then m memory rs s rest ∙ or_else_go _ _ q)
 
 -- ---- the whole call's
 
@@ -251,53 +251,53 @@ module _ (memory bodies t : List ℕ) (h : ℕ) (rs : List Range) where
   abbrev room : Room
   room = room_of (buffers memory bodies t)
 
-  pub check-store : (x : ℕ) → x ≡ store_check (lent (length memory) (length bodies) t) → (x ≡ 0 → ⊥) → x ≡ add_check (buffers memory bodies t) h rs
+  pub check_store : (x : ℕ) → x ≡ store_check (lent (length memory) (length bodies) t) → (x ≡ 0 → ⊥) → x ≡ add_check (buffers memory bodies t) h rs
   unfolding add_check
-  check-store x q ne = q ∙ sym (or_else_stop _ _ (λ z. ne (q ∙ z)))
+  check_store x q ne = q ∙ sym (or_else_stop _ _ (λ z. ne (q ∙ z)))
 
   module _ (good : store_check (lent (length memory) (length bodies) t) ≡ 0) where
     abbrev on_list : ℕ
     on_list = ask (list_ok rs) 20 (list_checks cells memory rs before (room_checks room before (add_ranges memory rs before)))
 
-    on-words : add_check (buffers memory bodies t) h rs ≡ ask_innermost_in t h on_list
+    on_words : add_check (buffers memory bodies t) h rs ≡ ask_innermost_in t h on_list
     unfolding add_check
-    on-words =
+    on_words =
         or_else_go _ _ good
-        ∙ ap (λ (x : State). add_checks room memory h rs x) (raw-state memory bodies t good)
-        ∙ (λ i. ask (ltb 0 (state_named slots t bodies h i)) 5 (ask (eqb (state_named slots t bodies h i) (domains-count slots t bodies i)) 6 on_list))
+        ∙ ap (λ (x : State). add_checks room memory h rs x) (raw_state memory bodies t good)
+        ∙ (λ i. ask (ltb 0 (state_named slots t bodies h i)) 5 (ask (eqb (state_named slots t bodies h i) (domains_count slots t bodies i)) 6 on_list))
 
-    pub check-inner : (x : ℕ) → x ≡ ask_innermost_in t h 0 → (x ≡ 0 → ⊥) → x ≡ add_check (buffers memory bodies t) h rs
-    check-inner x q ne = q ∙ five_six (ltb 0 (depth_named t h)) (eqb (depth_named t h) (live t)) on_list (λ z. ne (q ∙ z)) ∙ sym on-words
+    pub check_inner : (x : ℕ) → x ≡ ask_innermost_in t h 0 → (x ≡ 0 → ⊥) → x ≡ add_check (buffers memory bodies t) h rs
+    check_inner x q ne = q ∙ five_six (ltb 0 (depth_named t h)) (eqb (depth_named t h) (live t)) on_list (λ z. ne (q ∙ z)) ∙ sym on_words
 
     module _ (in-it : ask_innermost_in t h 0 ≡ 0) where
       reached : on_list ≡ add_check (buffers memory bodies t) h rs
-      reached = five_six_go (ltb 0 (depth_named t h)) (eqb (depth_named t h) (live t)) on_list in-it ∙ sym on-words
+      reached = five_six_go (ltb 0 (depth_named t h)) (eqb (depth_named t h) (live t)) on_list in-it ∙ sym on_words
 
-      pub check-20 : list_ok rs ≡ false → 20 ≡ add_check (buffers memory bodies t) h rs
-      check-20 q = sym (ask_stop (list_ok rs) 20 _ q) ∙ reached
+      pub check_20 : list_ok rs ≡ false → 20 ≡ add_check (buffers memory bodies t) h rs
+      check_20 q = sym (ask_stop (list_ok rs) 20 _ q) ∙ reached
 
-      room-is : room_checks room before (add_ranges memory rs before) ≡ room_check slots t places (count cells (is_new slots t rs)) (count cells (is_new_copy slots t rs))
+      room_is : room_checks room before (add_ranges memory rs before) ≡ room_check slots t places (count cells (is_new slots t rs)) (count cells (is_new_copy slots t rs))
       unfolding room_check
-      room-is =
-          let ok = raw-rule memory bodies t good in
+      room_is =
+          let ok = raw_rule memory bodies t good in
           let inner = inner_live t h in-it in
           λ i.
-          ask (leb (entries-in-use cells slots places t ok bodies i + newly-is slots t bodies inner cells memory rs i) slots) 16
-          (ask (leb (copies-in-use cells slots places t ok bodies i + bodies-is slots t bodies inner cells memory rs i) places) 17 0)
+          ask (leb (entries_in_use cells slots places t ok bodies i + newly_is slots t bodies inner cells memory rs i) slots) 16
+          (ask (leb (copies_in_use_lem cells slots places t ok bodies i + bodies_is slots t bodies inner cells memory rs i) places) 17 0)
 
-      pub check-list : list_ok rs ≡ true
+      pub check_list : list_ok rs ≡ true
           → (x : ℕ) → x ≡ list_checks (cells_of (length memory)) memory rs (state_in (slots_of (length t)) t bodies)
           (room_check (slots_of (length t)) t (bodies_of (length bodies)) (count (cells_of (length memory)) (is_new (slots_of (length t)) t rs))
           (count (cells_of (length memory)) (is_new_copy (slots_of (length t)) t rs)))
           → x ≡ add_check (buffers memory bodies t) h rs
-      check-list ok x q = q ∙ ap (λ (r : ℕ). list_checks cells memory rs before r) (sym room-is) ∙ sym (ask_go (list_ok rs) 20 _ ok) ∙ reached
+      check_list ok x q = q ∙ ap (λ (r : ℕ). list_checks cells memory rs before r) (sym room_is) ∙ sym (ask_go (list_ok rs) 20 _ ok) ∙ reached
 
 -- ---- what the questions leave of the list
 
 module _ (memory bodies t : List ℕ) (h n : ℕ) (ws : List ℕ) where
-  pub list-facts : add_check (buffers memory bodies t) h (ranges_in n ws) ≡ 0 → (1 ≤ n) × (n ≤ 64) × Within (cells_of (length memory)) n ws × NoneEmpty n ws
+  pub list_facts : add_check (buffers memory bodies t) h (ranges_in n ws) ≡ 0 → (1 ≤ n) × (n ≤ 64) × Within (cells_of (length memory)) n ws × NoneEmpty n ws
   unfolding add_check
-  list-facts z =
+  list_facts z =
       let room : Room = room_of (buffers memory bodies t) in
       let state : State = state_of (buffers memory bodies t) in
       let m : ℕ = cells_of (length memory) in
@@ -305,10 +305,10 @@ module _ (memory bodies t : List ℕ) (h n : ℕ) (ws : List ℕ) where
       let asked = add_asked room memory h (ranges_in n ws) state both.1 in
       let few = and_split (leb 1 (length (ranges_in n ws))) (leb (length (ranges_in n ws)) 64) asked.few in
       let lies : (i : ℕ) → i < n → (1 ≤ (range_at ws i).count) × ((range_at ws i).first + (range_at ws i).count ≤ m) = λ i l.
-      let q = ranges-split ws n i l in
+      let q = ranges_split ws n i l in
       let rest = room_checks room state (add_ranges memory (ranges_in n ws) state) in
       let here = list_rest m memory (ranges_in i ws) state _
       (sym (checks_append m memory (ranges_in i ws) (range_at ws i ∷ q.0) state rest) ∙ ap (λ (rs : List Range). list_checks m memory rs state rest) (sym q.1) ∙ asked.ranges) in
       let ok = and_split (leb 1 (range_at ws i).count) (leb ((range_at ws i).first + (range_at ws i).count) m) (range_asked m memory (range_at ws i) (add_ranges memory (ranges_in i ws) state) _ here).lies in
       (leb-true 1 (range_at ws i).count ok.0, leb-true ((range_at ws i).first + (range_at ws i).count) m ok.1) in
-      (omega (arith, leb-true 1 (length (ranges_in n ws)) few.0, ranges-length ws n), omega (arith, leb-true (length (ranges_in n ws)) 64 few.1, ranges-length ws n), λ i l. (lies i l).1, λ i l. (lies i l).0)
+      (omega (arith, leb-true 1 (length (ranges_in n ws)) few.0, ranges_length ws n), omega (arith, leb-true (length (ranges_in n ws)) 64 few.1, ranges_length ws n), λ i l. (lies i l).1, λ i l. (lies i l).0)

@@ -1,5 +1,5 @@
 -- The call over a lent list is the call over the batch that the list is gathered into (`same_call`), and means the same (`same_means`), so that what is
--- said over the one holds over the other (`made-over`, `shown-over`). A batch of up to 64 ranges has those of the list; of more, whatever they are,
+-- said over the one holds over the other (`made_over`, `shown_over`). A batch of up to 64 ranges has those of the list; of more, whatever they are,
 -- question 20 refuses both. Assumes nothing.
 use Prim.Native.Nat.{ℕ, zero, suc, ◌<◌}
 use mathlib.Core.Bool.{Bool, true, false, ◌&&◌}
@@ -49,22 +49,22 @@ long_no : (h : ℕ) (s : State) → 0 < long_checks h s
 long_no h s = ask_no (is_live h s) 5 _ (omega arith) (ask_no (is_innermost h s) 6 20 (omega arith) (omega arith))
 
 module _ (h : ℕ) (rs : List Range) (long : max_ranges < length rs) where
-  not-ok : list_ok rs ≡ false
-  not-ok = λ i. le-leb 1 (length rs) (omega arith) i && lt-leb (length rs) max_ranges long i
+  not_ok : list_ok rs ≡ false
+  not_ok = λ i. le-leb 1 (length rs) (omega arith) i && lt-leb (length rs) max_ranges long i
 
-  long-checks : (room : Room) (memory : List ℕ) (s : State) → add_checks room memory h rs s ≡ long_checks h s
-  long-checks room memory s = ap (ask_innermost h s) (ask_stop (list_ok rs) 20 _ not-ok)
+  long_checks_lem : (room : Room) (memory : List ℕ) (s : State) → add_checks room memory h rs s ≡ long_checks h s
+  long_checks_lem room memory s = ap (ask_innermost h s) (ask_stop (list_ok rs) 20 _ not_ok)
 
-  long-call : (b : Buffers) → add_call h rs b ≡ refuse (or_else (store_check (lent_of b)) (long_checks h (state_of b)))
+  long_call : (b : Buffers) → add_call h rs b ≡ refuse (or_else (store_check (lent_of b)) (long_checks h (state_of b)))
   unfolding add_call add_check
-  long-call b = rw (long-checks (room_of b) b.memory (state_of b)) (refuses refuse _ _ (else_no (store_check (lent_of b)) _ (long_no h (state_of b))))
+  long_call b = rw (long_checks_lem (room_of b) b.memory (state_of b)) (refuses refuse _ _ (else_no (store_check (lent_of b)) _ (long_no h (state_of b))))
 
-  long-effect : (room : Room) (memory : List ℕ) (s : State) → add_effect room memory h rs s ≡ refuse-effect (long_checks h s)
-  long-effect room memory s = rw (long-checks room memory s) (refuses refuse-effect _ _ (long_no h s))
+  long_effect : (room : Room) (memory : List ℕ) (s : State) → add_effect room memory h rs s ≡ refuse-effect (long_checks h s)
+  long_effect room memory s = rw (long_checks_lem room memory s) (refuses refuse-effect _ _ (long_no h s))
 
-  long-means : (k : ℕ) (b : Buffers) → add_means h rs k b ≡ call_means (λ s. refuse-effect (long_checks h s)) k b
+  long_means : (k : ℕ) (b : Buffers) → add_means h rs k b ≡ call_means (λ s. refuse-effect (long_checks h s)) k b
   unfolding call_means
-  long-means k b = ap (λ (f : Effect). or_refused (store_check (lent_of b)) b (viewed f k (state_of b) b.memory)) (long-effect (room_of b) b.memory (state_of b))
+  long_means k b = ap (λ (f : Effect). or_refused (store_check (lent_of b)) b (viewed f k (state_of b) b.memory)) (long_effect (room_of b) b.memory (state_of b))
 
 -- ---- the batch of a list
 
@@ -75,15 +75,15 @@ same f x all rs = by_le (length rs) max_ranges
     (λ long. let n = length_more rs long in all _ (omega arith) ∙ sym (all rs long))
 
 pub same_call : (h : ℕ) (rs : List Range) (b : Buffers) → add_call h (batch_ranges (gathered no_batch rs)) b ≡ add_call h rs b
-same_call h rs b = same (λ qs. add_call h qs b) _ (λ qs long. long-call h qs long b) rs
+same_call h rs b = same (λ qs. add_call h qs b) _ (λ qs long. long_call h qs long b) rs
 
 pub same_means : (h : ℕ) (rs : List Range) (budget : ℕ) (b : Buffers) → add_means h (batch_ranges (gathered no_batch rs)) budget b ≡ add_means h rs budget b
-same_means h rs budget b = same (λ qs. add_means h qs budget b) _ (λ qs long. long-means h qs long budget b) rs
+same_means h rs budget b = same (λ qs. add_means h qs budget b) _ (λ qs long. long_means h qs long budget b) rs
 
 -- what is said over the batch d, which is that of the list rs, holds over rs
 module _ (h k : ℕ) (rs : List Range) (d : Batch) (e : d ≡ gathered no_batch rs) (before after : Buffers) (r : Report) where
-  pub made-over : Makes (add_call h (batch_ranges d)) k before r after → Makes (add_call h rs) k before r after
-  made-over m = m ∙ ap (λ (x : Batch). outcome (add_call h (batch_ranges x) before) k before) e ∙ ap (λ (c : Call). outcome c k before) (same_call h rs before)
+  pub made_over : Makes (add_call h (batch_ranges d)) k before r after → Makes (add_call h rs) k before r after
+  made_over m = m ∙ ap (λ (x : Batch). outcome (add_call h (batch_ranges x) before) k before) e ∙ ap (λ (c : Call). outcome c k before) (same_call h rs before)
 
-  pub shown-over : Shows (add_means h (batch_ranges d)) k before r after → Shows (add_means h rs) k before r after
-  shown-over m = m ∙ ap (λ (x : Batch). add_means h (batch_ranges x) k before) e ∙ same_means h rs k before
+  pub shown_over : Shows (add_means h (batch_ranges d)) k before r after → Shows (add_means h rs) k before r after
+  shown_over m = m ∙ ap (λ (x : Batch). add_means h (batch_ranges x) k before) e ∙ same_means h rs k before

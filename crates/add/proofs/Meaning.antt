@@ -17,25 +17,25 @@ use Rattle.words.specs.Cells.{cell_bytes}
 use Rattle.words.proofs.Scan.{by_bool, and_split, and_join}
 use Rattle.ranges.specs.declared.Range.{Range}
 use Rattle.ranges.specs.Ranges.{named, kind_for, rule_for, label_for}
-use Rattle.ranges.proofs.Ranges.{label-low, label-named}
+use Rattle.ranges.proofs.Ranges.{label_low, label_named}
 use Rattle.patterns.specs.Pattern.{max_rule, pattern}
 use Rattle.table.specs.Entry.{live, word1, word2, depth_of, writable_of, pattern_of, cell_of, parent, names, find_in, holds_in, parent_has}
 use Rattle.table.specs.Changes.{put, new_first, entry_changes}
-use Rattle.table.proofs.Entry.{names_make, holds-true, pattern_zero}
+use Rattle.table.proofs.Entry.{names_make, holds_true, pattern_zero}
 use Rattle.table.proofs.Made.{Made, via_bit, rule_bit, entry_made}
 use Rattle.table.proofs.Rule.{Rule, Used}
 use Rattle.table.proofs.Head.{all_remain}
 use Rattle.search.specs.Search.{source_in, value_in, ruled_in}
-use Rattle.search.proofs.Value.{Copy, source-rule}
+use Rattle.search.proofs.Value.{Copy, source_rule}
 use Rattle.model.specs.State.{Label, read_only, read_write, Kind, copy, via_parent, by_rule, Holding}
 use Rattle.model.specs.Holdings.{holding_at, label_numbered, kind_numbered, raised, added, given_value, add_ranges}
 use Rattle.model.proofs.Ranged.{ranges_state}
 use Rattle.store.specs.State.{label_of, held_in, state_in}
-use Rattle.store.proofs.Domains.{held_none, held-some, innermost-state}
-use Rattle.store.proofs.Becoming.{at_slot, told, plain_kind, Stays, Value, came, took, follows, rests, Full, Fate, keeps, raises, fills, Becomes, becomes-rule, becomes-held}
+use Rattle.store.proofs.Domains.{held_none, held_some, innermost_state}
+use Rattle.store.proofs.Becoming.{at_slot, told, plain_kind, Stays, Value, came, took, follows, rests, Full, Fate, keeps, raises, fills, Becomes, becomes_rule, becomes_held}
 use Rattle.add.specs.Add.{rises, raise_change, taken_first}
 use Rattle.add.proofs.Choices.{Taking, chosen, rises_facts}
-use Rattle.add.proofs.Numbers.{outer-value}
+use Rattle.add.proofs.Numbers.{outer_value}
 
 module _ (m e b : ℕ) (t : List ℕ) (ok : Rule m e b t) (long : pairs_at e ≤ length t) (rs : List Range)
     (inner : 1 ≤ live t) (within : (c : ℕ) → named rs c ≡ true → c < m) (kind : (c : ℕ) → named rs c ≡ true → kind_for rs c ≤ 2) (small : m ≤ max_cells) (choice : Taking m e b t rs)
@@ -63,7 +63,7 @@ module _ (m e b : ℕ) (t : List ℕ) (ok : Rule m e b t) (long : pairs_at e ≤
   l i = label_for rs (choice.cell i)
 
   made : (i : ℕ) → i < e → choice.taken i ≡ true → Made (word i) (live t) (l i) (via_bit (k i)) (rule_bit (k i)) 0 (choice.cell i)
-  made i h p = entry_made (live t) (k i) (l i) (choice.cell i) (label-low (choice.cell i) rs) (omega (arith, within (choice.cell i) (choice.within i h p)))
+  made i h p = entry_made (live t) (k i) (l i) (choice.cell i) (label_low (choice.cell i) rs) (omega (arith, within (choice.cell i) (choice.within i h p)))
 
   takes : (i : ℕ) → choice.taken i ≡ true → chosen choice i ≡ put (word i) (choice.body i)
   unfolding chosen
@@ -85,9 +85,9 @@ module _ (m e b : ℕ) (t : List ℕ) (ok : Rule m e b t) (long : pairs_at e ≤
     -- ---- the slots that are taken
 
     -- what is held where slot i comes
-    comes-held : (i : ℕ) → (h : i < e) → (p : choice.taken i ≡ true)
+    comes_held : (i : ℕ) → (h : i < e) → (p : choice.taken i ≡ true)
         → held (depth_of (word i)) (cell_of (word i)) ≡ added (label_numbered (l i)) (kind_numbered (k i) (u i)) (given (choice.cell i)) none
-    comes-held i h p =
+    comes_held i h p =
         let x = made i h p in
         rw (x.depth, x.cell, eq-eqb (live t) (live t) refl, choice.within i h p, held_none e t old (live t) (choice.cell i) (choice.new i h p))
 
@@ -101,12 +101,12 @@ module _ (m e b : ℕ) (t : List ℕ) (ok : Rule m e b t) (long : pairs_at e ≤
       x : Made (word i) (live t) (l i) (via_bit (k i)) (rule_bit (k i)) 0 (choice.cell i)
       x = made i h p
 
-      label-of : label_numbered (l i) ≡ label_of (word i)
-      label-of = ap (λ (y : ℕ). cond (eqb y 1) read_write read_only) (sym x.label)
+      label_of_lem : label_numbered (l i) ≡ label_of (word i)
+      label_of_lem = ap (λ (y : ℕ). cond (eqb y 1) read_write read_only) (sym x.label)
 
       -- what comes, by its kind and its value
-      comes-as : (kn : Kind) (v : List ℕ) → kind_numbered (k i) (u i) ≡ kn → given c ≡ v → held (depth_of (word i)) (cell_of (word i)) ≡ some (record { label = label_of (word i); kind = kn; value = v })
-      comes-as kn v q r = comes-held i h p ∙ (λ a. some (record { label = label-of a; kind = q a; value = r a }))
+      comes_as : (kn : Kind) (v : List ℕ) → kind_numbered (k i) (u i) ≡ kn → given c ≡ v → held (depth_of (word i)) (cell_of (word i)) ≡ some (record { label = label_of (word i); kind = kn; value = v })
+      comes_as kn v q r = comes_held i h p ∙ (λ a. some (record { label = label_of_lem a; kind = q a; value = r a }))
 
       abbrev around : Option Holding
       around = holding_at (state_in e t old).domains (length (state_in e t old).domains - 1) c
@@ -119,38 +119,38 @@ module _ (m e b : ℕ) (t : List ℕ) (ok : Rule m e b t) (long : pairs_at e ≤
       as_copy nil =
           let kn : kind_numbered (k i) (u i) ≡ copy = ap (λ (y : ℕ). kind_numbered y (u i)) nil in
           took (x.kind ∙ ap via_bit nil) (x.rule ∙ ap rule_bit nil) (nil, p, refl) (choice.fits i h p nil) (choice.unused i h p nil)
-          (comes-as copy (cell_bytes new (choice.body i)) kn (given_by copy kn ∙ sym (filled i h p nil)))
+          (comes_as copy (cell_bytes new (choice.body i)) kn (given_by copy kn ∙ sym (filled i h p nil)))
 
-      as-rule : k i ≡ 2 → NewValue i
-      as-rule two =
+      as_rule : k i ≡ 2 → NewValue i
+      as_rule two =
           let second = choice.ruled i h p two in
           let kn : kind_numbered (k i) (u i) ≡ by_rule (choice.body i) = ap (λ (y : ℕ). kind_numbered y (u i)) two ∙ ap by_rule (sym second) in
-          follows (x.kind ∙ ap via_bit two) (x.rule ∙ ap rule_bit two) (rw second (rule i h p two)) (comes-as (by_rule (choice.body i)) (pattern (choice.body i)) kn (given_by (by_rule (choice.body i)) kn))
+          follows (x.kind ∙ ap via_bit two) (x.rule ∙ ap rule_bit two) (rw second (rule i h p two)) (comes_as (by_rule (choice.body i)) (pattern (choice.body i)) kn (given_by (by_rule (choice.body i)) kn))
 
-      as-via : k i ≡ 1 → NewValue i
-      as-via one =
+      as_via : k i ≡ 1 → NewValue i
+      as_via one =
           let kn : kind_numbered (k i) (u i) ≡ via_parent = ap (λ (y : ℕ). kind_numbered y (u i)) one in
           let out = covered i h p one in
           let deep = out.0 in
-          let has : parent_has e t (live t) c ≡ true = and_join (leb 2 (live t)) (holds_in e t (parent (live t)) c) (le-leb 2 (live t) deep) (holds-true e t (parent (live t)) c out.1) in
+          let has : parent_has e t (live t) c ≡ true = and_join (leb 2 (live t)) (holds_in e t (parent (live t)) c) (le-leb 2 (live t) deep) (holds_true e t (parent (live t)) c out.1) in
           let same : held (parent (depth_of (word i))) (cell_of (word i)) ≡ held_in e t old (parent (live t)) c =
           rw (x.depth, x.cell, ne_eqb (parent (live t)) (live t) (λ q. omega arith)) in
           let j = find_in e t (parent (live t)) c in
           let unruled : pattern_of (word1 e t j) ≡ 0 =
-          sym (source-rule m e b t ok (parent (live t)) c (omega arith) out.1) ∙ pattern_zero (word1 e t (source_in e t (parent (live t)) c)) (plain i h p one) in
-          rests (x.kind ∙ ap via_bit one) (x.rule ∙ ap rule_bit one) (choice.bodiless i h p one) (rw x.depth deep) _ (same ∙ held-some e t old (parent (live t)) c out.1)
+          sym (source_rule m e b t ok (parent (live t)) c (omega arith) out.1) ∙ pattern_zero (word1 e t (source_in e t (parent (live t)) c)) (plain i h p one) in
+          rests (x.kind ∙ ap via_bit one) (x.rule ∙ ap rule_bit one) (choice.bodiless i h p one) (rw x.depth deep) _ (same ∙ held_some e t old (parent (live t)) c out.1)
           (plain_kind (word1 e t j) (word2 e t j) unruled)
-          (comes-as via_parent (value_in e t old (parent (live t)) c) kn (given_by via_parent kn ∙ outer-value e t old inner c (cell_bytes memory c) has))
+          (comes_as via_parent (value_in e t old (parent (live t)) c) kn (given_by via_parent kn ∙ outer_value e t old inner c (cell_bytes memory c) has))
 
-      new-value : NewValue i
-      new-value =
+      new_value : NewValue i
+      new_value =
           by_bool (eqb (k i) 0) (λ z. as_copy (eqb-true (k i) 0 z))
           (λ z.
-          by_bool (eqb (k i) 1) (λ y. as-via (eqb-true (k i) 1 y))
-          (λ y. let a = eqb-false (k i) 0 z in let d = eqb-false (k i) 1 y in as-rule (omega (arith, a, d, kind c (choice.within i h p)))))
+          by_bool (eqb (k i) 1) (λ y. as_via (eqb-true (k i) 1 y))
+          (λ y. let a = eqb-false (k i) 0 z in let d = eqb-false (k i) 1 y in as_rule (omega (arith, a, d, kind c (choice.within i h p)))))
 
-    new-full : (i : ℕ) → i < e → choice.taken i ≡ true → Full m e b t old new (live t) held (λ i. i) Comes Takes i (word i) (choice.body i)
-    new-full i h p =
+    new_full : (i : ℕ) → i < e → choice.taken i ≡ true → Full m e b t old new (live t) held (λ i. i) Comes Takes i (word i) (choice.body i)
+    new_full i h p =
         let x = made i h p in
         record {
           low = rw x.depth inner;
@@ -158,7 +158,7 @@ module _ (m e b : ℕ) (t : List ℕ) (ok : Rule m e b t) (long : pairs_at e ≤
           spare = x.rest;
           cell = rw x.cell (within (choice.cell i) (choice.within i h p));
           place = came (p, sym x.cell) (rw (x.depth, x.cell) (choice.new i h p)) (λ q. ap depth_of (choice.free i h p));
-          value = new-value i h p;
+          value = new_value i h p;
         }
 
     -- ---- the others
@@ -176,9 +176,9 @@ module _ (m e b : ℕ) (t : List ℕ) (ok : Rule m e b t) (long : pairs_at e ≤
         (λ y. rw (y, q))
 
     -- which changes nothing where it does not rise
-    same-label : (i : ℕ) → rises (live t) rs (word1 e t i) ≡ false
+    same_label : (i : ℕ) → rises (live t) rs (word1 e t i) ≡ false
         → cond (inside i) (raised (label_numbered (label_for rs (cell_of (word1 e t i)))) (label_of (word1 e t i))) (label_of (word1 e t i)) ≡ label_of (word1 e t i)
-    same-label i r =
+    same_label i r =
         by_bool (inside i)
         (λ y.
         let s = and_split (eqb (depth_of (word1 e t i)) (live t)) (named rs (cell_of (word1 e t i))) y in
@@ -205,15 +205,15 @@ module _ (m e b : ℕ) (t : List ℕ) (ok : Rule m e b t) (long : pairs_at e ≤
     fate i h =
         let w = word1 e t i in
         by_bool (choice.taken i)
-        (λ p. rw p (fills {x = word i} {v = choice.body i} (new-full i h p)))
+        (λ p. rw p (fills {x = word i} {v = choice.body i} (new_full i h p)))
         (λ p.
         by_bool (rises (live t) rs w)
         (λ r.
         let f = rises_facts (live t) rs w r in
         rw (p, r)
         (raises (rw f.depth inner) f.old (λ u q.
-        stays i read_write u (risen i read_only q ∙ rw (eq-eqb (depth_of w) (live t) f.depth, label-named (cell_of w) rs f.label, eq-eqb (label_for rs (cell_of w)) 1 f.label)))))
-        (λ r. rw (p, r) (keeps (λ u q. stays i (label_of w) u (risen i (label_of w) q ∙ rw (same-label i r))))))
+        stays i read_write u (risen i read_only q ∙ rw (eq-eqb (depth_of w) (live t) f.depth, label_named (cell_of w) rs f.label, eq-eqb (label_for rs (cell_of w)) 1 f.label)))))
+        (λ r. rw (p, r) (keeps (λ u q. stays i (label_of w) u (risen i (label_of w) q ∙ rw (same_label i r))))))
 
     -- ---- all of them
 
@@ -246,14 +246,14 @@ module _ (m e b : ℕ) (t : List ℕ) (ok : Rule m e b t) (long : pairs_at e ≤
           bodies = λ i j v h g p q. choice.bodies i j h g p.1 q.1 p.0 q.0 (p.2 ∙ sym q.2);
         }
 
-    pub state-after : state_in e (stores (entry_changes e (chosen choice)) t) new ≡ add_ranges memory rs (state_in e t old)
-    state-after =
+    pub state_after : state_in e (stores (entry_changes e (chosen choice)) t) new ≡ add_ranges memory rs (state_in e t old)
+    state_after =
         let B = becomes in
-        innermost-state e t (stores (entry_changes e (chosen choice)) t) old new B.head.live B.head.next B.head.kept
+        innermost_state e t (stores (entry_changes e (chosen choice)) t) old new B.head.live B.head.next B.head.kept
         (λ d c. cond (named rs c) (added (label_numbered (label_for rs c)) (kind_numbered (kind_for rs c) (rule_for rs c)) (given c) (d.holds c)) (d.holds c))
-        (λ x c h. becomes-held B (suc x) c (omega arith) h)
+        (λ x c h. becomes_held B (suc x) c (omega arith) h)
         ∙ sym (ranges_state memory rs (state_in e t old))
 
   -- any bytes do for the rule
-  pub rule-after : Rule m e b (stores (entry_changes e (chosen choice)) t)
-  rule-after = becomes-rule (becomes [] [] [] (λ i c. refl) (λ i h p z. simp drop-nil))
+  pub rule_after : Rule m e b (stores (entry_changes e (chosen choice)) t)
+  rule_after = becomes_rule (becomes [] [] [] (λ i c. refl) (λ i h p z. simp drop-nil))

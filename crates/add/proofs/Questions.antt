@@ -14,7 +14,7 @@ use Rattle.words.proofs.Scan.{by_bool, and_split, and_join, true≢, all_at, all
 use Rattle.patterns.specs.Pattern.{max_rule}
 use Rattle.ranges.specs.declared.Range.{Range}
 use Rattle.ranges.specs.Ranges.{covers, named, kind_for}
-use Rattle.ranges.proofs.Ranges.{named-append, kind-append}
+use Rattle.ranges.proofs.Ranges.{named_append, kind_append}
 use Rattle.table.specs.Entry.{live, holds_in, parent_has}
 use Rattle.table.specs.Marks.{Marked}
 use Rattle.table.proofs.Marks.{marked_holds}
@@ -23,15 +23,15 @@ use Rattle.model.specs.State.{State}
 use Rattle.model.specs.Answer.{ask, or_else}
 use Rattle.model.specs.Holdings.{inner_holding, outer_holding, is_held, is_via, is_some, rule_of, held_by_rule, value_or, range_ok, kind_numbered}
 use Rattle.model.specs.Holdings.{parent_holds, parent_same, rule_fits, parent_plain, add_range, add_ranges, range_checks, list_checks}
-use Rattle.model.proofs.Ranged.{checks_append, held_after, outer-after}
+use Rattle.model.proofs.Ranged.{checks_append, held_after, outer_after}
 use Rattle.store.specs.State.{state_in}
-use Rattle.store.proofs.Domains.{domains-count}
+use Rattle.store.proofs.Domains.{domains_count}
 use Rattle.store.proofs.Checks.{or_else_go, or_else_stop}
 use Rattle.add.specs.Add.{is_new, is_new_copy}
 use Rattle.add.specs.Walking.{new_to, fresh_to, parent_check, rule_check, value_check, part_check, copies_of, Counted}
 use Rattle.add.proofs.Asking.{or_right, covered, agreed, plain, fitting}
-use Rattle.add.proofs.Numbers.{inner-held, outer-held, outer-value, outer_ruled}
-use Rattle.add.proofs.Counting.{count-range}
+use Rattle.add.proofs.Numbers.{inner_held, outer_held, outer_value, outer_ruled}
+use Rattle.add.proofs.Counting.{count_range}
 
 -- a question more on both sides, where the yes of the first helps the rest
 ask_both : (a b : Bool) (q x y : ℕ) → a ≡ b → (a ≡ true → x ≡ y) → ask a q x ≡ ask b q y
@@ -54,62 +54,62 @@ module _ (memory : List ℕ) (m e b : ℕ) (t bodies : List ℕ) (ok : Rule m e 
   s = add_ranges memory rs (state_in e t bodies)
 
   some : 1 ≤ length (state_in e t bodies).domains
-  some = omega (arith, domains-count e t bodies)
+  some = omega (arith, domains_count e t bodies)
 
-  new-at : (c : ℕ) → not (new_to e t rs c) ≡ is_held (inner_holding (add_ranges memory rs (state_in e t bodies)) c)
-  new-at c =
+  new_at : (c : ℕ) → not (new_to e t rs c) ≡ is_held (inner_holding (add_ranges memory rs (state_in e t bodies)) c)
+  new_at c =
       neither (holds_in e t (live t) c) (named rs c)
-      ∙ ap (λ (x : Bool). x || named rs c) (sym (inner-held e t bodies inner c))
+      ∙ ap (λ (x : Bool). x || named rs c) (sym (inner_held e t bodies inner c))
       ∙ sym (held_after memory rs (state_in e t bodies) some c)
 
-  outer-at : (c : ℕ) → is_held (outer_holding (add_ranges memory rs (state_in e t bodies)) c) ≡ parent_has e t (live t) c
-  outer-at c = ap is_held (outer-after memory rs (state_in e t bodies) c) ∙ outer-held e t bodies inner c
+  outer_at : (c : ℕ) → is_held (outer_holding (add_ranges memory rs (state_in e t bodies)) c) ≡ parent_has e t (live t) c
+  outer_at c = ap is_held (outer_after memory rs (state_in e t bodies) c) ∙ outer_held e t bodies inner c
 
   module _ (base n : ℕ) where
     abbrev new : ℕ → Bool
     new = new_to e t rs
 
-    same-11 : all n (covered memory bodies e t (new_to e t rs) base n) ≡ parent_holds base n s
-    same-11 = all_ext n (covered memory bodies e t (new_to e t rs) base n) _ (λ j q. rw (new-at (base + j), outer-at (base + j)))
+    same_11 : all n (covered memory bodies e t (new_to e t rs) base n) ≡ parent_holds base n s
+    same_11 = all_ext n (covered memory bodies e t (new_to e t rs) base n) _ (λ j q. rw (new_at (base + j), outer_at (base + j)))
 
-    same-18 : (u : ℕ) → (leb u max_rule && all n (fitting memory (new_to e t rs) base n u)) ≡ rule_fits memory u base n s
-    same-18 u = ap (λ (x : Bool). leb u max_rule && x) (all_ext n (fitting memory (new_to e t rs) base n u) _ (λ j q. rw (new-at (base + j))))
+    same_18 : (u : ℕ) → (leb u max_rule && all n (fitting memory (new_to e t rs) base n u)) ≡ rule_fits memory u base n s
+    same_18 u = ap (λ (x : Bool). leb u max_rule && x) (all_ext n (fitting memory (new_to e t rs) base n u) _ (λ j q. rw (new_at (base + j))))
 
     -- of cells that are new the parent's value is asked only where the parent holds them
     module _ (j : ℕ) (c : covered memory bodies e t (new_to e t rs) base n j ≡ true) where
-      has-parent : not (new_to e t rs (base + j)) ≡ false → parent_has e t (live t) (base + j) ≡ true
-      has-parent p = or_right (not (new_to e t rs (base + j))) (parent_has e t (live t) (base + j)) c p
+      has_parent_lem : not (new_to e t rs (base + j)) ≡ false → parent_has e t (live t) (base + j) ≡ true
+      has_parent_lem p = or_right (not (new_to e t rs (base + j))) (parent_has e t (live t) (base + j)) c p
 
       agrees_at : agreed memory bodies e t (new_to e t rs) base n j
           ≡ (is_held (inner_holding s (base + j)) || same_cell (value_or (cell_bytes memory (base + j)) (outer_holding s (base + j))) (cell_bytes memory (base + j)))
       agrees_at =
-          rw (← (new-at (base + j)), outer-after memory rs (state_in e t bodies) (base + j))
+          rw (← (new_at (base + j)), outer_after memory rs (state_in e t bodies) (base + j))
           (by_bool (not (new_to e t rs (base + j)))
           (λ p. rw p)
-          (λ p. rw (p, outer-value e t bodies inner (base + j) (cell_bytes memory (base + j)) (has-parent p))))
+          (λ p. rw (p, outer_value e t bodies inner (base + j) (cell_bytes memory (base + j)) (has_parent_lem p))))
 
       plain_at : plain memory bodies e t (new_to e t rs) base n j
           ≡ (is_held (inner_holding s (base + j)) || not (held_by_rule (outer_holding s (base + j))))
       plain_at =
-          rw (← (new-at (base + j)), outer-after memory rs (state_in e t bodies) (base + j))
+          rw (← (new_at (base + j)), outer_after memory rs (state_in e t bodies) (base + j))
           (by_bool (not (new_to e t rs (base + j)))
           (λ p. rw p)
-          (λ p. rw (p, outer_ruled m e b t ok bodies inner (base + j) (has-parent p))))
+          (λ p. rw (p, outer_ruled m e b t ok bodies inner (base + j) (has_parent_lem p))))
 
     -- by the kind
-    abbrev onValues : (k u : ℕ) → ℕ
-    onValues k u =
+    abbrev on_values : (k u : ℕ) → ℕ
+    on_values k u =
         let kind = kind_numbered k u in
         ask (not (is_via kind) || parent_holds base n s) 11
         (ask (not (is_via kind) || parent_same memory base n s) 12
         (ask (not (is_some (rule_of kind)) || rule_fits memory u base n s) 18
         (ask (not (is_via kind) || parent_plain base n s) 19 0)))
 
-    values-is : (k u : ℕ) → k ≤ 2 → value_check memory bodies e t (new_to e t rs) base n k u ≡ onValues k u
+    values_is : (k u : ℕ) → k ≤ 2 → value_check memory bodies e t (new_to e t rs) base n k u ≡ on_values k u
     unfolding parent_check rule_check
-    values-is zero u small = refl
-    values-is (suc zero) u small =
-        ask_both (all n (covered memory bodies e t (new_to e t rs) base n)) (parent_holds base n s) 11 _ _ same-11
+    values_is zero u small = refl
+    values_is (suc zero) u small =
+        ask_both (all n (covered memory bodies e t (new_to e t rs) base n)) (parent_holds base n s) 11 _ _ same_11
         (λ q11.
         ask_both (all n (agreed memory bodies e t (new_to e t rs) base n)) (parent_same memory base n s) 12 _ _
         (all_ext n _ _ (λ j q. agrees_at j (all_at n (covered memory bodies e t (new_to e t rs) base n) q11 j q)))
@@ -117,18 +117,18 @@ module _ (memory : List ℕ) (m e b : ℕ) (t bodies : List ℕ) (ok : Rule m e 
         ask_both (all n (plain memory bodies e t (new_to e t rs) base n)) (parent_plain base n s) 19 0 0
         (all_ext n _ _ (λ j q. plain_at j (all_at n (covered memory bodies e t (new_to e t rs) base n) q11 j q)))
         (λ q19. refl)))
-    values-is (suc (suc zero)) u small = ask_both _ (rule_fits memory u base n s) 18 0 0 (same-18 u) (λ q. refl)
-    values-is (suc (suc (suc k))) u small = absurd (omega arith)
+    values_is (suc (suc zero)) u small = ask_both _ (rule_fits memory u base n s) 18 0 0 (same_18 u) (λ q. refl)
+    values_is (suc (suc (suc k))) u small = absurd (omega arith)
 
   -- all the questions on a range
-  pub part-is : (r : Range) → m ≡ cells_of (length memory) → part_check memory bodies e t (new_to e t rs) r.first r.count r.kind r.rule r.label
+  pub part_is : (r : Range) → m ≡ cells_of (length memory) → part_check memory bodies e t (new_to e t rs) r.first r.count r.kind r.rule r.label
       ≡ range_checks m memory r (add_ranges memory rs (state_in e t bodies)) 0
-  part-is r q =
+  part_is r q =
       rw (← q)
       (ask_both (leb r.kind 2 && leb r.label 1) (leb r.kind 2 && leb r.label 1) 7 _ _ refl
       (λ q7.
       ask_both (range_ok m r.first r.count) (range_ok m r.first r.count) 8 _ _ refl
-      (λ q8. values-is r.first r.count r.kind r.rule (leb-true r.kind 2 (and_split (leb r.kind 2) (leb r.label 1) q7).0))))
+      (λ q8. values_is r.first r.count r.kind r.rule (leb-true r.kind 2 (and_split (leb r.kind 2) (leb r.label 1) q7).0))))
 
 -- ---- range by range
 
@@ -198,12 +198,12 @@ module _ (m e : ℕ) (t : List ℕ) (rs : List Range) (r : Range) (fits : r.firs
       never false h = true≢ h refl
   apart false y l p q = true≢ p refl
 
-  new-more : count m (is_new e t (rs ++ r ∷ [])) ≡ count m (is_new e t rs) + count r.count (λ j. new_to e t rs (r.first + j))
-  new-more =
+  new_more : count m (is_new e t (rs ++ r ∷ [])) ≡ count m (is_new e t rs) + count r.count (λ j. new_to e t rs (r.first + j))
+  new_more =
       count_ext m (is_new e t (rs ++ r ∷ [])) (λ c. is_new e t rs c || (covers r c && new_to e t rs c))
-      (λ c l. rw (named-append c rs (r ∷ [])) (one_more (named rs c) (covers r c) (lack c)))
+      (λ c l. rw (named_append c rs (r ∷ [])) (one_more (named rs c) (covers r c) (lack c)))
       ∙ count_or m (is_new e t rs) (λ c. covers r c && new_to e t rs c) (λ c l p q. apart (named rs c) (covers r c) (lack c) p q)
-      ∙ ap (λ (x : ℕ). count m (is_new e t rs) + x) (count-range r.first (new_to e t rs) m r.count fits)
+      ∙ ap (λ (x : ℕ). count m (is_new e t rs) + x) (count_range r.first (new_to e t rs) m r.count fits)
 
   -- the same of copies: those of the range are copies if it is of kind 0
   copies_at : (x y l a k : Bool) → (((x || (y || false)) && l) && cond x a (cond y k true)) ≡ (((x && l) && a) || (y && ((l && not x) && k)))
@@ -215,13 +215,13 @@ module _ (m e : ℕ) (t : List ℕ) (rs : List Range) (r : Range) (fits : r.firs
   copies_at false true false a k = refl
   copies_at false false l a k = refl
 
-  kind-is : (x y : Bool) (k h : ℕ) → eqb (cond x k (cond y h 0)) 0 ≡ cond x (eqb k 0) (cond y (eqb h 0) true)
-  kind-is true y k h = refl
-  kind-is false true k h = refl
-  kind-is false false k h = refl
+  kind_is : (x y : Bool) (k h : ℕ) → eqb (cond x k (cond y h 0)) 0 ≡ cond x (eqb k 0) (cond y (eqb h 0) true)
+  kind_is true y k h = refl
+  kind_is false true k h = refl
+  kind_is false false k h = refl
 
-  apart-copies : (x y l a k : Bool) → ((x && l) && a) ≡ true → (y && ((l && not x) && k)) ≡ true → ⊥
-  apart-copies x y l a k p q =
+  apart_copies : (x y l a k : Bool) → ((x && l) && a) ≡ true → (y && ((l && not x) && k)) ≡ true → ⊥
+  apart_copies x y l a k p q =
       apart x y l (and_split (x && l) a p).0 (and_join y (l && not x) (and_split y ((l && not x) && k) q).0 (and_split (l && not x) k (and_split y ((l && not x) && k) q).1).0)
 
   none_of : (n : ℕ) (f : ℕ → Bool) (k : ℕ) → count n (λ j. f j && eqb k 0) ≡ copies_of k (count n f)
@@ -230,23 +230,23 @@ module _ (m e : ℕ) (t : List ℕ) (rs : List Range) (r : Range) (fits : r.firs
       (λ q. rw q (count_ext n (λ j. f j && true) f (λ j l. by_bool (f j) (λ y. rw y) (λ y. rw y))))
       (λ q. rw q (count_none n (λ j. f j && false) (λ j l. by_bool (f j) (λ y. rw y) (λ y. rw y))))
 
-  copies-more : count m (is_new_copy e t (rs ++ r ∷ [])) ≡ count m (is_new_copy e t rs) + copies_of r.kind (count r.count (λ j. new_to e t rs (r.first + j)))
-  copies-more =
+  copies_more : count m (is_new_copy e t (rs ++ r ∷ [])) ≡ count m (is_new_copy e t rs) + copies_of r.kind (count r.count (λ j. new_to e t rs (r.first + j)))
+  copies_more =
       count_ext m (is_new_copy e t (rs ++ r ∷ [])) (λ c. is_new_copy e t rs c || (covers r c && (new_to e t rs c && eqb r.kind 0)))
       (λ c l.
-      rw (named-append c rs (r ∷ []), kind-append c rs (r ∷ []), kind-is (named rs c) (covers r c) (kind_for rs c) r.kind)
+      rw (named_append c rs (r ∷ []), kind_append c rs (r ∷ []), kind_is (named rs c) (covers r c) (kind_for rs c) r.kind)
       (copies_at (named rs c) (covers r c) (lack c) (eqb (kind_for rs c) 0) (eqb r.kind 0)))
       ∙ count_or m (is_new_copy e t rs) (λ c. covers r c && (new_to e t rs c && eqb r.kind 0))
-      (λ c l p q. apart-copies (named rs c) (covers r c) (lack c) (eqb (kind_for rs c) 0) (eqb r.kind 0) p q)
+      (λ c l p q. apart_copies (named rs c) (covers r c) (lack c) (eqb (kind_for rs c) 0) (eqb r.kind 0) p q)
       ∙ ap (λ (x : ℕ). count m (is_new_copy e t rs) + x)
-      (count-range r.first (λ c. new_to e t rs c && eqb r.kind 0) m r.count fits ∙ none_of r.count (λ j. new_to e t rs (r.first + j)) r.kind)
+      (count_range r.first (λ c. new_to e t rs c && eqb r.kind 0) m r.count fits ∙ none_of r.count (λ j. new_to e t rs (r.first + j)) r.kind)
 
   -- one range more
-  pub counted-more : (new more x : ℕ) → Counted m e t rs new more → x ≡ count r.count (λ j. new_to e t rs (r.first + j))
+  pub counted_more : (new more x : ℕ) → Counted m e t rs new more → x ≡ count r.count (λ j. new_to e t rs (r.first + j))
       → Counted m e t (rs ++ r ∷ []) (new + x) (more + copies_of r.kind x)
-  counted-more new more x c q = record {
-    cells = (λ i. c.cells i + q i) ∙ sym new-more;
-    copies = (λ i. c.copies i + copies_of r.kind (q i)) ∙ sym copies-more;
+  counted_more new more x c q = record {
+    cells = (λ i. c.cells i + q i) ∙ sym new_more;
+    copies = (λ i. c.copies i + copies_of r.kind (q i)) ∙ sym copies_more;
   }
 
 pub counted_none : (m e : ℕ) (t : List ℕ) → Counted m e t [] 0 0

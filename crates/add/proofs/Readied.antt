@@ -19,13 +19,13 @@ use Rattle.store.specs.Checks.{store_check, lent}
 use Rattle.store.specs.State.{state_in, state_of}
 use Rattle.store.specs.Means.{room_of}
 use Rattle.store.proofs.Checks.{ask_yes, ask_rest, or_else_both}
-use Rattle.store.proofs.Domains.{domains-count}
-use Rattle.store.proofs.InUse.{entries-in-use, copies-in-use}
-use Rattle.store.proofs.Raw.{raw-rule, raw-state}
+use Rattle.store.proofs.Domains.{domains_count}
+use Rattle.store.proofs.InUse.{entries_in_use, copies_in_use_lem}
+use Rattle.store.proofs.Raw.{raw_rule, raw_state}
 use Rattle.add.specs.Add.{is_new, add_check}
 use Rattle.add.specs.Ready.{Ready}
-use Rattle.add.proofs.Chosen.{new-facts}
-use Rattle.add.proofs.Numbers.{inner-held, outer-held, outer_ruled, newly-is, bodies-is}
+use Rattle.add.proofs.Chosen.{new_facts}
+use Rattle.add.proofs.Numbers.{inner_held, outer_held, outer_ruled, newly_is, bodies_is}
 
 module _ (memory bodies t : List ℕ) (h : ℕ) (rs : List Range) where
   abbrev m : ℕ
@@ -49,7 +49,7 @@ module _ (memory bodies t : List ℕ) (h : ℕ) (rs : List Range) where
 
   module _ (good : store_check (lent (length memory) (length bodies) t) ≡ 0) (a : AddAsked room memory h rs s) where
     inner : 1 ≤ live t
-    inner = omega (arith, domains-count e t bodies, a.live)
+    inner = omega (arith, domains_count e t bodies, a.live)
 
     cell : (c : ℕ) → named rs c ≡ true → Asked m memory rs s c
     cell c p = asked_cell m memory rs s _ c a.live a.ranges p
@@ -57,26 +57,26 @@ module _ (memory bodies t : List ℕ) (h : ℕ) (rs : List Range) where
     -- of a cell that is new
     module _ (c : ℕ) (new : is_new e t rs c ≡ true) where
       names : named rs c ≡ true
-      names = (new-facts e t rs c new).0
+      names = (new_facts e t rs c new).0
 
       lacks : is_held (inner_holding s c) ≡ false
-      lacks = inner-held e t bodies inner c ∙ (new-facts e t rs c new).1
+      lacks = inner_held e t bodies inner c ∙ (new_facts e t rs c new).1
 
       has : kind_for rs c ≡ 1 → parent_has e t (live t) c ≡ true
-      has z = sym (outer-held e t bodies inner c) ∙ (cell c names).rests lacks z
+      has z = sym (outer_held e t bodies inner c) ∙ (cell c names).rests lacks z
 
-    slots-fit : live_entries m s + newly_held m s after ≤ e
-    slots-fit = leb-true (live_entries m s + newly_held m s after) e (ask_yes (leb (live_entries m s + newly_held m s after) e) 16 _ (omega arith) a.fits)
+    slots_fit : live_entries m s + newly_held m s after ≤ e
+    slots_fit = leb-true (live_entries m s + newly_held m s after) e (ask_yes (leb (live_entries m s + newly_held m s after) e) 16 _ (omega arith) a.fits)
 
-    bodies-fit : copies_in_use m s + new_bodies m s after ≤ b
-    bodies-fit =
+    bodies_fit : copies_in_use m s + new_bodies m s after ≤ b
+    bodies_fit =
         leb-true (copies_in_use m s + new_bodies m s after) b
         (ask_yes (leb (copies_in_use m s + new_bodies m s after) b) 17 0 (omega arith)
         (ask_rest (leb (live_entries m s + newly_held m s after) e) 16 _ (omega arith) a.fits))
 
-    asked-ready : Ready memory bodies t rs
-    asked-ready =
-        let ok = raw-rule memory bodies t good in
+    asked_ready : Ready memory bodies t rs
+    asked_ready =
+        let ok = raw_rule memory bodies t good in
         record {
           store = good;
           inner = inner;
@@ -85,13 +85,13 @@ module _ (memory bodies t : List ℕ) (h : ℕ) (rs : List Range) where
           rests = has;
           plain = λ c new z. sym (outer_ruled m e b t ok bodies inner c (has c new z)) ∙ (cell c (names c new)).plain (lacks c new) z;
           rule = λ c new z. (cell c (names c new)).rule (lacks c new) z;
-          slots = omega (arith, slots-fit, entries-in-use m e b t ok bodies, newly-is e t bodies inner m memory rs);
-          places = omega (arith, bodies-fit, copies-in-use m e b t ok bodies, bodies-is e t bodies inner m memory rs);
+          slots = omega (arith, slots_fit, entries_in_use m e b t ok bodies, newly_is e t bodies inner m memory rs);
+          places = omega (arith, bodies_fit, copies_in_use_lem m e b t ok bodies, bodies_is e t bodies inner m memory rs);
         }
 
-  pub add-ready : add_check (buffers memory bodies t) h rs ≡ 0 → Ready memory bodies t rs
+  pub add_ready : add_check (buffers memory bodies t) h rs ≡ 0 → Ready memory bodies t rs
   unfolding add_check
-  add-ready z =
+  add_ready z =
       let both = or_else_both (store_check (lent (length memory) (length bodies) t)) (add_checks room memory h rs (state_of (buffers memory bodies t))) z in
-      asked-ready both.0
-      (add_asked room memory h rs s (subst (λ (x : State). add_checks room memory h rs x ≡ 0) (raw-state memory bodies t both.0) both.1))
+      asked_ready both.0
+      (add_asked room memory h rs s (subst (λ (x : State). add_checks room memory h rs x ≡ 0) (raw_state memory bodies t both.0) both.1))

@@ -15,9 +15,9 @@ use Rattle.table.specs.Marks.{FreeRun}
 use Rattle.table.specs.Changes.{Change, put}
 use Rattle.search.specs.Free.{slot_free, free_from}
 use Rattle.search.proofs.Counts.{count_front}
-use Rattle.search.proofs.Free.{free-below, free-passed, free-holds, free-rank}
+use Rattle.search.proofs.Free.{free_below, free_passed, free_holds, free_rank}
 use Rattle.changes.specs.Staged.{but, Stages}
-use Rattle.changes.proofs.Staging.{stages-but, stages-ext}
+use Rattle.changes.proofs.Staging.{stages_but, stages_ext}
 use Rattle.advance.specs.Notes.{gives_it, lacks_at, GivenOne, give_to}
 
 -- ---- how many: free entries give no cell outwards, so that no pass need look at them
@@ -39,34 +39,34 @@ module _ (e : ℕ) (t seen places : List ℕ) (n : ℕ) where
   abbrev free : ℕ → Bool
   free = slot_free e t
 
-  pub give-none : (other : ℕ → Change) (i : ℕ) → give_to e t seen places n 0 other i ≡ other i
+  pub give_none : (other : ℕ → Change) (i : ℕ) → give_to e t seen places n 0 other i ≡ other i
   unfolding give_to count
-  give-none other i = by_bool (free i) (λ y. rw (y, le-ltb (count i free) 0 (omega arith))) (λ y. rw y)
+  give_none other i = by_bool (free i) (λ y. rw (y, le-ltb (count i free) 0 (omega arith))) (λ y. rw y)
 
   -- one entry more, whose cell the parent has
-  give-same : (r : ℕ) → lacks_at e t seen places r ≡ false → (other : ℕ → Change) (i : ℕ) → give_to e t seen places n r other i ≡ give_to e t seen places n (r + 1) other i
+  give_same : (r : ℕ) → lacks_at e t seen places r ≡ false → (other : ℕ → Change) (i : ℕ) → give_to e t seen places n r other i ≡ give_to e t seen places n (r + 1) other i
   unfolding give_to
-  give-same r has other i = let same : count (r + 1) lacks ≡ count r lacks = count_more r lacks ∙ rw has in rw same
+  give_same r has other i = let same : count (r + 1) lacks ≡ count r lacks = count_more r lacks ∙ rw has in rw same
 
   -- one entry more, whose cell the parent lacks: it gets a free slot, before which as many are free as cells were given
-  give-more : (r : ℕ) → r < n → lacks_at e t seen places r ≡ true → (slot : ℕ) → slot_free e t slot ≡ true → count slot (slot_free e t) ≡ count r (lacks_at e t seen places)
+  give_more : (r : ℕ) → r < n → lacks_at e t seen places r ≡ true → (slot : ℕ) → slot_free e t slot ≡ true → count slot (slot_free e t) ≡ count r (lacks_at e t seen places)
       → (other : ℕ → Change) (j : ℕ)
       → but (give_to e t seen places n r other) slot (put (outward (word1 e t (get_or places r 0))) (word2 e t (get_or places r 0))) j ≡ give_to e t seen places n (r + 1) other j
   unfolding give_to
-  give-more r here goes slot is_free rank other j =
+  give_more r here goes slot is_free rank other j =
       by_bool (eqb j slot)
       (λ z. rw (z, eqb-true j slot z, is_free, rank, nth_of n lacks r here goes, lt-ltb (count r lacks) (count (r + 1) lacks) (omega (arith, more))))
       (λ z.
       rw z
       (by_bool (free j)
-      (λ y. rw (y, same-side (count j free) (λ q. eqb-false j slot z (same_rank free j slot y is_free (q ∙ sym rank)))))
+      (λ y. rw (y, same_side (count j free) (λ q. eqb-false j slot z (same_rank free j slot y is_free (q ∙ sym rank)))))
       (λ y. rw y)))
     where
       more : count (r + 1) lacks ≡ count r lacks + 1
       more = count_more r lacks ∙ rw goes
 
-      same-side : (k : ℕ) → (k ≡ count r lacks → ⊥) → ltb k (count r lacks) ≡ ltb k (count (r + 1) lacks)
-      same-side k ne =
+      same_side : (k : ℕ) → (k ≡ count r lacks → ⊥) → ltb k (count r lacks) ≡ ltb k (count (r + 1) lacks)
+      same_side k ne =
           by_le (count r lacks) k
           (λ h. le-ltb k (count r lacks) h ∙ sym (le-ltb k (count (r + 1) lacks) (omega (arith, ne, more))))
           (λ h. lt-ltb k (count r lacks) h ∙ sym (lt-ltb k (count (r + 1) lacks) (omega (arith, more))))
@@ -79,25 +79,25 @@ module _ (e : ℕ) (t seen places : List ℕ) (n : ℕ) where
     left : lacks r ≡ true → count r lacks < count e free
     left y = omega (arith, count_below lacks r n here y, enough)
 
-    pub give-below : lacks_at e t seen places r ≡ true → free_from e t at < e
-    give-below y = free-below e t at (count r lacks) low passed (left y)
+    pub give_below : lacks_at e t seen places r ≡ true → free_from e t at < e
+    give_below y = free_below e t at (count r lacks) low passed (left y)
 
     module _ {next : ℕ} {words bits words' bits' : List ℕ} (one : GivenOne e t (lacks_at e t seen places r) (get_or places r 0) at next words bits words' bits') where
       pub turn_low : next ≤ e
-      turn_low = by_bool (lacks r) (λ y. omega (arith, one.on y, give-below y)) (λ y. omega (arith, (one.kept y).0, low))
+      turn_low = by_bool (lacks r) (λ y. omega (arith, one.on y, give_below y)) (λ y. omega (arith, (one.kept y).0, low))
 
-      pub turn-passed : count next (slot_free e t) ≡ count (r + 1) (lacks_at e t seen places)
-      turn-passed =
+      pub turn_passed : count next (slot_free e t) ≡ count (r + 1) (lacks_at e t seen places)
+      turn_passed =
           by_bool (lacks r)
-          (λ y. rw (one.on y, free-passed e t at (count r lacks) low passed (left y), count_more r lacks, y))
+          (λ y. rw (one.on y, free_passed e t at (count r lacks) low passed (left y), count_more r lacks, y))
           (λ y. rw ((one.kept y).0, passed, count_more r lacks, y))
 
-      pub turn-stages : (other : ℕ → Change) → Stages e (give_to e t seen places n r other) words bits → Stages e (give_to e t seen places n (r + 1) other) words' bits'
-      turn-stages other old =
+      pub turn_stages : (other : ℕ → Change) → Stages e (give_to e t seen places n r other) words bits → Stages e (give_to e t seen places n (r + 1) other) words' bits'
+      turn_stages other old =
           by_bool (lacks r)
           (λ y.
-          stages-ext (stages-but old (give-below y) (one.put y))
-          (λ j l. give-more r here y (free_from e t at) (free-holds e t at (count r lacks) low passed (left y)) (free-rank e t at (count r lacks) low passed (left y)) other j))
+          stages_ext (stages_but old (give_below y) (one.put y))
+          (λ j l. give_more r here y (free_from e t at) (free_holds e t at (count r lacks) low passed (left y)) (free_rank e t at (count r lacks) low passed (left y)) other j))
           (λ y.
           let k = one.kept y in
-          rw (k.1, k.2) (stages-ext old (λ j l. give-same r y other j)))
+          rw (k.1, k.2) (stages_ext old (λ j l. give_same r y other j)))

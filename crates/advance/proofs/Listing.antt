@@ -16,7 +16,7 @@ use Rattle.words.specs.Cells.{cell_plan}
 use Rattle.words.proofs.Scan.{by_bool, by_le, and_split, true≢}
 use Rattle.words.proofs.Nth.{same_rank}
 use Rattle.words.proofs.Plans.{length_cell_plan}
-use Rattle.words.proofs.Gather.{gather-length}
+use Rattle.words.proofs.Gather.{gather_length}
 use Rattle.table.specs.Entry.{live, word1, depth_of, as_copy}
 use Rattle.table.specs.Marks.{CellsOnce, cell_in}
 use Rattle.table.specs.Changes.{keep, put}
@@ -29,8 +29,8 @@ use Rattle.advance.specs.Notes.{list_slot, ListedSlots, rank_of, InOrder, change
 -- ---- the list is made
 
 module _ (e : ℕ) (t : List ℕ) (n : ℕ) (low : 1 ≤ n) (f : ℕ → Bool) where
-  pub listed-none : (places : List ℕ) → ListedSlots e t n f 0 places
-  listed-none places = record { place = λ i l. absurd (not-suc-le-zero l) }
+  pub listed_none : (places : List ℕ) → ListedSlots e t n f 0 places
+  listed_none places = record { place = λ i l. absurd (not-suc-le-zero l) }
 
   -- one entry more: no entry before it has its depth and its cell
   pub listed_more : (places : List ℕ) (k : ℕ) → CellsOnce e t e → k < e → (turns n f (word1 e t k) ≡ true → rank_of e t f k < length places)
@@ -82,7 +82,7 @@ pub plans_length : (memory : List ℕ) (from to : ℕ → ℕ) (r : ℕ) → 64 
 plans_length memory from to zero = refl
 plans_length memory from to (suc r) =
     let f : ℕ → List Store = λ k. cell_plan memory (from k) (to k) in
-    let s = gather-length f r (64 * r) 64 (plans_length memory from to r) (sym (length_cell_plan memory (from r) (to r))) in
+    let s = gather_length f r (64 * r) 64 (plans_length memory from to r) (sym (length_cell_plan memory (from r) (to r))) in
     let z : 64 * suc r ≡ 64 * r + 64 = omega arith in
     let q : r + 1 ≡ suc r = omega arith in
     z ∙ s ∙ ap (λ (x : ℕ). length (gather x f)) q
@@ -90,18 +90,18 @@ plans_length memory from to (suc r) =
 -- ---- what is staged on the way
 
 module _ (e b : ℕ) (t used : List ℕ) (f : ℕ → Bool) where
-  pub change-none : (i : ℕ) → change_to e b t used f 0 i ≡ keep
+  pub change_none : (i : ℕ) → change_to e b t used f 0 i ≡ keep
   unfolding change_to
-  change-none i = rw (le-ltb (rank_of e t f i) 0 (omega arith))
+  change_none i = rw (le-ltb (rank_of e t f i) 0 (omega arith))
 
   -- one entry more
   module _ (n r : ℕ) (places : List ℕ) (list : InOrder e t f n places) (here : r < n) where
     abbrev slot : ℕ
     slot = get_or places r 0
 
-    pub change-more : (j : ℕ) → j < e → but (change_to e b t used f r) (get_or places r 0) (put (as_copy (word1 e t (get_or places r 0))) (nth b (unmarked used) r)) j ≡ change_to e b t used f (r + 1) j
+    pub change_more : (j : ℕ) → j < e → but (change_to e b t used f r) (get_or places r 0) (put (as_copy (word1 e t (get_or places r 0))) (nth b (unmarked used) r)) j ≡ change_to e b t used f (r + 1) j
     unfolding change_to lowest_free
-    change-more j l =
+    change_more j l =
         by_bool (eqb j slot)
         (λ z.
         let q = eqb-true j slot z in
@@ -111,11 +111,11 @@ module _ (e b : ℕ) (t used : List ℕ) (f : ℕ → Bool) where
         (by_bool (turns (live t) f (word1 e t j))
         (λ y.
         let other : rank_of e t f j ≡ r → ⊥ = λ q. eqb-false j slot z (sym (list.place j l y) ∙ ap (λ (x : ℕ). get_or places x 0) q) in
-        rw (same-side (rank_of e t f j) other))
+        rw (same_side (rank_of e t f j) other))
         (λ y. rw y (either (ltb (rank_of e t f j) r) (ltb (rank_of e t f j) (r + 1))))))
       where
-        same-side : (k : ℕ) → (k ≡ r → ⊥) → ltb k r ≡ ltb k (r + 1)
-        same-side k ne = by_le r k (λ h. le-ltb k r h ∙ sym (le-ltb k (r + 1) (omega (arith, ne)))) (λ h. lt-ltb k r h ∙ sym (lt-ltb k (r + 1) (omega arith)))
+        same_side : (k : ℕ) → (k ≡ r → ⊥) → ltb k r ≡ ltb k (r + 1)
+        same_side k ne = by_le r k (λ h. le-ltb k r h ∙ sym (le-ltb k (r + 1) (omega (arith, ne)))) (λ h. lt-ltb k r h ∙ sym (lt-ltb k (r + 1) (omega arith)))
 
         either : (x y : Bool) → cond x keep keep ≡ cond y keep keep
         either x y = by_bool x (λ p. by_bool y (λ q. rw (p, q)) (λ q. rw (p, q))) (λ p. by_bool y (λ q. rw (p, q)) (λ q. rw (p, q)))

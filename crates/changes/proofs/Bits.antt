@@ -153,23 +153,23 @@ set_at bits k j l =
 
 -- word k is replaced: the bits of the others, and its own
 module _ (bits : List ℕ) (k v : ℕ) where
-  pub word-other : (i : ℕ) → (i / 64 ≡ k → ⊥) → is_set (set bits k v) i ≡ is_set bits i
-  word-other i n = ap (λ (x : ℕ). bit_at x (i % 64)) (get_or-set_other bits k (i / 64) v 0 n)
+  pub word_other : (i : ℕ) → (i / 64 ≡ k → ⊥) → is_set (set bits k v) i ≡ is_set bits i
+  word_other i n = ap (λ (x : ℕ). bit_at x (i % 64)) (get_or-set_other bits k (i / 64) v 0 n)
 
-  pub word-own : k < length bits → (i : ℕ) → i / 64 ≡ k → is_set (set bits k v) i ≡ bit_at v (i % 64)
-  word-own l i q = ap (λ (x : ℕ). bit_at (get_or (set bits k v) x 0) (i % 64)) q ∙ ap (λ (x : ℕ). bit_at x (i % 64)) (get_or-set_same bits k v 0 l)
+  pub word_own : k < length bits → (i : ℕ) → i / 64 ≡ k → is_set (set bits k v) i ≡ bit_at v (i % 64)
+  word_own l i q = ap (λ (x : ℕ). bit_at (get_or (set bits k v) x 0) (i % 64)) q ∙ ap (λ (x : ℕ). bit_at x (i % 64)) (get_or-set_same bits k v 0 l)
 
 -- word k has one bit more
 module _ (bits : List ℕ) (k w i : ℕ) (known : k < length bits) (here : i / 64 ≡ k) where
-  pub more-here : is_set (set bits k (with_bit true (i % 64) w)) i ≡ true
-  more-here = word-own bits k (with_bit true (i % 64) w) known i here ∙ bit_same w (i % 64)
+  pub more_here : is_set (set bits k (with_bit true (i % 64) w)) i ≡ true
+  more_here = word_own bits k (with_bit true (i % 64) w) known i here ∙ bit_same w (i % 64)
 
-  pub more-other : (j : ℕ) → (j ≡ i → ⊥) → is_set (set bits k (with_bit true (i % 64) w)) j ≡ is_set (set bits k w) j
-  more-other j n =
+  pub more_other : (j : ℕ) → (j ≡ i → ⊥) → is_set (set bits k (with_bit true (i % 64) w)) j ≡ is_set (set bits k w) j
+  more_other j n =
       by_bool (eqb (j / 64) k)
       (λ z.
       let q = eqb-true (j / 64) k z in
-      word-own bits k (with_bit true (i % 64) w) known j q ∙ bit_other w (i % 64) (j % 64) (λ e. n (omega arith)) ∙ sym (word-own bits k w known j q))
+      word_own bits k (with_bit true (i % 64) w) known j q ∙ bit_other w (i % 64) (j % 64) (λ e. n (omega arith)) ∙ sym (word_own bits k w known j q))
       (λ z.
       let m = eqb-false (j / 64) k z in
-      word-other bits k (with_bit true (i % 64) w) j m ∙ sym (word-other bits k w j m))
+      word_other bits k (with_bit true (i % 64) w) j m ∙ sym (word_other bits k w j m))

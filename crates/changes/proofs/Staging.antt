@@ -14,14 +14,14 @@ use lib.Seq.{get_or-set_same, get_or-set_other, set-get_or}
 use Rattle.words.specs.Layout.{handle_at, max_live}
 use Rattle.words.specs.Stores.{Store, ◌≔◌, tab}
 use Rattle.words.proofs.Scan.{by_bool, by_le, true≢, is_false}
-use Rattle.words.proofs.Plans.{tab-last, tab_below}
+use Rattle.words.proofs.Plans.{tab_last, tab_below}
 use Rattle.words.proofs.Gather.{gather_ext}
 use Rattle.table.specs.Marks.{zeros}
 use Rattle.table.specs.Changes.{Change, keep, put, is_changed, entry_stores, entry_changes}
 use Rattle.marks.proofs.Blocks.{zeros_clear}
 use Rattle.changes.specs.declared.Head.{Head}
 use Rattle.changes.specs.Staged.{with_bit, is_set, Inside, with_words, Turned, entry_of, staged, but, Restaged, below, Stages, Gathers, head_room, HeadOk, head_stores}
-use Rattle.changes.proofs.Bits.{bit_none, bit_kept, word-own, word-other, more-here, more-other}
+use Rattle.changes.proofs.Bits.{bit_none, bit_kept, word_own, word_other, more_here, more_other}
 
 -- ---- f below n
 
@@ -32,14 +32,14 @@ below_out : (n : ℕ) (f : ℕ → Change) (i : ℕ) → n ≤ i → below n f i
 below_out n f i l = ap (λ (b : Bool). cond b (f i) keep) (le-ltb i n l)
 
 module _ {n : ℕ} {f : ℕ → Change} {words bits : List ℕ} where
-  pub stages-at : Stages n f words bits → (i : ℕ) → i < n → staged words bits i ≡ f i
-  stages-at h i l = h.each i ∙ below_in n f i l
+  pub stages_at : Stages n f words bits → (i : ℕ) → i < n → staged words bits i ≡ f i
+  stages_at h i l = h.each i ∙ below_in n f i l
 
-  stages-past : Stages n f words bits → (i : ℕ) → n ≤ i → staged words bits i ≡ keep
-  stages-past h i l = h.each i ∙ below_out n f i l
+  stages_past : Stages n f words bits → (i : ℕ) → n ≤ i → staged words bits i ≡ keep
+  stages_past h i l = h.each i ∙ below_out n f i l
 
-  pub stages-make : ((i : ℕ) → i < n → staged words bits i ≡ f i) → ((i : ℕ) → n ≤ i → staged words bits i ≡ keep) → Stages n f words bits
-  stages-make h k = record {
+  pub stages_make : ((i : ℕ) → i < n → staged words bits i ≡ f i) → ((i : ℕ) → n ≤ i → staged words bits i ≡ keep) → Stages n f words bits
+  stages_make h k = record {
     each = λ i. by_le n i (λ l. k i l ∙ sym (below_out n f i l)) (λ l. h i l ∙ sym (below_in n f i l));
   }
 
@@ -59,7 +59,7 @@ staged_same words bits bits' i h = ap (λ (b : Bool). entry_of b words i) h
 pub stages_start : {f : ℕ → Change} {words bits : List ℕ} (n : ℕ) → bits ≡ zeros n → Stages 0 f words bits
 unfolding staged
 stages_start {f} {words} {bits} n z =
-    stages-make (λ i l. absurd (not-suc-le-zero l))
+    stages_make (λ i l. absurd (not-suc-le-zero l))
     (λ i l.
     ap (λ (b : Bool). entry_of b words i) (bit_none (get_or bits (i / 64) 0) (i % 64) (ap (λ (l : List ℕ). get_or l (i / 64) 0) z ∙ zeros_clear n (i / 64))))
 
@@ -83,92 +83,92 @@ entry_staged words bits bits' i w v room here others = record {
 pub entry_marked : (words bits : List ℕ) (i w v : ℕ) → 2 * i + 1 < length words → i < 64 * length bits
     → Restaged words bits i (put w v) (with_words (put w v) i words) (set bits (i / 64) (with_bit true (i % 64) (get_or bits (i / 64) 0)))
 entry_marked words bits i w v room known =
-    entry_staged words bits _ i w v room (more-here bits (i / 64) (get_or bits (i / 64) 0) i (omega arith) refl)
-    (λ j n. more-other bits (i / 64) (get_or bits (i / 64) 0) i (omega arith) refl j n ∙ ap (λ (l : List ℕ). is_set l j) (set-get_or bits (i / 64) 0))
+    entry_staged words bits _ i w v room (more_here bits (i / 64) (get_or bits (i / 64) 0) i (omega arith) refl)
+    (λ j n. more_other bits (i / 64) (get_or bits (i / 64) 0) i (omega arith) refl j n ∙ ap (λ (l : List ℕ). is_set l j) (set-get_or bits (i / 64) 0))
 
 module _ {f : ℕ → Change} {words bits words' bits' : List ℕ} where
   -- in any order: f has another value at i
-  pub stages-but : {n : ℕ} {i : ℕ} {c : Change} → Stages n f words bits → i < n → Restaged words bits i c words' bits' → Stages n (but f i c) words' bits'
-  stages-but {n} {i} {c} h l r =
-      stages-make
-      (λ j b. r.each j ∙ ap (λ (x : Change). cond (eqb j i) c x) (stages-at h j b))
-      (λ j b. r.each j ∙ rw (ne_eqb j i (λ e. omega arith)) (stages-past h j b))
+  pub stages_but : {n : ℕ} {i : ℕ} {c : Change} → Stages n f words bits → i < n → Restaged words bits i c words' bits' → Stages n (but f i c) words' bits'
+  stages_but {n} {i} {c} h l r =
+      stages_make
+      (λ j b. r.each j ∙ ap (λ (x : Change). cond (eqb j i) c x) (stages_at h j b))
+      (λ j b. r.each j ∙ rw (ne_eqb j i (λ e. omega arith)) (stages_past h j b))
 
   -- in a pass over the slots
-  pub stages-put : {n : ℕ} {c : Change} → Stages n f words bits → f n ≡ c → Restaged words bits n c words' bits' → Stages (n + 1) f words' bits'
-  stages-put {n} {c} h q r =
-      stages-make
+  pub stages_put : {n : ℕ} {c : Change} → Stages n f words bits → f n ≡ c → Restaged words bits n c words' bits' → Stages (n + 1) f words' bits'
+  stages_put {n} {c} h q r =
+      stages_make
       (λ j b.
       r.each j
       ∙ by_bool (eqb j n)
       (λ z. rw (z, eqb-true j n z) (sym q))
-      (λ z. rw z (stages-at h j (omega (arith, eqb-false j n z)))))
-      (λ j b. r.each j ∙ rw (ne_eqb j n (λ e. omega arith)) (stages-past h j (omega arith)))
+      (λ z. rw z (stages_at h j (omega (arith, eqb-false j n z)))))
+      (λ j b. r.each j ∙ rw (ne_eqb j n (λ e. omega arith)) (stages_past h j (omega arith)))
 
 module _ {f : ℕ → Change} {words bits : List ℕ} where
   -- slots that are kept are passed over
-  pub stages-skip : {n : ℕ} (m : ℕ) → Stages n f words bits → n ≤ m → ((i : ℕ) → n ≤ i → i < m → f i ≡ keep) → Stages m f words bits
-  stages-skip {n} m h l kept =
-      stages-make
-      (λ i b. by_le n i (λ q. stages-past h i q ∙ sym (kept i q b)) (λ q. stages-at h i q))
-      (λ i b. stages-past h i (omega arith))
+  pub stages_skip : {n : ℕ} (m : ℕ) → Stages n f words bits → n ≤ m → ((i : ℕ) → n ≤ i → i < m → f i ≡ keep) → Stages m f words bits
+  stages_skip {n} m h l kept =
+      stages_make
+      (λ i b. by_le n i (λ q. stages_past h i q ∙ sym (kept i q b)) (λ q. stages_at h i q))
+      (λ i b. stages_past h i (omega arith))
 
-  pub stages-kept : {n : ℕ} → Stages n f words bits → f n ≡ keep → Stages (n + 1) f words bits
-  stages-kept {n} h q = stages-skip (n + 1) h (omega arith) (λ i a b. let e : i ≡ n = omega arith in rw e q)
+  pub stages_kept : {n : ℕ} → Stages n f words bits → f n ≡ keep → Stages (n + 1) f words bits
+  stages_kept {n} h q = stages_skip (n + 1) h (omega arith) (λ i a b. let e : i ≡ n = omega arith in rw e q)
 
-  pub stages-to : {n : ℕ} (m : ℕ) → Stages n f words bits → n ≡ m → Stages m f words bits
-  stages-to m h e = rw e at h
+  pub stages_to : {n : ℕ} (m : ℕ) → Stages n f words bits → n ≡ m → Stages m f words bits
+  stages_to m h e = rw e at h
 
   -- the same change, said in another way
-  pub stages-ext : {n : ℕ} {g : ℕ → Change} → Stages n f words bits → ((i : ℕ) → i < n → f i ≡ g i) → Stages n g words bits
-  stages-ext h same = stages-make (λ i b. stages-at h i b ∙ same i b) (λ i b. stages-past h i b)
+  pub stages_ext : {n : ℕ} {g : ℕ → Change} → Stages n f words bits → ((i : ℕ) → i < n → f i ≡ g i) → Stages n g words bits
+  stages_ext h same = stages_make (λ i b. stages_at h i b ∙ same i b) (λ i b. stages_past h i b)
 
   -- what the writer requires
-  pub stages-inside : {n : ℕ} → Stages n f words bits → Inside n bits
-  stages-inside {n} h i b = by_le n i (λ l. absurd (true≢ b (unstaged words bits i (stages-past h i l)))) (λ l. l)
+  pub stages_inside : {n : ℕ} → Stages n f words bits → Inside n bits
+  stages_inside {n} h i b = by_le n i (λ l. absurd (true≢ b (unstaged words bits i (stages_past h i l)))) (λ l. l)
 
   -- from the writer's words to the call's own
-  pub stages-words : {n : ℕ} {hs₀ hs : List Store} → hs₀ ≡ hs → Stages n f words bits
+  pub stages_words : {n : ℕ} {hs₀ hs : List Store} → hs₀ ≡ hs → Stages n f words bits
       → hs₀ ++ entry_changes n (staged words bits) ≡ hs ++ entry_changes n f
-  stages-words {n} e h =
+  stages_words {n} e h =
       ap₂ (λ (a b : List Store). a ++ b) e
-      (gather_ext n (λ i. entry_stores n i (staged words bits i)) (λ i. entry_stores n i (f i)) (λ i l. ap (λ (c : Change). entry_stores n i c) (stages-at h i l)))
+      (gather_ext n (λ i. entry_stores n i (staged words bits i)) (λ i. entry_stores n i (f i)) (λ i l. ap (λ (c : Change). entry_stores n i c) (stages_at h i l)))
 
 -- ---- in the middle of 64 slots
 
 module _ {c : Change} {i : ℕ} {words : List ℕ} where
-  pub turn-kept : c ≡ keep → Turned c i words words false
-  turn-kept e = record { told = rw e; made = rw e }
+  pub turn_kept : c ≡ keep → Turned c i words words false
+  turn_kept e = record { told = rw e; made = rw e }
 
-  pub turn-put : {w v : ℕ} {words' : List ℕ} → c ≡ put w v → words' ≡ with_words (put w v) i words → Turned c i words words' true
-  turn-put e h = record { told = rw e; made = rw e h }
+  pub turn_put : {w v : ℕ} {words' : List ℕ} → c ≡ put w v → words' ≡ with_words (put w v) i words → Turned c i words words' true
+  turn_put e h = record { told = rw e; made = rw e h }
 
 module _ {f : ℕ → Change} {words bits : List ℕ} where
-  pub group-start : {n : ℕ} (k : ℕ) → Stages n f words bits → n ≡ 64 * k → k < length bits → Gathers k n f words bits 0
-  group-start {n} k h e l = record {
+  pub group_start : {n : ℕ} (k : ℕ) → Stages n f words bits → n ≡ 64 * k → k < length bits → Gathers k n f words bits 0
+  group_start {n} k h e l = record {
     within = l;
     stages =
-        stages-make
-        (λ i b. staged_same words bits (set bits k 0) i (word-other bits k 0 i (λ q. omega arith)) ∙ stages-at h i b)
+        stages_make
+        (λ i b. staged_same words bits (set bits k 0) i (word_other bits k 0 i (λ q. omega arith)) ∙ stages_at h i b)
         (λ i b.
         by_bool (eqb (i / 64) k)
-        (λ z. staged_same words bits (set bits k 0) i (word-own bits k 0 l i (eqb-true (i / 64) k z) ∙ bit_none 0 (i % 64) refl ∙ sym (unstaged words bits i (stages-past h i b))) ∙ stages-past h i b)
-        (λ z. staged_same words bits (set bits k 0) i (word-other bits k 0 i (eqb-false (i / 64) k z)) ∙ stages-past h i b));
+        (λ z. staged_same words bits (set bits k 0) i (word_own bits k 0 l i (eqb-true (i / 64) k z) ∙ bit_none 0 (i % 64) refl ∙ sym (unstaged words bits i (stages_past h i b))) ∙ stages_past h i b)
+        (λ z. staged_same words bits (set bits k 0) i (word_other bits k 0 i (eqb-false (i / 64) k z)) ∙ stages_past h i b));
   }
 
-  group-change : {k n w : ℕ} → Gathers k n f words bits w → (c : Change) → f n ≡ c → n / 64 ≡ k → 2 * n + 1 < length words
+  group_change : {k n w : ℕ} → Gathers k n f words bits w → (c : Change) → f n ≡ c → n / 64 ≡ k → 2 * n + 1 < length words
       → Gathers k (n + 1) f (with_words c n words) bits (with_bit (is_changed c) (n % 64) w)
-  group-change {k} {n} {w} g keep q here room =
-      record { within = g.within; stages = subst (λ (x : ℕ). Stages (n + 1) f words (set bits k x)) (sym (bit_kept w (n % 64))) (stages-kept g.stages q) }
-  group-change {k} {n} {w} g (put a v) q here room = record {
+  group_change {k} {n} {w} g keep q here room =
+      record { within = g.within; stages = subst (λ (x : ℕ). Stages (n + 1) f words (set bits k x)) (sym (bit_kept w (n % 64))) (stages_kept g.stages q) }
+  group_change {k} {n} {w} g (put a v) q here room = record {
     within = g.within;
-    stages = stages-put g.stages q (entry_staged words (set bits k w) _ n a v room (more-here bits k w n g.within here) (more-other bits k w n g.within here));
+    stages = stages_put g.stages q (entry_staged words (set bits k w) _ n a v room (more_here bits k w n g.within here) (more_other bits k w n g.within here));
   }
 
   -- a turn: the words of slot n, and its bit
-  pub group-turn : {k n w : ℕ} {words' : List ℕ} {b : Bool} {w' : ℕ} → Gathers k n f words bits w → n / 64 ≡ k → 2 * n + 1 < length words
+  pub group_turn : {k n w : ℕ} {words' : List ℕ} {b : Bool} {w' : ℕ} → Gathers k n f words bits w → n / 64 ≡ k → 2 * n + 1 < length words
       → Turned (f n) n words words' b → w' ≡ with_bit b (n % 64) w → Gathers k (n + 1) f words' bits w'
-  group-turn {k} {n} {w} g here room turned e = rw (turned.made, e, turned.told) (group-change g (f n) refl here room)
+  group_turn {k} {n} {w} g here room turned e = rw (turned.made, e, turned.told) (group_change g (f n) refl here room)
 
 -- ---- one word of the head more
 
@@ -180,7 +180,7 @@ word_staged head next w v l h q₁ q₂ q₃ =
     let n = head.count in
     rw (q₁, q₂, q₃)
     (ap (λ (k : ℕ). tab k (λ j. get_or (set head.numbers n w) j 0 ≔ get_or (set head.values n v) j 0)) (add-one n)
-    ∙ tab-last (λ j. get_or (set head.numbers n w) j 0 ≔ get_or (set head.values n v) j 0) n
+    ∙ tab_last (λ j. get_or (set head.numbers n w) j 0 ≔ get_or (set head.values n v) j 0) n
     ∙ rw (get_or-set_same head.numbers n w 0 l, get_or-set_same head.values n v 0 h, tab_below (λ j. get_or (set head.numbers n w) j 0 ≔ get_or (set head.values n v) j 0) (λ j. get_or head.numbers j 0 ≔ get_or head.values j 0) n (λ j b. rw (get_or-set_other head.numbers n j w 0 (λ q. omega arith), get_or-set_other head.values n j v 0 (λ q. omega arith)))))
 
 pub head_more : (head next : Head) (w v : ℕ) → HeadOk head → head.count < head_room → w < handle_at max_live → head.count < length head.numbers

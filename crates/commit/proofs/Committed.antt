@@ -20,7 +20,7 @@ use Rattle.marks.specs.Blocks.{cells_in, Kept}
 use Rattle.table.specs.Marks.{CellsOnce, EndsAt, Reached}
 use Rattle.marks.proofs.Blocks.{kept_cells, cells_same}
 use Rattle.table.proofs.Rule.{Rule}
-use Rattle.table.proofs.Entries.{changes-count, changes-names}
+use Rattle.table.proofs.Entries.{changes_count, changes_names}
 use Rattle.search.specs.Domain.{depth_named}
 use Rattle.search.proofs.Domain.{depth_small}
 use Rattle.model.specs.State.{State}
@@ -31,18 +31,18 @@ use Rattle.store.specs.Outcome.{Buffers, buffers, change_plan, outcome, leaves, 
 use Rattle.store.specs.Checks.{store_check, lent, lent_of}
 use Rattle.store.specs.State.{state_in, state_of}
 use Rattle.store.specs.Means.{or_refused, call_means}
-use Rattle.store.proofs.Checks.{ask_yes, or_else_both, or_else_go, store-lengths}
-use Rattle.store.proofs.Checked.{checked-once}
+use Rattle.store.proofs.Checks.{ask_yes, or_else_both, or_else_go, store_lengths}
+use Rattle.store.proofs.Checked.{checked_once}
 use Rattle.store.proofs.Outcome.{refuses}
-use Rattle.store.proofs.Means.{visible_of, by_check, store-standing, live-count}
+use Rattle.store.proofs.Means.{visible_of, by_check, store_standing, live_count}
 use Rattle.store.proofs.Bounds.{change_bound}
-use Rattle.store.proofs.Raw.{live_within, raw-rule, raw-state, raw-named, raw-next, raw-after, raw-long}
-use Rattle.store.proofs.Changes.{words_performed, change-seen}
+use Rattle.store.proofs.Raw.{live_within, raw_rule, raw_state, raw_named, raw_next, raw_after, raw_long}
+use Rattle.store.proofs.Changes.{words_performed, change_seen}
 use Rattle.store.proofs.Pending.{pending_after, after_pending, performed_pending, call_pending}
 use Rattle.commit.specs.Commit.{commit_check, commit_change, commit_words, commit_call, commit_means}
 use Rattle.commit.specs.Parts.{head_words, ending_words}
-use Rattle.commit.proofs.Merging.{commit-rule, commit-state-is}
-use Rattle.commit.proofs.Counting.{changes-are}
+use Rattle.commit.proofs.Merging.{commit_rule, commit_state_is}
+use Rattle.commit.proofs.Counting.{changes_are}
 
 -- ---- the words
 
@@ -51,7 +51,7 @@ pub words_count : (t : List ℕ) → length (commit_words t) ≡ 2 + 2 * count (
 unfolding commit_words
 words_count t =
     length-append (head_words (live t)) (entry_changes (slots_of (length t)) (commit_change (slots_of (length t)) t (live t)))
-    ∙ rw (changes-count (slots_of (length t)) (commit_change (slots_of (length t)) t (live t)))
+    ∙ rw (changes_count (slots_of (length t)) (commit_change (slots_of (length t)) t (live t)))
 
 pub words_few : (t : List ℕ) → length (commit_words t) ≤ 2 + 2 * slots_of (length t)
 words_few t =
@@ -64,7 +64,7 @@ unfolding commit_words names_ok
 words_names t low high =
     let first : ℕ = pairs_at (slots_of (length t)) in
     let second : name_ok (pairs_at (slots_of (length t))) (handle_at (live t - 1)) ≡ true = name_from (pairs_at (slots_of (length t))) (handle_at (live t - 1)) (omega arith) (omega arith) in
-    changes-names (slots_of (length t)) (commit_change (slots_of (length t)) t (live t)) (head_words (live t))
+    changes_names (slots_of (length t)) (commit_change (slots_of (length t)) t (live t)) (head_words (live t))
     (rw (name_live (pairs_at (slots_of (length t))), second, lt-ltb live_at (handle_at (live t - 1)) (omega arith)))
     (omega arith, (omega arith, tt))
 
@@ -75,54 +75,54 @@ module _ (memory bodies t : List ℕ) (yes : store_check (lent (length memory) (
   e = slots_of (length t)
 
   -- questions 5 and 6 are the model's
-  pub same-checks : (h : ℕ) → ask (ltb 0 (depth_named t h)) 5 (ask (eqb (depth_named t h) (live t)) 6 0) ≡ commit_checks h (state_of (buffers memory bodies t))
-  same-checks h = rw (raw-named memory bodies t yes h, live-count memory bodies t yes)
+  pub same_checks : (h : ℕ) → ask (ltb 0 (depth_named t h)) 5 (ask (eqb (depth_named t h) (live t)) 6 0) ≡ commit_checks h (state_of (buffers memory bodies t))
+  same_checks h = rw (raw_named memory bodies t yes h, live_count memory bodies t yes)
 
   module _ (some-live : 1 ≤ live t) where
     names : names_ok (pairs_at (slots_of (length t))) 0 (commit_words t) ≡ true
     names = words_names t some-live (live_within (length memory) (length bodies) t yes)
 
-    whole-rule : Rule (cells_of (length memory)) (slots_of (length t)) (bodies_of (length bodies)) (stores (commit_words t) t)
+    whole_rule : Rule (cells_of (length memory)) (slots_of (length t)) (bodies_of (length bodies)) (stores (commit_words t) t)
     unfolding commit_words
-    whole-rule = commit-rule (cells_of (length memory)) e (bodies_of (length bodies)) t (raw-rule memory bodies t yes) (raw-long memory bodies t yes) some-live
+    whole_rule = commit_rule (cells_of (length memory)) e (bodies_of (length bodies)) t (raw_rule memory bodies t yes) (raw_long memory bodies t yes) some-live
 
     -- the new table is right
-    pub new-rule : Rule (cells_of (length memory)) (slots_of (length t)) (bodies_of (length bodies)) (stores (commit_words t) (take (pairs_at (slots_of (length t))) t))
-    new-rule = raw-next memory bodies t yes (commit_words t) names whole-rule
+    pub new_rule : Rule (cells_of (length memory)) (slots_of (length t)) (bodies_of (length bodies)) (stores (commit_words t) (take (pairs_at (slots_of (length t))) t))
+    new_rule = raw_next memory bodies t yes (commit_words t) names whole_rule
 
     -- and stands for the state without the innermost domain
-    pub new-state : state_in (slots_of (length t)) (stores (commit_words t) (take (pairs_at (slots_of (length t))) t)) bodies ≡ commit (state_of (buffers memory bodies t))
+    pub new_state : state_in (slots_of (length t)) (stores (commit_words t) (take (pairs_at (slots_of (length t))) t)) bodies ≡ commit (state_of (buffers memory bodies t))
     unfolding commit_words
-    new-state =
-        raw-after memory bodies t yes (commit_words t) names whole-rule bodies
-        ∙ commit-state-is (cells_of (length memory)) e (bodies_of (length bodies)) t (raw-rule memory bodies t yes) (raw-long memory bodies t yes) some-live bodies
-        ∙ ap commit (sym (raw-state memory bodies t yes))
+    new_state =
+        raw_after memory bodies t yes (commit_words t) names whole_rule bodies
+        ∙ commit_state_is (cells_of (length memory)) e (bodies_of (length bodies)) t (raw_rule memory bodies t yes) (raw_long memory bodies t yes) some-live bodies
+        ∙ ap commit (sym (raw_state memory bodies t yes))
 
     -- as many words as the model says
-    pub new-count : length (commit_words t)
+    pub new_count : length (commit_words t)
         ≡ 2 + 2 * (inner_cells (cells_of (length memory)) (state_of (buffers memory bodies t)) + raised_cells (cells_of (length memory)) (state_of (buffers memory bodies t)))
-    new-count =
-        words_count t ∙ rw (changes-are (cells_of (length memory)) e (bodies_of (length bodies)) t (raw-rule memory bodies t yes) some-live bodies, raw-state memory bodies t yes)
+    new_count =
+        words_count t ∙ rw (changes_are (cells_of (length memory)) e (bodies_of (length bodies)) t (raw_rule memory bodies t yes) some-live bodies, raw_state memory bodies t yes)
 
     -- at most 70E + 32 steps
-    pub commit-bound :
+    pub commit_bound :
         steps_of 0 (2 + 2 * (inner_cells (cells_of (length memory)) (state_of (buffers memory bodies t)) + raised_cells (cells_of (length memory)) (state_of (buffers memory bodies t))))
         ≤ 70 * slots_of (length t) + 32
-    commit-bound = rw (← new-count) (change_bound 0 (length (commit_words t)) e (omega arith) (omega (arith, words_few t)))
+    commit_bound = rw (← new_count) (change_bound 0 (length (commit_words t)) e (omega arith) (omega (arith, words_few t)))
 
     room : length (commit_words t) ≤ max_pairs (slots_of (length t))
     room = omega (arith, words_few t)
 
-    commit-seen : (k : ℕ) → visible_of (outcome (perform (change_plan (pairs_at (slots_of (length t))) [] (commit_words t)) 0) k (buffers memory bodies t))
+    commit_seen : (k : ℕ) → visible_of (outcome (perform (change_plan (pairs_at (slots_of (length t))) [] (commit_words t)) 0) k (buffers memory bodies t))
         ≡ viewed (change 0 (2 + 2 * (inner_cells (cells_of (length memory)) (state_of (buffers memory bodies t)) + raised_cells (cells_of (length memory)) (state_of (buffers memory bodies t)))) 0
         (commit (state_of (buffers memory bodies t)))) k (state_of (buffers memory bodies t)) memory
-    commit-seen k =
-        change-seen memory bodies t yes [] (commit_words t) tt room names new-rule 0 (commit (state_of (buffers memory bodies t))) new-state k
-        ∙ ap (λ (p : ℕ). viewed (change 0 p 0 (commit (state_of (buffers memory bodies t)))) k (state_of (buffers memory bodies t)) memory) new-count
+    commit_seen k =
+        change_seen memory bodies t yes [] (commit_words t) tt room names new_rule 0 (commit (state_of (buffers memory bodies t))) new_state k
+        ∙ ap (λ (p : ℕ). viewed (change 0 p 0 (commit (state_of (buffers memory bodies t)))) k (state_of (buffers memory bodies t)) memory) new_count
 
     left : (k : ℕ) → pending (outcome (perform (change_plan (pairs_at (slots_of (length t))) [] (commit_words t)) 0) k (buffers memory bodies t)).buffers.table
         ≡ pending_after 0 (2 + 2 * (inner_cells (cells_of (length memory)) (state_of (buffers memory bodies t)) + raised_cells (cells_of (length memory)) (state_of (buffers memory bodies t)))) k
-    left k = performed_pending memory bodies t yes [] (commit_words t) room names 0 k ∙ ap (λ (p : ℕ). pending_after 0 p k) new-count
+    left k = performed_pending memory bodies t yes [] (commit_words t) room names 0 k ∙ ap (λ (p : ℕ). pending_after 0 p k) new_count
 
 -- ---- the call
 
@@ -149,11 +149,11 @@ commit_means_lem h k b =
     (store_check (lent_of b))
     (λ n e. refl)
     (λ yes.
-    let stands = store-standing b.memory b.bodies b.table yes in
-    subst (λ (r : ℕ). goal (asked b.table h) r k b) (same-checks b.memory b.bodies b.table yes h)
+    let stands = store_standing b.memory b.bodies b.table yes in
+    subst (λ (r : ℕ). goal (asked b.table h) r k b) (same_checks b.memory b.bodies b.table yes h)
     (by_check (λ q. goal q q k b) (asked b.table h)
     (λ n e. ap (λ (s : Option State). view (refused (suc n)) s b.memory) stands)
-    (λ e. commit-seen b.memory b.bodies b.table yes (asked_live b.table h e) k)))
+    (λ e. commit_seen b.memory b.bodies b.table yes (asked_live b.table h e) k)))
 
 -- ---- the pairs that it leaves pending, at every budget
 
@@ -161,7 +161,7 @@ pub commit_pending : (h k : ℕ) (b : Buffers) → store_check (lent_of b) ≡ 0
     → pending (outcome (commit_call h b) k b).buffers.table ≡ after_pending (commit_effect (cells_of (length b.memory)) h (state_of b)) k
 unfolding commit_call commit_check
 commit_pending h k b good =
-    call_pending k b good _ _ _ _ (or_else_go _ _ good ∙ same-checks b.memory b.bodies b.table good h)
+    call_pending k b good _ _ _ _ (or_else_go _ _ good ∙ same_checks b.memory b.bodies b.table good h)
     (λ q. left b.memory b.bodies b.table good (asked_live b.table h (sym (or_else_go _ _ good) ∙ q)) k)
 
 -- ---- what the code cites
@@ -180,37 +180,37 @@ pub record Ready (e : ℕ) (t : List ℕ) : Type 0 where
   pub ends : (top : ℕ) → Reached t top → EndsAt e t top
 
 module _ (memory bodies : ℕ) (t : List ℕ) (h : ℕ) (passed : commit_check (lent memory bodies t) h ≡ 0) where
-  pub commit-store : store_check (lent memory bodies t) ≡ 0
+  pub commit_store : store_check (lent memory bodies t) ≡ 0
   unfolding commit_check
-  commit-store = (or_else_both (store_check (lent memory bodies t)) (asked t h) passed).0
+  commit_store = (or_else_both (store_check (lent memory bodies t)) (asked t h) passed).0
 
-  pub commit-live : 1 ≤ live t
+  pub commit_live : 1 ≤ live t
   unfolding commit_check
-  commit-live = asked_live t h (or_else_both (store_check (lent memory bodies t)) (asked t h) passed).1
+  commit_live = asked_live t h (or_else_both (store_check (lent memory bodies t)) (asked t h) passed).1
 
-  pub commit-ready : {e : ℕ} → e ≡ slots_of (length t) → Ready e t
-  commit-ready slots =
-      let f = store-lengths memory bodies t commit-store in
+  pub commit_ready : {e : ℕ} → e ≡ slots_of (length t) → Ready e t
+  commit_ready slots =
+      let f = store_lengths memory bodies t commit_store in
       rw slots
       (record {
         small = f.slots_high;
         long = f.table_exact;
-        low = commit-live;
-        high = live_within memory bodies t commit-store;
-        once = checked-once memory bodies t commit-store;
+        low = commit_live;
+        high = live_within memory bodies t commit_store;
+        once = checked_once memory bodies t commit_store;
         ends = λ top reach. (reach f.slots_low f.slots_high).0;
       })
 
 module _ (m b t : List ℕ) (h k : ℕ) where
-  pub commit-refused : (q : ℕ) → q ≡ commit_check (lent (length m) (length b) t) h → (q ≡ 0 → ⊥) → leaves (refused q) (buffers m b t) ≡ outcome (commit_call h (buffers m b t)) k (buffers m b t)
+  pub commit_refused : (q : ℕ) → q ≡ commit_check (lent (length m) (length b) t) h → (q ≡ 0 → ⊥) → leaves (refused q) (buffers m b t) ≡ outcome (commit_call h (buffers m b t)) k (buffers m b t)
   unfolding commit_call
-  commit-refused q e n = refuses q (commit_check (lent (length m) (length b) t) h) _ k (buffers m b t) e n
+  commit_refused q e n = refuses q (commit_check (lent (length m) (length b) t) h) _ k (buffers m b t) e n
 
-  pub commit-performed : {e need : ℕ} {t' : List ℕ} {r : Report} → commit_check (lent (length m) (length b) t) h ≡ 0 → e ≡ slots_of (length t)
+  pub commit_performed : {e need : ℕ} {t' : List ℕ} {r : Report} → commit_check (lent (length m) (length b) t) h ≡ 0 → e ≡ slots_of (length t)
       → need ≡ length (journal (pairs_at e) (ending_words e t (live t))) → t' ≡ stores (take k (journal (pairs_at e) (ending_words e t (live t)))) t
       → r ≡ ended need 0 k
       → leaves r (buffers m b t') ≡ outcome (commit_call h (buffers m b t)) k (buffers m b t)
   unfolding commit_call commit_words
-  commit-performed passed slots need made told =
+  commit_performed passed slots need made told =
       let same = ap (λ (x : ℕ). ending_words x t (live t)) slots in
       rw passed (words_performed 0 k (commit_words t) m b t slots same need made told)

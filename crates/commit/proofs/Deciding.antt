@@ -36,36 +36,36 @@ module _ (d w v : ℕ) (inner outer : Bool) (low : 1 ≤ d) where
       let no : eqb (depth_of w) (parent d) ≡ false = ne_eqb (depth_of w) (parent d) (λ q. omega (arith, q, eqb-true (depth_of w) d p)) in
       by_bool (leb 2 d) (λ z. rw (z, no)) (λ z. rw z)
 
-  decided-put : (eqb (depth_of w) d || raises d w inner) ≡ true
+  decided_put : (eqb (depth_of w) d || raises d w inner) ≡ true
       → decided d w v inner outer ≡ put (cond (moves d w outer) (outward w) (cond (raises d w inner) (writable w) 0)) (cond (moves d w outer || raises d w inner) v 0)
-  decided-put h =
+  decided_put h =
       by_bool (eqb (depth_of w) d)
       (λ p. rw (p, apart p) (by_bool (leb 2 d && not outer) (λ z. rw z) (λ z. rw z)))
       (λ p. let r : raises d w inner ≡ true = rw p at h in rw (p, r))
 
-  decided-keep : (eqb (depth_of w) d || raises d w inner) ≡ false → decided d w v inner outer ≡ keep
-  decided-keep h =
+  decided_keep : (eqb (depth_of w) d || raises d w inner) ≡ false → decided d w v inner outer ≡ keep
+  decided_keep h =
       by_bool (eqb (depth_of w) d)
       (λ p. absurd (true≢ (rw p) h))
       (λ p. let r : raises d w inner ≡ false = rw p at h in rw (p, r))
 
   -- an entry that is not concerned
-  decided-apart : concerned d w ≡ false → decided d w v inner outer ≡ keep
-  decided-apart h =
+  decided_apart : concerned d w ≡ false → decided d w v inner outer ≡ keep
+  decided_apart h =
       let far : eqb (depth_of w) d ≡ false = is_false (eqb (depth_of w) d) (λ p. true≢ (rw p) h) in
-      decided-keep (rw far (is_false (raises d w inner) (λ r.
+      decided_keep (rw far (is_false (raises d w inner) (λ r.
       let s = and_split (leb 2 d) (eqb (depth_of w) (parent d) && (eqb (writable_of w) 0 && inner)) r in
       let q = and_split (eqb (depth_of w) (parent d)) (eqb (writable_of w) 0 && inner) s.1 in
       true≢ (and_join _ _ s.0 (and_join _ _ q.0 (and_split (eqb (writable_of w) 0) inner q.1).0)) (rw far at h))))
 
   -- a word that moves out has a depth to lose, and one that is raised was read-only
-  pub moves-deep : moves d w outer ≡ true → 1 ≤ depth_of w
-  moves-deep h =
+  pub moves_deep : moves d w outer ≡ true → 1 ≤ depth_of w
+  moves_deep h =
       let s = and_split (eqb (depth_of w) d) (leb 2 d && not outer) h in
       omega (arith, eqb-true (depth_of w) d s.0)
 
-  pub raises-low : raises d w inner ≡ true → writable_of w ≡ 0
-  raises-low h =
+  pub raises_low : raises d w inner ≡ true → writable_of w ≡ 0
+  raises_low h =
       let s = and_split (leb 2 d) (eqb (depth_of w) (parent d) && (eqb (writable_of w) 0 && inner)) h in
       let r = and_split (eqb (depth_of w) (parent d)) (eqb (writable_of w) 0 && inner) s.1 in
       eqb-true (writable_of w) 0 (and_split (eqb (writable_of w) 0) inner r.1).0
@@ -76,13 +76,13 @@ module _ (e : ℕ) (t : List ℕ) (d i : ℕ) (few : d < 2) where
   alone : leb 2 d ≡ false
   alone = lt-leb 2 d few
 
-  pub change-other : (depth_of (word1 e t i) ≡ d → ⊥) → commit_change e t d i ≡ keep
+  pub change_other : (depth_of (word1 e t i) ≡ d → ⊥) → commit_change e t d i ≡ keep
   unfolding commit_change
-  change-other n = rw (ne_eqb (depth_of (word1 e t i)) d n, alone)
+  change_other n = rw (ne_eqb (depth_of (word1 e t i)) d n, alone)
 
-  pub change-freed : depth_of (word1 e t i) ≡ d → commit_change e t d i ≡ put 0 0
+  pub change_freed : depth_of (word1 e t i) ≡ d → commit_change e t d i ≡ put 0 0
   unfolding commit_change
-  change-freed q = rw (eq-eqb (depth_of (word1 e t i)) d q, alone)
+  change_freed q = rw (eq-eqb (depth_of (word1 e t i)) d q, alone)
 
 -- ---- entry i, by the marks of all cells
 
@@ -90,15 +90,15 @@ module _ (e : ℕ) (t : List ℕ) (d i : ℕ) (low : 1 ≤ d) where
   abbrev w : ℕ
   w = word1 e t i
 
-  pub change-apart : concerned d (word1 e t i) ≡ false → commit_change e t d i ≡ keep
+  pub change_apart : concerned d (word1 e t i) ≡ false → commit_change e t d i ≡ keep
   unfolding commit_change
-  change-apart h = decided-apart d w (word2 e t i) (writes_in e t d (cell_of w)) (parent_has e t d (cell_of w)) low h
+  change_apart h = decided_apart d w (word2 e t i) (writes_in e t d (cell_of w)) (parent_has e t d (cell_of w)) low h
 
   -- a free entry stays
-  pub change-free : word1 e t i ≡ 0 → commit_change e t d i ≡ keep
-  change-free free =
+  pub change_free : word1 e t i ≡ 0 → commit_change e t d i ≡ keep
+  change_free free =
       let far : eqb (depth_of w) d ≡ false = ne_eqb (depth_of w) d (λ q. omega (arith, q, free)) in
-      change-apart
+      change_apart
       (rw far
       (by_bool (leb 2 d)
       (λ z.
@@ -115,20 +115,20 @@ module _ (e : ℕ) (t : List ℕ) (d i : ℕ) (low : 1 ≤ d) where
     outer = has (parent d) (mark_at seen w)
 
     -- what the marks tell decides the same
-    told-change : commit_change e t d i ≡ decided d w (word2 e t i) inner outer
+    told_change : commit_change e t d i ≡ decided d w (word2 e t i) inner outer
     unfolding commit_change
-    told-change =
+    told_change =
         by_bool (leb 2 d)
         (λ z.
         let deep = leb-true _ _ z in
         rw (z, told.inner deep (cell_of w), told.outer deep (cell_of w)))
         (λ z. rw z)
 
-    pub change-kept : (eqb (depth_of (word1 e t i)) d || raises d (word1 e t i) (has d (mark_at seen (word1 e t i)))) ≡ false → commit_change e t d i ≡ keep
-    change-kept h = told-change ∙ decided-keep d w (word2 e t i) inner outer low h
+    pub change_kept : (eqb (depth_of (word1 e t i)) d || raises d (word1 e t i) (has d (mark_at seen (word1 e t i)))) ≡ false → commit_change e t d i ≡ keep
+    change_kept h = told_change ∙ decided_keep d w (word2 e t i) inner outer low h
 
-    pub change-put : (eqb (depth_of (word1 e t i)) d || raises d (word1 e t i) (has d (mark_at seen (word1 e t i)))) ≡ true
+    pub change_put : (eqb (depth_of (word1 e t i)) d || raises d (word1 e t i) (has d (mark_at seen (word1 e t i)))) ≡ true
         → commit_change e t d i
         ≡ put (cond (moves d (word1 e t i) (has (parent d) (mark_at seen (word1 e t i)))) (outward (word1 e t i)) (cond (raises d (word1 e t i) (has d (mark_at seen (word1 e t i)))) (writable (word1 e t i)) 0))
         (cond (moves d (word1 e t i) (has (parent d) (mark_at seen (word1 e t i))) || raises d (word1 e t i) (has d (mark_at seen (word1 e t i)))) (word2 e t i) 0)
-    change-put h = told-change ∙ decided-put d w (word2 e t i) inner outer low h
+    change_put h = told_change ∙ decided_put d w (word2 e t i) inner outer low h

@@ -14,16 +14,16 @@ use Rattle.words.specs.Stores.{Store, stores}
 use Rattle.words.proofs.Scan.{by_bool, and_split, true≢, not_lt}
 use Rattle.table.specs.Entry.{live, word1, word2, depth_of, cell_of, writable_of, via_of, pattern_of, parent, names, find_in, holds_in, outward, writes_in, parent_has}
 use Rattle.table.specs.Changes.{Change, put, new_first, entry_changes}
-use Rattle.table.proofs.Entry.{names_make, find-hit, holds-true, holds-found}
-use Rattle.table.proofs.Made.{outward-made}
+use Rattle.table.proofs.Entry.{names_make, find_hit, holds_true, holds_found}
+use Rattle.table.proofs.Made.{outward_made}
 use Rattle.table.proofs.Rule.{Rule, Used}
 use Rattle.table.proofs.Single.{only_one}
-use Rattle.table.proofs.Head.{ended_words, ended_low, first-remain}
+use Rattle.table.proofs.Head.{ended_words, ended_low, first_remain}
 use Rattle.model.specs.State.{Label, read_only, read_write, Holding}
 use Rattle.model.specs.Holdings.{held_writable, merged, commit}
 use Rattle.store.specs.State.{label_of, held_in, state_in}
-use Rattle.store.proofs.Domains.{held_none, held-writable, commit_state}
-use Rattle.store.proofs.Becoming.{told, told_rule, Never, Stays, came, had, follows, Fate, keeps, raises, frees, turns, Becomes, becomes-rule, becomes-held}
+use Rattle.store.proofs.Domains.{held_none, held_writable_lem, commit_state}
+use Rattle.store.proofs.Becoming.{told, told_rule, Never, Stays, came, had, follows, Fate, keeps, raises, frees, turns, Becomes, becomes_rule, becomes_held}
 use Rattle.commit.specs.Commit.{commit_change}
 use Rattle.commit.specs.Parts.{head_words, ending_words}
 
@@ -62,7 +62,7 @@ module _ (m e b : ℕ) (t : List ℕ) (ok : Rule m e b t) (long : pairs_at e ≤
         ≡ told e t bodies i (cond (writes_in e t (live t) (cell_of (word1 e t i))) read_write l)
     risen i d l q =
         rw (eq-eqb (depth_of (word1 e t i)) (live t - 1) d, q)
-        (merged_label _ (held_in e t bodies (live t) (cell_of (word1 e t i))) ∙ rw (held-writable e t bodies (live t) (cell_of (word1 e t i))))
+        (merged_label _ (held_in e t bodies (live t) (cell_of (word1 e t i))) ∙ rw (held_writable_lem e t bodies (live t) (cell_of (word1 e t i))))
 
     -- a slot that moves holds further out what it held
     goes : (i : ℕ) → depth_of (word1 e t i) ≡ live t → 2 ≤ live t → holds_in e t (live t - 1) (cell_of (word1 e t i)) ≡ false
@@ -70,7 +70,7 @@ module _ (m e b : ℕ) (t : List ℕ) (ok : Rule m e b t) (long : pairs_at e ≤
         → held (depth_of (outward (word1 e t i))) (cell_of (outward (word1 e t i))) ≡ told e t bodies i (label_of (outward (word1 e t i)))
     goes i d two lacks q =
         let w = word1 e t i in
-        let made = outward-made w (omega arith) in
+        let made = outward_made w (omega arith) in
         let dp : depth_of (outward w) ≡ live t - 1 = made.depth ∙ ap parent d in
         rw (dp, made.cell, eq-eqb (live t - 1) (live t - 1) refl, held_none e t bodies (live t - 1) (cell_of w) lacks, made.label) (ap (λ (x : ℕ). held_in e t bodies x (cell_of w)) (sym d) ∙ q)
 
@@ -79,14 +79,14 @@ module _ (m e b : ℕ) (t : List ℕ) (ok : Rule m e b t) (long : pairs_at e ≤
         → FateOf i (put (outward (word1 e t i)) (word2 e t i))
     moved i l d two lacks =
         let w = word1 e t i in
-        let made = outward-made w (omega arith) in
+        let made = outward_made w (omega arith) in
         let dp : depth_of (outward w) ≡ live t - 1 = made.depth ∙ ap parent d in
         turns {x = outward w} {v = word2 e t i} (omega arith) (λ k q.
         let via : via_of w ≡ 0 =
         by_bool (eqb (via_of w) 0) (λ z. eqb-true (via_of w) 0 z)
         (λ z.
         let rest : find_in e t (live t - 1) (cell_of w) < e = subst (λ (x : ℕ). find_in e t (parent x) (cell_of w) < e) d (ok.outer i l (eqb-false (via_of w) 0 z)) in
-        absurd (true≢ (holds-true e t (live t - 1) (cell_of w) rest) lacks)) in
+        absurd (true≢ (holds_true e t (live t - 1) (cell_of w) rest) lacks)) in
         record {
           low = omega arith;
           high = omega arith;
@@ -169,10 +169,10 @@ module _ (m e b : ℕ) (t : List ℕ) (ok : Rule m e b t) (long : pairs_at e ≤
         let q = eqb-true d (live t - 1) y in
         by_bool (holds_in e t (live t) c)
         (λ x.
-        let h = holds-found e t (live t) c x in
+        let h = holds_found e t (live t) c x in
         let i = find_in e t (live t) c in
-        let hit = find-hit e t (live t) c h in
-        let made = outward-made (word1 e t i) (omega (arith, hit.0)) in
+        let hit = find_hit e t (live t) c h in
+        let made = outward_made (word1 e t i) (omega (arith, hit.0)) in
         inr (
           i,
           h,
@@ -188,7 +188,7 @@ module _ (m e b : ℕ) (t : List ℕ) (ok : Rule m e b t) (long : pairs_at e ≤
           right = ok;
           long = long;
           low = ended_low (live t - 1) (live t) ok.live;
-          head = first-remain (commit_change e t (live t)) ok long (live t - 1) (omega arith);
+          head = first_remain (commit_change e t (live t)) ok long (live t - 1) (omega arith);
           spared = λ i k. refl;
           fate = fate;
           lacked = lacked;
@@ -203,16 +203,16 @@ module _ (m e b : ℕ) (t : List ℕ) (ok : Rule m e b t) (long : pairs_at e ≤
       let none : live t - 1 + 0 ≡ live t - 1 = omega arith in
       rw (one, none)
 
-  pub commit-rule : Rule m e b (stores (ending_words e t (live t)) t)
-  commit-rule =
-      subst (λ (hs : List Store). Rule m e b (stores (hs ++ entry_changes e (commit_change e t (live t))) t)) same_head (becomes-rule (becomes []))
+  pub commit_rule : Rule m e b (stores (ending_words e t (live t)) t)
+  commit_rule =
+      subst (λ (hs : List Store). Rule m e b (stores (hs ++ entry_changes e (commit_change e t (live t))) t)) same_head (becomes_rule (becomes []))
 
-  pub commit-state-is : (bodies : List ℕ) → state_in e (stores (ending_words e t (live t)) t) bodies ≡ commit (state_in e t bodies)
-  commit-state-is bodies =
+  pub commit_state_is : (bodies : List ℕ) → state_in e (stores (ending_words e t (live t)) t) bodies ≡ commit (state_in e t bodies)
+  commit_state_is bodies =
       let B = becomes bodies in
       let last : live t ≡ suc (live t - 1) = omega arith in
       subst (λ (hs : List Store). state_in e (stores (hs ++ entry_changes e (commit_change e t (live t))) t) bodies ≡ commit (state_in e t bodies)) same_head
       (commit_state e t (stores (ended_words (live t - 1) (live t) ++ entry_changes e (commit_change e t (live t))) t) bodies bodies B.head.live B.head.next B.head.kept
       (λ o i c. merged (o.holds c) (i.holds c))
-      (λ k c l. becomes-held B (suc k) c (omega arith) l
+      (λ k c l. becomes_held B (suc k) c (omega arith) l
       ∙ ap (λ (x : ℕ). cond (eqb (suc k) (live t - 1)) (merged (held_in e t bodies (suc k) c) (held_in e t bodies x c)) (held_in e t bodies (suc k) c)) last))

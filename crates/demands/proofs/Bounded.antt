@@ -7,7 +7,7 @@ use lib.ListN.{length, length-map}
 use Rattle.words.specs.Layout.{cells_of, bodies_of, slots_of, pairs_at}
 use Rattle.words.specs.Journal.{open_plan}
 use Rattle.words.proofs.Scan.{by_bool, by_le}
-use Rattle.table.proofs.Checks.{lengths-facts}
+use Rattle.table.proofs.Checks.{lengths_facts}
 use Rattle.table.specs.Checks.{lengths_ok}
 use Rattle.model.specs.Answer.{is_stopped, Report, done, refused, ended}
 use Rattle.model.specs.History.{Request}
@@ -17,7 +17,7 @@ use Rattle.store.specs.Outcome.{Buffers, in_table, Outcome, outcome, Call, refus
 use Rattle.store.specs.Checks.{make_check, open_check, lent_of}
 use Rattle.store.specs.State.{slots}
 use Rattle.store.specs.Calls.{make_plan, make_call, open_call}
-use Rattle.store.proofs.Making.{make-length}
+use Rattle.store.proofs.Making.{make_length}
 use Rattle.store.proofs.Means.{long, open_length}
 use Rattle.store.proofs.Bounds.{make_bound, open_bound}
 use Rattle.demands.specs.Session.{call_on, input_on}
@@ -53,21 +53,21 @@ bounded n (perform plan h) k b f = ended_bounded n (length plan) h k f
 -- ---- make and open
 
 module _ (b : Buffers) where
-  make-needs : Needs (70 * slots_of (length b.table) + 32) (make_call b)
+  make_needs : Needs (70 * slots_of (length b.table) + 32) (make_call b)
   unfolding make_call make_check
-  make-needs =
+  make_needs =
       by_bool (lengths_ok (length b.memory) (length b.bodies) (length b.table))
       (λ t.
       rw t
       (at_most
       (length-map (make_plan (cells_of (length b.memory)) (slots_of (length b.table)) (bodies_of (length b.bodies))) (λ x. in_table x)
-      ∙ make-length (cells_of (length b.memory)) (slots_of (length b.table)) (bodies_of (length b.bodies)) b.table (long (length b.memory) (length b.bodies) b.table t))
-      (make_bound (slots_of (length b.table)) (lengths-facts (length b.memory) (length b.bodies) (length b.table) t).slots_low)))
+      ∙ make_length (cells_of (length b.memory)) (slots_of (length b.table)) (bodies_of (length b.bodies)) b.table (long (length b.memory) (length b.bodies) b.table t))
+      (make_bound (slots_of (length b.table)) (lengths_facts (length b.memory) (length b.bodies) (length b.table) t).slots_low)))
       (λ t. rw t tt)
 
-  open-needs : Needs (2 * slots_of (length b.table) + 11) (open_call b)
+  open_needs : Needs (2 * slots_of (length b.table) + 11) (open_call b)
   unfolding open_call
-  open-needs =
+  open_needs =
       needs_unless (2 * slots_of (length b.table) + 11) (open_check (lent_of b)) _
       (λ q.
       at_most (length-map (open_plan (pairs_at (slots_of (length b.table))) b.table) (λ x. in_table x) ∙ open_length (pairs_at (slots_of (length b.table))) b.table)
@@ -82,7 +82,7 @@ call_bounded c k b =
     (bounded _ p.call k b p.needs)
 
 pub input_bounded : (i : Input) (b : Buffers) → Bounded (step_bound i (slots b)) (budget_of i) (input_on i b).report
-input_bounded (make k) b = bounded _ (make_call b) k b (make-needs b)
+input_bounded (make k) b = bounded _ (make_call b) k b (make_needs b)
 input_bounded (call c k) b = call_bounded c k b
-input_bounded (opening k) b = bounded _ (open_call b) k b (open-needs b)
+input_bounded (opening k) b = bounded _ (open_call b) k b (open_needs b)
 input_bounded (write ws) b = no_steps 0 0

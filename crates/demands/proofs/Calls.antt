@@ -19,9 +19,9 @@ use Rattle.model.proofs.Views.{viewed_plain}
 use Rattle.store.specs.Outcome.{Buffers}
 use Rattle.store.specs.State.{state_of}
 use Rattle.store.specs.Means.{visible, call_means, list_means, room_of, or_refused, or_list_refused}
-use Rattle.store.proofs.Means.{visible_of, by_check, store-standing}
+use Rattle.store.proofs.Means.{visible_of, by_check, store_standing}
 use Rattle.store.proofs.Created.{create_means_lem, create_pending}
-use Rattle.store.proofs.Checks.{store-idle}
+use Rattle.store.proofs.Checks.{store_idle}
 use Rattle.store.proofs.Pending.{after_pending, left_pending}
 use Rattle.add.proofs.Added.{add_means_lem, add_pending}
 use Rattle.delete.proofs.Deleted.{delete_means_lem, delete_pending}
@@ -34,8 +34,8 @@ use Rattle.look.specs.Look.{look_place, place_report, look_means, or_look_refuse
 use Rattle.look.proofs.Placing.{look_means_lem}
 use Rattle.demands.specs.Session.{call_on, read_report}
 use Rattle.demands.specs.Demands.{asked, handle_of, call_view}
-use Rattle.demands.proofs.Planned.{Planned, create-planned, add-planned, delete-planned, advance-planned, commit-planned, restore-planned, read_answer, read_planned}
-use Rattle.demands.proofs.Questions.{Fine, fine_none, FineEffect, fine_refuse, create-fine, add-fine, delete-fine, advance-fine, commit-fine, restore-fine, look-fine}
+use Rattle.demands.proofs.Planned.{Planned, create_planned, add_planned, delete_planned, advance_planned, commit_planned, restore_planned, read_answer, read_planned}
+use Rattle.demands.proofs.Questions.{Fine, fine_none, FineEffect, fine_refuse, create_fine, add_fine, delete_fine, advance_fine, commit_fine, restore_fine, look_fine}
 
 pub record Facts (c : Request) (b : Buffers) : Type 0 where
   -- what is to be visible of it is what it means
@@ -80,7 +80,7 @@ read_facts : (r : Reading) (b : Buffers) → read_report r b ≡ read_answer (or
     → Facts (reads r) b
 read_facts r b e fine dead = record {
   shows = λ k. ap (λ (x : Report). visible x b) e ∙ shown k;
-  pends = λ k good. store-idle (length b.memory) (length b.bodies) b.table good ∙ sym (idle_pending own k (state_of b));
+  pends = λ k good. store_idle (length b.memory) (length b.bodies) b.table good ∙ sym (idle_pending own k (state_of b));
   planned = read_planned (read_report r b) (or_else (asked b) own) b e;
   fine = fine_refuse own 0 0 0 (state_of b) fine;
   dead = dead;
@@ -95,7 +95,7 @@ read_facts r b e fine dead = record {
         (asked b)
         (λ n e _. refl)
         (λ e _.
-        ap (λ (o : Option State). view (read_answer own) o b.memory) (store-standing b.memory b.bodies b.table e)
+        ap (λ (o : Option State). view (read_answer own) o b.memory) (store_standing b.memory b.bodies b.table e)
         ∙ idle_view own k (state_of b) b.memory)
         refl
 
@@ -137,45 +137,45 @@ unfolding restore_means
 facts (changes create) b = record {
   shows = λ k. create_means_lem k b ∙ plain _ k b;
   pends = λ k good. create_pending k b good;
-  planned = create-planned b;
-  fine = fine_refuse (create_checks (state_of b)) _ _ _ _ (create-fine (room_of b) b.memory (state_of b));
+  planned = create_planned b;
+  fine = fine_refuse (create_checks (state_of b)) _ _ _ _ (create_fine (room_of b) b.memory (state_of b));
   dead = λ h e d. absurd (subst None e tt);
 }
 facts (changes (add h rs)) b = record {
   shows = λ k. add_means_lem h rs k b ∙ plain _ k b;
   pends = λ k good. add_pending h rs k b good;
-  planned = add-planned b h rs;
-  fine = fine_refuse (add_checks (room_of b) b.memory h rs (state_of b)) _ _ _ _ (add-fine (room_of b) b.memory (state_of b) h rs);
+  planned = add_planned b h rs;
+  fine = fine_refuse (add_checks (room_of b) b.memory h rs (state_of b)) _ _ _ _ (add_fine (room_of b) b.memory (state_of b) h rs);
   dead = λ a e d. rw (not_live h a (state_of b) e d);
 }
 facts (changes (delete h first n)) b = record {
   shows = λ k. delete_means_lem h first n k b ∙ plain _ k b;
   pends = λ k good. delete_pending h first n k b good;
-  planned = delete-planned b h first n;
-  fine = fine_refuse (delete_checks (cells_of (length b.memory)) h first n (state_of b)) _ _ _ _ (delete-fine (room_of b) b.memory (state_of b) _ h first n);
+  planned = delete_planned b h first n;
+  fine = fine_refuse (delete_checks (cells_of (length b.memory)) h first n (state_of b)) _ _ _ _ (delete_fine (room_of b) b.memory (state_of b) _ h first n);
   dead = λ a e d. rw (not_live h a (state_of b) e d);
 }
 facts (changes (advance h)) b = record {
   shows = λ k. advance_means_lem h k b ∙ plain _ k b;
   pends = λ k good. advance_pending h k b good;
-  planned = advance-planned b h;
-  fine = fine_refuse (advance_checks (room_of b) b.memory h (state_of b)) _ _ _ _ (advance-fine (room_of b) b.memory (state_of b) h);
+  planned = advance_planned b h;
+  fine = fine_refuse (advance_checks (room_of b) b.memory h (state_of b)) _ _ _ _ (advance_fine (room_of b) b.memory (state_of b) h);
   dead = λ a e d. rw (not_live h a (state_of b) e d);
 }
 facts (changes (commit h)) b = record {
   shows = λ k. commit_means_lem h k b ∙ plain _ k b;
   pends = λ k good. commit_pending h k b good;
-  planned = commit-planned b h;
-  fine = fine_refuse (commit_checks h (state_of b)) _ _ _ _ (commit-fine (room_of b) b.memory (state_of b) h);
+  planned = commit_planned b h;
+  fine = fine_refuse (commit_checks h (state_of b)) _ _ _ _ (commit_fine (room_of b) b.memory (state_of b) h);
   dead = λ a e d. rw (not_live h a (state_of b) e d);
 }
 facts (restore h) b = record {
   shows = λ k. restore_means_lem h k b;
   pends = λ k good. restore_pending h k b good;
-  planned = restore-planned b h;
-  fine = fine_refuse (restore_checks h (state_of b)) _ _ _ _ (restore-fine (room_of b) b.memory (state_of b) h);
+  planned = restore_planned b h;
+  fine = fine_refuse (restore_checks h (state_of b)) _ _ _ _ (restore_fine (room_of b) b.memory (state_of b) h);
   dead = λ a e d. rw (not_live h a (state_of b) e d);
 }
 facts (reads list) b = read_facts list b (list_report b) fine_none (λ h e d. absurd (subst None e tt))
 facts (reads (look h c)) b =
-    read_facts (look h c) b (look_report h c b) (look-fine (room_of b) b.memory (state_of b) _ h c) (λ a e d. rw (not_live h a (state_of b) e d))
+    read_facts (look h c) b (look_report h c b) (look_fine (room_of b) b.memory (state_of b) _ h c) (λ a e d. rw (not_live h a (state_of b) e d))

@@ -30,12 +30,12 @@ use Rattle.store.specs.Outcome.{Buffers, buffers, Outcome}
 use Rattle.store.specs.State.{state_of, standing, slots}
 use Rattle.store.specs.Calls.{opening_after}
 use Rattle.store.specs.Means.{room_of}
-use Rattle.store.proofs.Checks.{store-opens}
-use Rattle.store.proofs.Means.{live-count}
-use Rattle.store.proofs.Raw.{raw-named}
+use Rattle.store.proofs.Checks.{store_opens}
+use Rattle.store.proofs.Means.{live_count}
+use Rattle.store.proofs.Raw.{raw_named}
 use Rattle.store.proofs.Reopened.{done_enough}
-use Rattle.store.proofs.Standing.{is-standing}
-use Rattle.restore.proofs.Ended.{EndedInside, same-front, check_live, leaves_at, restore-bodies, restore-ended, restore-early, restore-table}
+use Rattle.store.proofs.Standing.{is_standing}
+use Rattle.restore.proofs.Ended.{EndedInside, same_front, check_live, leaves_at, restore_bodies, restore_ended, restore_early, restore_table}
 use Rattle.demands.specs.Session.{call_on}
 use Rattle.demands.specs.Demands.{asked, opens, Found, not_made, wholly_made, is_around, IsDone, IsStopped, Suffices, restore_on, open_on, SameStore, RestoresSame, InnerFirst}
 use Rattle.demands.proofs.Shape.{call_alike, ended_answers}
@@ -50,25 +50,25 @@ use Rattle.demands.proofs.Meant.{exact, cut}
 -- ---- a call that is done has left the state and the memory of its effect
 
 module _ (c : Request) (k : ℕ) (b : Buffers) (d : IsDone (call_on c k b)) where
-  not-refused : (call_on c k b).report.status ≡ is_refused → ⊥
-  not-refused r = subst Finished (sym d ∙ r) tt
+  not_refused : (call_on c k b).report.status ≡ is_refused → ⊥
+  not_refused r = subst Finished (sym d ∙ r) tt
 
   good : asked b ≡ 0
-  good = call_passed c k b not-refused
+  good = call_passed c k b not_refused
 
   is : Shown c k b
-  is = call_shown c k b not-refused
+  is = call_shown c k b not_refused
 
   enough : steps_of is.bytes is.words ≤ k
   enough = done_enough (steps_of is.bytes is.words) is.handle k (ap (λ (v : View). v.report.status) (sym is.shows) ∙ d)
 
-  done-state : standing (call_on c k b).buffers ≡ some is.new
-  done-state =
+  done_state : standing (call_on c k b).buffers ≡ some is.new
+  done_state =
       ap (λ (v : View). v.state) is.shows
       ∙ ap some (state_whole (room_of b) c (state_of b) is.new b.memory k is.bytes is.words is.handle (store_within b.memory b.bodies b.table good) is.effect enough)
 
-  done-memory : (call_on c k b).buffers.memory ≡ memory_after c (state_of b) b.memory
-  done-memory =
+  done_memory : (call_on c k b).buffers.memory ≡ memory_after c (state_of b) b.memory
+  done_memory =
       ap (λ (v : View). v.memory) is.shows
       ∙ memory_whole (room_of b) c (state_of b) is.new b.memory k is.bytes is.words is.handle (exact b good) is.effect
       (let z = bytes_first is.bytes is.words in omega (arith, enough))
@@ -108,11 +108,11 @@ restore_left h k b good live-one d =
     let x = is (restore h) k b d in
     let y = passed (restore_checks h (state_of b)) _ _ _ x.bytes x.words x.handle _ x.new x.effect in
     record {
-      state = done-state (restore h) k b d ∙ ap some (sym y.leaves);
-      memory = done-memory (restore h) k b d;
-      bodies = restore-bodies h b pass k;
+      state = done_state (restore h) k b d ∙ ap some (sym y.leaves);
+      memory = done_memory (restore h) k b d;
+      bodies = restore_bodies h b pass k;
       size = (call_alike (restore h) k b).table;
-      table = rw (raw-named b.memory b.bodies b.table good h) (restore-ended h b pass k d);
+      table = rw (raw_named b.memory b.bodies b.table good h) (restore_ended h b pass k d);
       good = done_ready (call (restore h) k) b refl d;
     }
 
@@ -134,7 +134,7 @@ record SameForOuter (outer : ℕ) (b other : Buffers) : Type 0 where
 
 module _ (outer : ℕ) (b other : Buffers) (x : SameForOuter outer b other) where
   stands : state_of other ≡ x.now
-  stands = let s = is-standing other (store-opens (length other.memory) (length other.bodies) other.table x.good) in let t = x.state in cc
+  stands = let s = is_standing other (store_opens (length other.memory) (length other.bodies) other.table x.good) in let t = x.state in cc
 
   name : named outer (state_of other) ≡ named outer (state_of b)
   name = ap (named outer) stands ∙ x.still_named
@@ -153,13 +153,13 @@ module _ (outer : ℕ) (b other : Buffers) (x : SameForOuter outer b other) wher
             ∙ (λ i. restored_memory (name i) (stands i) other.memory)
             ∙ x.then_memory ∙ sym q.memory;
         bodies = p.bodies ∙ x.bodies ∙ sym q.bodies;
-        words = rw (first, second) (same-front x.table then-ended q.table x.around long);
+        words = rw (first, second) (same_front x.table then-ended q.table x.around long);
         same_length = long;
         state = p.state ∙ (λ i. some (restored (name i) (stands i))) ∙ ap some x.then_state ∙ sym q.state;
       }
 
-  restores-same : is_live outer (state_of b) ≡ true → asked b ≡ 0 → RestoresSame outer other b
-  restores-same live-one good k l f g =
+  restores_same : is_live outer (state_of b) ≡ true → asked b ≡ 0 → RestoresSame outer other b
+  restores_same live-one good k l f g =
       let live-other : is_live outer (state_of other) ≡ true = ap (ltb 0) name ∙ live-one in
       let d = restore_does outer k other x.good live-other f in
       let e = restore_does outer l b good live-one g in
@@ -168,8 +168,8 @@ module _ (outer : ℕ) (b other : Buffers) (x : SameForOuter outer b other) wher
 -- ---- after an inner restore
 
 module _ (outer inner : ℕ) (b : Buffers) (good : asked b ≡ 0) (nested : is_around outer inner (state_of b) ≡ true) where
-  live-outer : is_live outer (state_of b) ≡ true
-  live-outer = (and_split (is_live outer (state_of b)) (is_within (named outer (state_of b)) (named inner (state_of b))) nested).0
+  live_outer : is_live outer (state_of b) ≡ true
+  live_outer = (and_split (is_live outer (state_of b)) (is_within (named outer (state_of b)) (named inner (state_of b))) nested).0
 
   within : is_within (named outer (state_of b)) (named inner (state_of b)) ≡ true
   within = (and_split (is_live outer (state_of b)) (is_within (named outer (state_of b)) (named inner (state_of b))) nested).1
@@ -177,20 +177,20 @@ module _ (outer inner : ℕ) (b : Buffers) (good : asked b ≡ 0) (nested : is_a
   around : named outer (state_of b) ≤ named inner (state_of b)
   around = leb-true (named outer (state_of b)) (named inner (state_of b)) within
 
-  live-inner : is_live inner (state_of b) ≡ true
-  live-inner = let l = ltb-true 0 (named outer (state_of b)) live-outer in lt-ltb 0 (named inner (state_of b)) (omega (arith, around))
+  live_inner : is_live inner (state_of b) ≡ true
+  live_inner = let l = ltb-true 0 (named outer (state_of b)) live_outer in lt-ltb 0 (named inner (state_of b)) (omega (arith, around))
 
-  of-states : law.NestedRestores outer inner (state_of b) b.memory
-  of-states = law.nested_restores outer inner (state_of b) b.memory live-outer within
+  of_states : law.NestedRestores outer inner (state_of b) b.memory
+  of_states = law.nested_restores outer inner (state_of b) b.memory live_outer within
 
   -- made
-  made-same : (other : Buffers) → RestoreLeft inner b other → SameForOuter outer b other
-  made-same other x = record {
+  made_same : (other : Buffers) → RestoreLeft inner b other → SameForOuter outer b other
+  made_same other x = record {
     now = restored (named inner (state_of b)) (state_of b);
     state = x.state;
-    still_named = of-states.still_named;
-    then_state = of-states.state;
-    then_memory = ap (restored_memory (named outer (state_of b)) (restored (named inner (state_of b)) (state_of b))) x.memory ∙ of-states.memory;
+    still_named = of_states.still_named;
+    then_state = of_states.state;
+    then_memory = ap (restored_memory (named outer (state_of b)) (restored (named inner (state_of b)) (state_of b))) x.memory ∙ of_states.memory;
     bodies = x.bodies;
     size = x.size;
     depth = named inner (state_of b);
@@ -199,10 +199,10 @@ module _ (outer inner : ℕ) (b : Buffers) (good : asked b ≡ 0) (nested : is_a
     good = x.good;
   }
 
-  after-inner : (j : ℕ) → Suffices (restore_on inner j b) → IsDone (restore_on inner j b) × RestoresSame outer (restore_on inner j b).buffers b
-  after-inner j f =
-      let d = restore_does inner j b good live-inner f in
-      (d, restores-same outer b (restore_on inner j b).buffers (made-same _ (restore_left inner j b good live-inner d)) live-outer good)
+  after_inner : (j : ℕ) → Suffices (restore_on inner j b) → IsDone (restore_on inner j b) × RestoresSame outer (restore_on inner j b).buffers b
+  after_inner j f =
+      let d = restore_does inner j b good live_inner f in
+      (d, restores_same outer b (restore_on inner j b).buffers (made_same _ (restore_left inner j b good live_inner d)) live_outer good)
 
   -- cut, and found not made
   module _ (j : ℕ) (stop : IsStopped (restore_on inner j b)) where
@@ -212,20 +212,20 @@ module _ (outer inner : ℕ) (b : Buffers) (good : asked b ≡ 0) (nested : is_a
     unmade : standing left ≡ some (state_of b) → pending left.table ≡ 0
         → Mixed b.memory (restored_memory (named inner (state_of b)) (state_of b) b.memory) left.memory → SameForOuter outer b left
     unmade s idle mixed =
-        let pass = check_live inner b good live-inner in
+        let pass = check_live inner b good live_inner in
         record {
           now = state_of b;
           state = s;
           still_named = refl;
           then_state = refl;
-          then_memory = of-states.cut_memory left.memory mixed;
-          bodies = restore-bodies inner b pass j;
+          then_memory = of_states.cut_memory left.memory mixed;
+          bodies = restore_bodies inner b pass j;
           size = (call_alike (restore inner) j b).table;
           depth = live b.table;
-          around = let n = named_le inner (state_of b) in let c = live-count b.memory b.bodies b.table good in omega (arith, around);
-          table = restore-early inner b pass j stop idle;
+          around = let n = named_le inner (state_of b) in let c = live_count b.memory b.bodies b.table good in omega (arith, around);
+          table = restore_early inner b pass j stop idle;
           good = ready (length left.memory) (length left.bodies) left.table
-              (call_opens (restore inner) j b (store-opens (length b.memory) (length b.bodies) b.table good)) idle;
+              (call_opens (restore inner) j b (store_opens (length b.memory) (length b.bodies) b.table good)) idle;
         }
 
     -- and opened
@@ -233,14 +233,14 @@ module _ (outer inner : ℕ) (b : Buffers) (good : asked b ≡ 0) (nested : is_a
       abbrev final : Buffers
       final = (opening_after ks i (restore_on inner j b).buffers).buffers
 
-      by-found : Found (restore inner) b left → SameForOuter outer b final
-      by-found (not_made s idle mixed) = rw ((reopened j i ks b (restore inner) stop done-one).unmade idle) (unmade s idle mixed)
-      by-found (wholly_made e s waits m) =
-          let d = restore_does inner (plenty b) b good live-inner (plenty_suffices inner b) in
-          rw ((reopened j i ks b (restore inner) stop done-one).made waits (plenty b) d) (made-same _ (restore_left inner (plenty b) b good live-inner d))
+      by_found : Found (restore inner) b left → SameForOuter outer b final
+      by_found (not_made s idle mixed) = rw ((reopened j i ks b (restore inner) stop done-one).unmade idle) (unmade s idle mixed)
+      by_found (wholly_made e s waits m) =
+          let d = restore_does inner (plenty b) b good live_inner (plenty_suffices inner b) in
+          rw ((reopened j i ks b (restore inner) stop done-one).made waits (plenty b) d) (made_same _ (restore_left inner (plenty b) b good live_inner d))
 
-      after-cut : RestoresSame outer (opening_after ks i (restore_on inner j b).buffers).buffers b
-      after-cut = restores-same outer b final (by-found (cut (restore inner) j b stop)) live-outer good
+      after_cut : RestoresSame outer (opening_after ks i (restore_on inner j b).buffers).buffers b
+      after_cut = restores_same outer b final (by_found (cut (restore inner) j b stop)) live_outer good
 
 -- ---- twice
 
@@ -254,7 +254,7 @@ module _ (h j k : ℕ) (b : Buffers) (good : asked b ≡ 0) (live-one : is_live 
   again : IsDone (restore_on h j b) → Suffices (restore_on h k once) → IsDone (restore_on h k once) × ((restore_on h k once).buffers ≡ once)
   again d f =
       let x = restore_left h j b good live-one d in
-      let other = made-same h h b good itself once x in
+      let other = made_same h h b good itself once x in
       let here = name h b once other in
       let live_then : is_live h (state_of once) ≡ true = ap (ltb 0) here ∙ live-one in
       let e = restore_does h k once x.good live_then f in
@@ -262,13 +262,13 @@ module _ (h j k : ℕ) (b : Buffers) (good : asked b ≡ 0) (live-one : is_live 
       let m : (restore_on h k once).buffers.memory ≡ once.memory =
       (same_store h b once other _ _ y x).memory in
       let innermost : live once.table ≡ depth_named once.table h =
-      x.table.head.live ∙ sym here ∙ raw-named once.memory once.bodies once.table x.good h in
-      let t : (restore_on h k once).buffers.table ≡ once.table = restore-table h once (check_live h once x.good live_then) k innermost in
+      x.table.head.live ∙ sym here ∙ raw_named once.memory once.bodies once.table x.good h in
+      let t : (restore_on h k once).buffers.table ≡ once.table = restore_table h once (check_live h once x.good live_then) k innermost in
       (e, λ i. buffers (m i) (y.bodies i) (t i))
 
-  two-restores : Suffices (restore_on h j b) → Suffices (restore_on h k (restore_on h j b).buffers)
+  two_restores_lem : Suffices (restore_on h j b) → Suffices (restore_on h k (restore_on h j b).buffers)
       → IsDone (restore_on h j b) × IsDone (restore_on h k (restore_on h j b).buffers) × ((restore_on h k (restore_on h j b).buffers).buffers ≡ (restore_on h j b).buffers)
-  two-restores f g =
+  two_restores_lem f g =
       let d = restore_does h j b good live-one f in
       let r = again d g in
       (d, r.0, r.1)
@@ -284,8 +284,8 @@ opened b i fine f =
     let after : Buffers = (open_on i b).buffers in
     let good = done_ready (opening i) b refl d in
     let keeps = opening_keeps i b fine in
-    let now = is-standing after (store-opens (length after.memory) (length after.bodies) after.table good) in
-    let was = is-standing b fine in
+    let now = is_standing after (store_opens (length after.memory) (length after.bodies) after.table good) in
+    let was = is_standing b fine in
     let same = keeps.0 in
     let state : state_of after ≡ state_of b = cc in
     (d, good, state, keeps.1)
@@ -293,8 +293,8 @@ opened b i fine f =
 pub inner_first : InnerFirst
 inner_first = record {
   opened = opened;
-  same = λ outer inner j b good nested f. after-inner outer inner b good nested j f;
+  same = λ outer inner j b good nested f. after_inner outer inner b good nested j f;
   cut = λ outer inner j ks i b nested stop d.
-      after-cut outer inner b (call_passed (restore inner) j b (λ r. subst Halted (sym stop ∙ r) tt)) nested j stop ks i d;
-  twice = λ h j k b good live-one. two-restores h j k b good live-one;
+      after_cut outer inner b (call_passed (restore inner) j b (λ r. subst Halted (sym stop ∙ r) tt)) nested j stop ks i d;
+  twice = λ h j k b good live-one. two_restores_lem h j k b good live-one;
 }

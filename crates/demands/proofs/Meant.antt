@@ -25,15 +25,15 @@ use Rattle.store.specs.Checks.{make_check}
 use Rattle.store.specs.State.{state_of, standing, slots}
 use Rattle.store.specs.Calls.{make_plan, make_call, open_call}
 use Rattle.store.specs.Means.{call_means, list_means, room_of}
-use Rattle.store.proofs.Checks.{store-lengths}
+use Rattle.store.proofs.Checks.{store_lengths}
 use Rattle.store.proofs.Outcome.{table_after}
-use Rattle.store.proofs.Making.{make-none}
+use Rattle.store.proofs.Making.{make_none}
 use Rattle.store.proofs.Means.{long, make_means_lem, open_means_lem}
 use Rattle.store.proofs.Pending.{after_pending}
 use Rattle.store.proofs.Reopened.{stopped_short}
-use Rattle.store.proofs.Standing.{stands-for, only-state}
-use Rattle.add.proofs.Added.{add_means_lem, add_takes, add_is, add-with-means, add-with-reopens}
-use Rattle.advance.proofs.Advanced.{advance_takes, advance_is, gives_few, advance_steps_lem, advance-with-means, advance-with-reopens}
+use Rattle.store.proofs.Standing.{stands_for, only_state}
+use Rattle.add.proofs.Added.{add_means_lem, add_takes, add_is, add_with_means, add_with_reopens}
+use Rattle.advance.proofs.Advanced.{advance_takes, advance_is, gives_few, advance_step_count, advance_with_means, advance_with_reopens}
 use Rattle.look.proofs.Placing.{look_means_lem, look_within}
 use Rattle.look.proofs.Shown.{look_tells}
 use Rattle.demands.specs.Session.{call_on}
@@ -47,7 +47,7 @@ use Rattle.demands.proofs.Reopening.{opening_keeps, reopened}
 use Rattle.demands.proofs.Refused.{open_refuses}
 
 pub exact : (b : Buffers) → asked b ≡ 0 → length b.memory ≡ 64 * cells_of (length b.memory)
-exact b e = (store-lengths (length b.memory) (length b.bodies) b.table e).memory_exact
+exact b e = (store_lengths (length b.memory) (length b.bodies) b.table e).memory_exact
 
 -- ---- the steps of an advance
 
@@ -65,7 +65,7 @@ cut_made : (k : ℕ) (b : Buffers) → lengths_right b ≡ true → 0 < k → k 
 cut_made k b fit pos less =
     ap (λ (o : Outcome). opens o.buffers)
     (make_performs k b fit ∙ table_after (make_plan (cells_of (length b.memory)) (slots b) (bodies_of (length b.bodies))) 0 k b.memory b.bodies b.table)
-    ∙ make-none b.memory b.bodies b.table fit (long (length b.memory) (length b.bodies) b.table fit) k pos less
+    ∙ make_none b.memory b.bodies b.table fit (long (length b.memory) (length b.bodies) b.table fit) k pos less
 
 list_shows : (b : Buffers) → asked b ≡ 0 → list_means b ≡ listed (state_of b)
 unfolding list_means
@@ -97,15 +97,15 @@ cut c k b stop = found (ltb (x + 2 * w) k) refl (ap (λ (v : View). v.state) is.
     pends : pending left.table ≡ after_pending (change x w is.handle is.new) k
     pends = (facts c b).pends k good ∙ ap (λ (f : Effect). after_pending f k) is.effect
 
-    words-some : (x w : ℕ) → k < steps_of x w → x + 2 * w < k → 0 < w
-    words-some x zero l m = absurd (omega arith)
-    words-some x (suc w) l m = omega arith
+    words_some : (x w : ℕ) → k < steps_of x w → x + 2 * w < k → 0 < w
+    words_some x zero l m = absurd (omega arith)
+    words_some x (suc w) l m = omega arith
 
     found : (t : Bool) → ltb (x + 2 * w) k ≡ t → standing left ≡ some (cond t is.new (state_of b)) → Found c b left
     found true t s =
         let late : x + 2 * w < k = ltb-true (x + 2 * w) k t in
         let p : pending left.table ≡ w = pends ∙ rw (t, lt-ltb k (steps_of x w) more) in
-        wholly_made is.effect s (subst (λ (n : ℕ). 0 < n) (sym p) (words-some x w more late))
+        wholly_made is.effect s (subst (λ (n : ℕ). 0 < n) (sym p) (words_some x w more late))
         (ap (λ (v : View). v.memory) is.shows ∙ memory_whole (room_of b) c (state_of b) is.new b.memory k x w is.handle (exact b good) is.effect (omega arith))
     found false t s =
         not_made s (pends ∙ rw t)
@@ -132,14 +132,14 @@ demand_2 = record {
   done_ready = done_ready;
   add_takes = add_takes;
   add_is = add_is;
-  add_any = λ h rs b slot body may. record { shown = add-with-means h rs b slot body may; reopens = add-with-reopens h rs b slot body may };
+  add_any = λ h rs b slot body may. record { shown = add_with_means h rs b slot body may; reopens = add_with_reopens h rs b slot body may };
   advance_takes = advance_takes;
   advance_is = advance_is;
-  advance_any = λ h b slot body may. record { shown = advance-with-means h b slot body may; reopens = advance-with-reopens h b slot body may };
-  advance_steps_lem = λ h b pass k. advance_steps_lem b h pass k;
+  advance_any = λ h b slot body may. record { shown = advance_with_means h b slot body may; reopens = advance_with_reopens h b slot body may };
+  advance_step_count = λ h b pass k. advance_step_count b h pass k;
   advance_most = λ b. steps_most (advancing_cells b) (outward_cells b) (gives_few b);
-  stands = stands-for;
-  one_state = λ b s e. only-state b e s;
+  stands = stands_for;
+  one_state = λ b s e. only_state b e s;
   reached = reached;
   make_cut = λ k j b fit pos less. open_refuses j 1 (made_from b k) (cut_made k b fit pos less);
   cut = cut;

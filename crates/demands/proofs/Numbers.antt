@@ -17,7 +17,7 @@ use Rattle.store.specs.Means.{or_refused, make_means, open_means, room_of}
 use Rattle.store.proofs.Means.{visible_of, by_check, make_means_lem, open_means_lem}
 use Rattle.demands.specs.Session.{call_on, input_on}
 use Rattle.demands.specs.Demands.{asked, is_question}
-use Rattle.demands.proofs.Questions.{Fine, make-fine, open-fine, store-fine, FineEffect}
+use Rattle.demands.proofs.Questions.{Fine, make_fine, open_fine, store_fine, FineEffect}
 use Rattle.demands.proofs.Calls.{facts}
 use Rattle.demands.proofs.Seen.{call_means_lem, call_refusal}
 
@@ -46,7 +46,7 @@ shown_numbered o v e f = subst Numbered (ap (λ (x : View). x.report) (sym e)) f
 call_numbered : (c : Request) (k : ℕ) (b : Buffers) → Numbered (call_on c k b).report
 call_numbered c k b =
     by_check (λ q. asked b ≡ q → Numbered (call_on c k b).report) (asked b)
-    (λ n e _. subst Numbered (sym (call_refusal c k n b e)) (λ _. (store-fine b).number n e))
+    (λ n e _. subst Numbered (sym (call_refusal c k n b e)) (λ _. (store_fine b).number n e))
     (λ e _.
     shown_numbered (call_on c k b) (view_of (room_of b) c k (state_of b) b.memory) (call_means_lem c k b e)
     (viewed_numbered (effect_of (room_of b) b.memory c (state_of b)) k (state_of b) b.memory (memory_at k c (state_of b) b.memory)
@@ -55,11 +55,11 @@ call_numbered c k b =
 
 make_numbered : (k : ℕ) (b : Buffers) → Numbered (make_means k b).report
 unfolding make_means
-make_numbered k b = by_number_lem _ b _ (make-fine b) (ended_numbered _ 0 k)
+make_numbered k b = by_number_lem _ b _ (make_fine b) (ended_numbered _ 0 k)
 
 open_numbered : (k : ℕ) (b : Buffers) → Numbered (open_means k b).report
 unfolding open_means
-open_numbered k b = by_number_lem _ b _ (open-fine b) (ended_numbered _ 0 k)
+open_numbered k b = by_number_lem _ b _ (open_fine b) (ended_numbered _ 0 k)
 
 pub input_numbered : (i : Input) (b : Buffers) → (input_on i b).report.status ≡ is_refused → is_question (input_on i b).report.refusal ≡ true
 input_numbered (make k) b = shown_numbered _ (make_means k b) (make_means_lem k b) (make_numbered k b)

@@ -24,18 +24,18 @@ use Rattle.store.proofs.Changes.{change_length}
 use Rattle.store.proofs.Created.{create_words_lem}
 use Rattle.store.proofs.Reopened.{Shaped, changes_shaped}
 use Rattle.add.specs.Add.{add_check, add_bytes, add_words, add_call}
-use Rattle.add.proofs.Readied.{add-ready}
+use Rattle.add.proofs.Readied.{add_ready}
 use Rattle.add.proofs.Added.{add_bound}
 use Rattle.delete.specs.Delete.{delete_check, delete_words, delete_call}
-use Rattle.delete.proofs.Deleted.{check-store as delete-store, check-passed as delete-passed, delete-steps, delete-bound}
+use Rattle.delete.proofs.Deleted.{check_store as delete-store, check_passed as delete-passed, delete_steps, delete_bound}
 use Rattle.advance.specs.Advance.{advance_check, advance_bytes, advance_words, advance_call}
-use Rattle.advance.proofs.Advanced.{advance-bound}
+use Rattle.advance.proofs.Advanced.{advance_bound}
 use Rattle.commit.specs.Commit.{commit_check, commit_words, commit_call}
-use Rattle.commit.proofs.Committed.{commit-store, commit-live, new-count, commit-bound}
+use Rattle.commit.proofs.Committed.{commit_store, commit_live, new_count, commit_bound}
 use Rattle.restore.specs.Restore.{restore_check, restore_bytes, restore_words, restore_call}
 use Rattle.restore.proofs.Plan.{restore_length, restores_shaped}
-use Rattle.restore.proofs.Restored.{asked, asked_low, new-bytes, new-words}
-use Rattle.restore.proofs.Cuts.{restore-bound}
+use Rattle.restore.proofs.Restored.{asked, asked_low, new_bytes, new_words}
+use Rattle.restore.proofs.Cuts.{restore_bound}
 
 -- ---- by the number of its questions and its plan
 
@@ -76,54 +76,54 @@ change_planned at b q bytes ws h is few = record {
 }
 
 module _ (b : Buffers) where
-  pub create-planned : Planned (λ k. outcome (create_call b) k b) b
+  pub create_planned : Planned (λ k. outcome (create_call b) k b) b
   unfolding create_call
-  create-planned =
+  create_planned =
       change_planned _ b (create_check (lent_of b)) [] (create_words b.table) (next_handle b.table) (λ k. refl)
       (λ q. at_most (change_length (pairs_at (slots b)) [] (create_words b.table) ∙ ap (steps_of 0) (create_words_lem b.table)) (change_bound 0 3 (slots b) (omega arith) (omega arith)))
 
-  pub add-planned : (h : ℕ) (rs : List Range) → Planned (λ k. outcome (add_call h rs b) k b) b
+  pub add_planned : (h : ℕ) (rs : List Range) → Planned (λ k. outcome (add_call h rs b) k b) b
   unfolding add_call
-  add-planned h rs =
+  add_planned h rs =
       let bytes = add_bytes (bodies_of (length b.bodies)) b.memory b.table rs in
       let ws = add_words (cells_of (length b.memory)) (bodies_of (length b.bodies)) b.table rs in
       change_planned _ b (add_check b h rs) bytes ws 0 (λ k. refl)
       (λ q.
       at_most (change_length (pairs_at (slots b)) bytes ws)
-      (add_bound b.memory b.bodies b.table rs (add-ready b.memory b.bodies b.table h rs q)))
+      (add_bound b.memory b.bodies b.table rs (add_ready b.memory b.bodies b.table h rs q)))
 
-  pub delete-planned : (h first n : ℕ) → Planned (λ k. outcome (delete_call h first n b) k b) b
+  pub delete_planned : (h first n : ℕ) → Planned (λ k. outcome (delete_call h first n b) k b) b
   unfolding delete_call
-  delete-planned h first n =
+  delete_planned h first n =
       change_planned _ b (delete_check (lent_of b) h first n) [] (delete_words b.table (depth_named b.table h) first n) 0
       (λ k. refl)
       (λ q.
       let yes = delete-store (length b.memory) (length b.bodies) b.table h first n q in
       let pass = delete-passed (length b.memory) (length b.bodies) b.table h first n q in
-      at_most (delete-steps b.memory b.bodies b.table yes (depth_named b.table h) first n pass)
-      (delete-bound b.memory b.bodies b.table yes (depth_named b.table h) first n pass))
+      at_most (delete_steps b.memory b.bodies b.table yes (depth_named b.table h) first n pass)
+      (delete_bound b.memory b.bodies b.table yes (depth_named b.table h) first n pass))
 
-  pub advance-planned : (h : ℕ) → Planned (λ k. outcome (advance_call h b) k b) b
+  pub advance_planned : (h : ℕ) → Planned (λ k. outcome (advance_call h b) k b) b
   unfolding advance_call
-  advance-planned h =
+  advance_planned h =
       change_planned _ b (advance_check b h) (advance_bytes b) (advance_words b) 0 (λ k. refl)
-      (λ q. at_most (change_length (pairs_at (slots b)) (advance_bytes b) (advance_words b)) (advance-bound b h q))
+      (λ q. at_most (change_length (pairs_at (slots b)) (advance_bytes b) (advance_words b)) (advance_bound b h q))
 
-  pub commit-planned : (h : ℕ) → Planned (λ k. outcome (commit_call h b) k b) b
+  pub commit_planned : (h : ℕ) → Planned (λ k. outcome (commit_call h b) k b) b
   unfolding commit_call
-  commit-planned h =
+  commit_planned h =
       change_planned _ b (commit_check (lent_of b) h) [] (commit_words b.table) 0 (λ k. refl)
       (λ q.
-      let yes = commit-store (length b.memory) (length b.bodies) b.table h q in
-      let some-live = commit-live (length b.memory) (length b.bodies) b.table h q in
-      at_most (change_length (pairs_at (slots b)) [] (commit_words b.table) ∙ ap (steps_of 0) (new-count b.memory b.bodies b.table yes some-live))
-      (commit-bound b.memory b.bodies b.table yes some-live))
+      let yes = commit_store (length b.memory) (length b.bodies) b.table h q in
+      let some-live = commit_live (length b.memory) (length b.bodies) b.table h q in
+      at_most (change_length (pairs_at (slots b)) [] (commit_words b.table) ∙ ap (steps_of 0) (new_count b.memory b.bodies b.table yes some-live))
+      (commit_bound b.memory b.bodies b.table yes some-live))
 
   -- ---- restore
 
-  pub restore-planned : (h : ℕ) → Planned (λ k. outcome (restore_call h b) k b) b
+  pub restore_planned : (h : ℕ) → Planned (λ k. outcome (restore_call h b) k b) b
   unfolding restore_call restore_check
-  restore-planned h =
+  restore_planned h =
       let asks : ℕ = or_else (store_check (lent_of b)) (asked b.table h) in
       let d : ℕ = depth_named b.table h in
       let bytes = restore_bytes (cells_of (length b.memory)) (depth_named b.table h) b.bodies b.table in
@@ -137,8 +137,8 @@ module _ (b : Buffers) where
             let low = asked_low b.table h both.1 in
             let high = depth_small b.table h in
             at_most (restore_length (pairs_at (slots b)) bytes ws
-            ∙ (λ i. steps_of (new-bytes b.memory b.bodies b.table both.0 d low high i) (new-words b.memory b.bodies b.table both.0 d low high i)))
-            (restore-bound b.memory b.bodies b.table both.0 d low high));
+            ∙ (λ i. steps_of (new_bytes b.memory b.bodies b.table both.0 d low high i) (new_words b.memory b.bodies b.table both.0 d low high i)))
+            (restore_bound b.memory b.bodies b.table both.0 d low high));
         shaped = λ k e. shaped_unless asks _ k b (restores_shaped b bytes ws 0) e;
       }
 

@@ -41,25 +41,25 @@ fine_else zero n f g = g
 fine_else (suc m) n f g = f
 
 module _ (b : Buffers) where
-  shape-fine : Fine (shape_check (lent_of b))
+  shape_fine : Fine (shape_check (lent_of b))
   unfolding shape_check
-  shape-fine = fine_ask (lengths_right b) 1 _ refl (fine_ask (header_right b) 2 0 refl fine_none)
+  shape_fine = fine_ask (lengths_right b) 1 _ refl (fine_ask (header_right b) 2 0 refl fine_none)
 
-  table-fine : Fine (table_check (lent_of b))
+  table_fine : Fine (table_check (lent_of b))
   unfolding table_check
-  table-fine = fine_ask (table_right b) 4 0 refl fine_none
+  table_fine = fine_ask (table_right b) 4 0 refl fine_none
 
-  pub make-fine : Fine (make_check (lent_of b))
+  pub make_fine : Fine (make_check (lent_of b))
   unfolding make_check
-  make-fine = fine_ask (lengths_right b) 1 0 refl fine_none
+  make_fine = fine_ask (lengths_right b) 1 0 refl fine_none
 
-  pub open-fine : Fine (open_check (lent_of b))
+  pub open_fine : Fine (open_check (lent_of b))
   unfolding open_check
-  open-fine = fine_else _ _ shape-fine table-fine
+  open_fine = fine_else _ _ shape_fine table_fine
 
-  pub store-fine : Fine (store_check (lent_of b))
+  pub store_fine : Fine (store_check (lent_of b))
   unfolding store_check
-  store-fine = fine_else _ _ shape-fine (fine_ask (eqb (pending b.table) 0) 3 _ refl table-fine)
+  store_fine = fine_else _ _ shape_fine (fine_ask (eqb (pending b.table) 0) 3 _ refl table_fine)
 
 -- ---- effects
 
@@ -97,11 +97,11 @@ list_fine m memory [] s rest f = f
 list_fine m memory (r ∷ rs) s rest f = range_fine m memory r s _ (list_fine m memory rs (add_range memory r s) rest f)
 
 module _ (room : Room) (memory : List ℕ) (s : State) where
-  pub create-fine : Fine (create_checks s)
-  create-fine = fine_ask (ltb (length s.domains) 8) 9 _ refl (fine_ask (ltb s.next 4_294_967_295) 10 0 refl fine_none)
+  pub create_fine : Fine (create_checks s)
+  create_fine = fine_ask (ltb (length s.domains) 8) 9 _ refl (fine_ask (ltb s.next 4_294_967_295) 10 0 refl fine_none)
 
-  pub add-fine : (h : ℕ) (rs : List Range) → Fine (add_checks room memory h rs s)
-  add-fine h rs =
+  pub add_fine : (h : ℕ) (rs : List Range) → Fine (add_checks room memory h rs s)
+  add_fine h rs =
       fine_ask (is_live h s) 5 _ refl
       (fine_ask (is_innermost h s) 6 _ refl
       (fine_ask (list_ok rs) 20 _ refl
@@ -109,25 +109,25 @@ module _ (room : Room) (memory : List ℕ) (s : State) where
       (fine_ask (leb (live_entries room.cells s + newly_held room.cells s (add_ranges memory rs s)) room.slots) 16 _ refl
       (fine_ask (leb (copies_in_use room.cells s + new_bodies room.cells s (add_ranges memory rs s)) room.bodies) 17 0 refl fine_none)))))
 
-  pub delete-fine : (m h first n : ℕ) → Fine (delete_checks m h first n s)
-  delete-fine m h first n =
+  pub delete_fine : (m h first n : ℕ) → Fine (delete_checks m h first n s)
+  delete_fine m h first n =
       fine_ask (is_live h s) 5 _ refl
       (fine_ask (range_ok m first n) 8 _ refl
       (fine_ask (all n (λ j. is_held (holding_at s.domains (named h s) (first + j)))) 13 _ refl
       (fine_ask (all n (λ j. not (held_via (holding_at s.domains (suc (named h s)) (first + j))))) 14 0 refl fine_none)))
 
-  pub advance-fine : (h : ℕ) → Fine (advance_checks room memory h s)
-  advance-fine h =
+  pub advance_fine : (h : ℕ) → Fine (advance_checks room memory h s)
+  advance_fine h =
       fine_ask (is_live h s) 5 _ refl
       (fine_ask (is_innermost h s) 6 _ refl
       (fine_ask (leb (live_entries room.cells s + given_cells room.cells memory s) room.slots) 16 _ refl
       (fine_ask (leb (copies_in_use room.cells s + changed_cells room.cells memory s) room.bodies) 17 0 refl fine_none)))
 
-  pub commit-fine : (h : ℕ) → Fine (commit_checks h s)
-  commit-fine h = fine_ask (is_live h s) 5 _ refl (fine_ask (is_innermost h s) 6 0 refl fine_none)
+  pub commit_fine : (h : ℕ) → Fine (commit_checks h s)
+  commit_fine h = fine_ask (is_live h s) 5 _ refl (fine_ask (is_innermost h s) 6 0 refl fine_none)
 
-  pub restore-fine : (h : ℕ) → Fine (restore_checks h s)
-  restore-fine h = fine_ask (is_live h s) 5 0 refl fine_none
+  pub restore_fine : (h : ℕ) → Fine (restore_checks h s)
+  restore_fine h = fine_ask (is_live h s) 5 0 refl fine_none
 
-  pub look-fine : (m h c : ℕ) → Fine (look_checks m h c s)
-  look-fine m h c = fine_ask (is_live h s) 5 _ refl (fine_ask (range_ok m c 1) 8 0 refl fine_none)
+  pub look_fine : (m h c : ℕ) → Fine (look_checks m h c s)
+  look_fine m h c = fine_ask (is_live h s) 5 _ refl (fine_ask (range_ok m c 1) 8 0 refl fine_none)

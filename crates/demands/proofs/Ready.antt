@@ -22,7 +22,7 @@ use Rattle.store.specs.Checks.{open_check, store_check, lent}
 use Rattle.store.specs.State.{state_of, slots}
 use Rattle.store.specs.Calls.{make_call, open_call}
 use Rattle.store.specs.Means.{room_of}
-use Rattle.store.proofs.Checks.{open-shape, open-table, store-opens}
+use Rattle.store.proofs.Checks.{open_shape, open_table, store_opens}
 use Rattle.store.proofs.Means.{by_check}
 use Rattle.store.proofs.Standing.{standing_opens}
 use Rattle.store.proofs.Pending.{after_pending, left_pending, make_pending, open_pending_after}
@@ -117,12 +117,12 @@ reached b k l e n = list_opens l (made_from b k) n (standing_opens (made_from b 
 
 pub ready : (memory bodies : ℕ) (t : List ℕ) → open_check (lent memory bodies t) ≡ 0 → pending t ≡ 0 → store_check (lent memory bodies t) ≡ 0
 unfolding store_check
-ready memory bodies t o idle = rw (open-shape memory bodies t o, eq-eqb (pending t) 0 idle, open-table memory bodies t o)
+ready memory bodies t o idle = rw (open_shape memory bodies t o, eq-eqb (pending t) 0 idle, open_table memory bodies t o)
 
 done_opens : (i : Input) (b : Buffers) → is_call i ≡ true → (input_on i b).report.status ≡ is_done → opens (input_on i b).buffers ≡ 0
 done_opens (make k) b c d = standing_opens (made_from b k) fresh (make_stands k b d)
 done_opens (call c k) b _ d =
-    call_opens c k b (store-opens (length b.memory) (length b.bodies) b.table (call_passed c k b (λ r. subst Finished (sym d ∙ r) tt)))
+    call_opens c k b (store_opens (length b.memory) (length b.bodies) b.table (call_passed c k b (λ r. subst Finished (sym d ∙ r) tt)))
 done_opens (opening k) b c d = still_opens (cells_of (length b.memory)) k b (open_passed k b (λ r. subst Finished (sym d ∙ r) tt))
 done_opens (write ws) b c d = absurd (false≢true c)
 

@@ -45,33 +45,33 @@ input_kept (write ws) b e = absurd (subst Finished e tt)
 -- ---- questions 1 to 4
 
 module _ (b : Buffers) where
-  asked-1 : lengths_right b ≡ false → asked b ≡ 1
+  asked_1 : lengths_right b ≡ false → asked b ≡ 1
   unfolding store_check shape_check
-  asked-1 e = rw e
+  asked_1 e = rw e
 
-  opens-1 : lengths_right b ≡ false → opens b ≡ 1
+  opens_1 : lengths_right b ≡ false → opens b ≡ 1
   unfolding open_check shape_check
-  opens-1 e = rw e
+  opens_1 e = rw e
 
-  asked-2 : lengths_right b ≡ true → header_right b ≡ false → asked b ≡ 2
+  asked_2 : lengths_right b ≡ true → header_right b ≡ false → asked b ≡ 2
   unfolding store_check shape_check
-  asked-2 e f = rw (e, f)
+  asked_2 e f = rw (e, f)
 
-  opens-2 : lengths_right b ≡ true → header_right b ≡ false → opens b ≡ 2
+  opens_2 : lengths_right b ≡ true → header_right b ≡ false → opens b ≡ 2
   unfolding open_check shape_check
-  opens-2 e f = rw (e, f)
+  opens_2 e f = rw (e, f)
 
-  asked-3 : lengths_right b ≡ true → header_right b ≡ true → (pending b.table ≡ 0 → ⊥) → asked b ≡ 3
+  asked_3 : lengths_right b ≡ true → header_right b ≡ true → (pending b.table ≡ 0 → ⊥) → asked b ≡ 3
   unfolding store_check shape_check
-  asked-3 e f n = rw (e, f, ne_eqb (pending b.table) 0 n)
+  asked_3 e f n = rw (e, f, ne_eqb (pending b.table) 0 n)
 
-  asked-4 : lengths_right b ≡ true → header_right b ≡ true → pending b.table ≡ 0 → table_right b ≡ false → asked b ≡ 4
+  asked_4 : lengths_right b ≡ true → header_right b ≡ true → pending b.table ≡ 0 → table_right b ≡ false → asked b ≡ 4
   unfolding store_check shape_check table_check
-  asked-4 e f p t = rw (e, f, eq-eqb (pending b.table) 0 p, t)
+  asked_4 e f p t = rw (e, f, eq-eqb (pending b.table) 0 p, t)
 
-  opens-4 : lengths_right b ≡ true → header_right b ≡ true → table_right b ≡ false → opens b ≡ 4
+  opens_4 : lengths_right b ≡ true → header_right b ≡ true → table_right b ≡ false → opens b ≡ 4
   unfolding open_check shape_check table_check
-  opens-4 e f t = rw (e, f, t)
+  opens_4 e f t = rw (e, f, t)
 
 pub open_refuses : (k n : ℕ) (b : Buffers) → opens b ≡ suc n → outcome (open_call b) k b ≡ leaves (refused (suc n)) b
 open_refuses k n b e =
@@ -109,14 +109,14 @@ past_list m memory (p ∷ ps) r after s rest q kinds range =
 
 wrong_length : (i : Input) (b : Buffers) → is_call i ≡ true → lengths_right b ≡ false → input_on i b ≡ leaves (refused 1) b
 wrong_length (make k) b c e = make_refuses k b e
-wrong_length (call c k) b _ e = call_refuses c k 0 b (asked-1 b e)
-wrong_length (opening k) b c e = open_refuses k 0 b (opens-1 b e)
+wrong_length (call c k) b _ e = call_refuses c k 0 b (asked_1 b e)
+wrong_length (opening k) b c e = open_refuses k 0 b (opens_1 b e)
 wrong_length (write ws) b c e = absurd (false≢true c)
 
 wrong_header : (i : Input) (b : Buffers) → is_later i ≡ true → lengths_right b ≡ true → header_right b ≡ false → input_on i b ≡ leaves (refused 2) b
 wrong_header (make k) b c e f = absurd (false≢true c)
-wrong_header (call c k) b _ e f = call_refuses c k 1 b (asked-2 b e f)
-wrong_header (opening k) b c e f = open_refuses k 1 b (opens-2 b e f)
+wrong_header (call c k) b _ e f = call_refuses c k 1 b (asked_2 b e f)
+wrong_header (opening k) b c e f = open_refuses k 1 b (opens_2 b e f)
 wrong_header (write ws) b c e f = absurd (false≢true c)
 
 pub demand_1 : Demand1
@@ -125,9 +125,9 @@ demand_1 = record {
   kept = input_kept;
   wrong_length = wrong_length;
   wrong_header = wrong_header;
-  unopened = λ c k b e f n. call_refuses c k 2 b (asked-3 b e f n);
-  wrong_table = λ c k b e f p t. call_refuses c k 3 b (asked-4 b e f p t);
-  wrong_table_opening = λ k b e f t. open_refuses k 3 b (opens-4 b e f t);
+  unopened = λ c k b e f n. call_refuses c k 2 b (asked_3 b e f n);
+  wrong_table = λ c k b e f p t. call_refuses c k 3 b (asked_4 b e f p t);
+  wrong_table_opening = λ k b e f t. open_refuses k 3 b (opens_4 b e f t);
   stale_handle = λ c h k b good e d. state_refuses c k 5 b good ((facts c b).dead h e d);
   past_add = λ h k before r after b good live inner few right kinds range.
       state_refuses (changes (add h (before ++ r ∷ after))) k 8 b good

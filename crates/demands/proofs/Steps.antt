@@ -15,7 +15,7 @@ use Rattle.words.specs.Journal.{pending}
 use Rattle.words.proofs.Plans.{length_stores}
 use Rattle.words.proofs.Scan.{by_bool}
 use Rattle.table.specs.Checks.{lengths_ok}
-use Rattle.table.proofs.Checks.{lengths-facts}
+use Rattle.table.proofs.Checks.{lengths_facts}
 use Rattle.model.specs.State.{State}
 use Rattle.model.specs.Answer.{Report, refused, ended, View, steps_of}
 use Rattle.model.specs.Calls.{Effect, refuse, change, make_steps, make_view, open_steps, open_view, viewed_with}
@@ -27,8 +27,8 @@ use Rattle.store.specs.Checks.{make_check, lent_of}
 use Rattle.store.specs.State.{state_of, standing, slots}
 use Rattle.store.specs.Calls.{make_call, open_call}
 use Rattle.store.specs.Means.{make_means, open_means, room_of}
-use Rattle.store.proofs.Means.{visible_of, by_check, make_means_lem, open_means_lem, store-standing}
-use Rattle.store.proofs.Standing.{is-standing, standing_opens, None}
+use Rattle.store.proofs.Means.{visible_of, by_check, make_means_lem, open_means_lem, store_standing}
+use Rattle.store.proofs.Standing.{is_standing, standing_opens, None}
 use Rattle.store.proofs.Pending.{after_pending, make_pending, open_pending_after}
 use Rattle.demands.specs.Session.{call_on, input_on, was_stopped, is_opening}
 use Rattle.demands.specs.Demands.{asked, opens}
@@ -110,7 +110,7 @@ viewed_free (change b w h new) k s m n f =
     (λ t. let g = rw t at f in absurd (true≢false g))
 
 exact : {cells : ℕ} {b : Buffers} {d : Due} → Fits cells b d → length b.memory ≡ 64 * cells_of (length b.memory)
-exact {b = b} f = (lengths-facts (length b.memory) (length b.bodies) (length b.table) f.lengths).memory_exact
+exact {b = b} f = (lengths_facts (length b.memory) (length b.bodies) (length b.table) f.lengths).memory_exact
 
 call_moves : (cells : ℕ) (c : Request) (k : ℕ) (b : Buffers) → Fits cells b nothing_due → Moves cells (call c k) b nothing_due
 call_moves cells c k b f = by_check (λ q. asked b ≡ q → Moves cells (call c k) b nothing_due) (asked b) (λ n e _. refused-at n e) (λ e _. made e) refl
@@ -133,23 +133,23 @@ call_moves cells c k b f = by_check (λ q. asked b ≡ q → Moves cells (call c
     made e =
         let s : State = state_of b in
         let m : List ℕ = b.memory in
-        let seen-is : visible_of (call_on c k b) ≡ view_of (room_of b) c k (state_of b) b.memory = call_means_lem c k b e in
+        let seen_is : visible_of (call_on c k b) ≡ view_of (room_of b) c k (state_of b) b.memory = call_means_lem c k b e in
         let d : Due = due_after (effect_of (room_of b) b.memory c (state_of b)) k in
-        let start : standing b ≡ some (state_of b) = store-standing b.memory b.bodies b.table e in
+        let start : standing b ≡ some (state_of b) = store_standing b.memory b.bodies b.table e in
         let stands = viewed_stands (effect_of (room_of b) b.memory c (state_of b)) k (state_of b) b.memory (memory_at k c (state_of b) b.memory) in
-        let after : standing (call_on c k b).buffers ≡ some stands.0 = ap (λ (v : View). v.state) seen-is ∙ stands.1 in
+        let after : standing (call_on c k b).buffers ≡ some stands.0 = ap (λ (v : View). v.state) seen_is ∙ stands.1 in
         let moves : Move (cells_of (length b.memory)) (world (some (state_of b)) b.memory nothing_due) (call c k) (view_of (room_of b) c k (state_of b) b.memory).report
         (world (view_of (room_of b) c k (state_of b) b.memory).state (view_of (room_of b) c k (state_of b) b.memory).memory (due_after (effect_of (room_of b) b.memory c (state_of b)) k)) =
         view_moves k (room_of b) c (state_of b) b.memory (exact f) (store_within b.memory b.bodies b.table e) in
         record {
           due = d;
           move = subst (λ (n : ℕ). Move n (world_of b nothing_due) (call c k) (call_on c k b).report (world_of (call_on c k b).buffers (due_after (effect_of (room_of b) b.memory c (state_of b)) k))) f.size
-              (recast (ap (λ (x : Option State). world x b.memory nothing_due) (sym start)) (ap (λ (v : View). v.report) (sym seen-is))
-              (ap (λ (v : View). world v.state v.memory (due_after (effect_of (room_of b) b.memory c (state_of b)) k)) (sym seen-is)) moves);
+              (recast (ap (λ (x : Option State). world x b.memory nothing_due) (sym start)) (ap (λ (v : View). v.report) (sym seen_is))
+              (ap (λ (v : View). world v.state v.memory (due_after (effect_of (room_of b) b.memory c (state_of b)) k)) (sym seen_is)) moves);
           fits = kept f (call_alike c k b)
               (due_pends (effect_of (room_of b) b.memory c (state_of b)) k (call_on c k b).buffers ((facts c b).pends k e) (standing_opens (call_on c k b).buffers stands.0 after));
           free = λ w. viewed_free (effect_of (room_of b) b.memory c (state_of b)) k (state_of b) b.memory (memory_at k c (state_of b) b.memory)
-              (ap (λ (v : View). was_stopped v.report.status) (sym seen-is) ∙ w);
+              (ap (λ (v : View). was_stopped v.report.status) (sym seen_is) ∙ w);
         }
 
 -- ---- make
@@ -179,8 +179,8 @@ make_pends cells k b f =
         → pending (outcome (make_call b) k b).buffers.table ≡ 0
     torn zero t s e = rw (unstepped (make_call b) b) (f.pends s (ap standing (sym (unstepped (make_call b) b)) ∙ e))
     torn (suc k) t s e =
-        let seen-is = make_seen (suc k) b (make_yes f) in
-        let gone : standing (outcome (make_call b) (suc k) b).buffers ≡ none = ap (λ (v : View). v.state) seen-is ∙ rw (t, eqb-suc-zero k) in
+        let seen_is = make_seen (suc k) b (make_yes f) in
+        let gone : standing (outcome (make_call b) (suc k) b).buffers ≡ none = ap (λ (v : View). v.state) seen_is ∙ rw (t, eqb-suc-zero k) in
         absurd (subst None (sym gone ∙ e) tt)
 
 make_free : (n k : ℕ) → was_stopped (ended n 0 k).status ≡ false → cond {A = Due} (leb n k) nothing_due drop_due ≡ nothing_due
@@ -189,13 +189,13 @@ make_free n k f = by_bool (leb n k) (λ t. rw t) (λ t. let g = rw t at f in abs
 
 make_input : (cells k : ℕ) (b : Buffers) → Fits cells b nothing_due → Moves cells (make k) b nothing_due
 make_input cells k b f =
-    let seen-is : visible_of (outcome (make_call b) k b) ≡ make_view (slots b) k (standing b) b.memory = make_seen k b (make_yes f) in
+    let seen_is : visible_of (outcome (make_call b) k b) ≡ make_view (slots b) k (standing b) b.memory = make_seen k b (make_yes f) in
     record {
       due = cond (leb (make_steps (slots b)) k) nothing_due drop_due;
-      move = recast refl (ap (λ (v : View). v.report) (sym seen-is))
-          (ap (λ (v : View). world v.state v.memory (cond (leb (make_steps (slots b)) k) nothing_due drop_due)) (sym seen-is)) (make_moves cells (slots b) k (standing b) b.memory);
+      move = recast refl (ap (λ (v : View). v.report) (sym seen_is))
+          (ap (λ (v : View). world v.state v.memory (cond (leb (make_steps (slots b)) k) nothing_due drop_due)) (sym seen_is)) (make_moves cells (slots b) k (standing b) b.memory);
       fits = kept f (input_alike (make k) b) (make_pends cells k b f);
-      free = λ w. make_free (make_steps (slots b)) k (ap (λ (v : View). was_stopped v.report.status) (sym seen-is) ∙ w);
+      free = λ w. make_free (make_steps (slots b)) k (ap (λ (v : View). was_stopped v.report.status) (sym seen_is) ∙ w);
     }
 
 -- ---- open
@@ -213,21 +213,21 @@ unfolding ended
 open_free p k f = by_bool (leb (open_steps p) k) (λ t. rw t) (λ t. let g = rw t at f in absurd (true≢false g))
 
 module _ (cells k : ℕ) (b : Buffers) (yes : opens b ≡ 0) where
-  seen-is : visible_of (outcome (open_call b) k b) ≡ open_view (pending b.table) k (state_of b) b.memory
-  seen-is = open_seen k b yes
+  seen_is : visible_of (outcome (open_call b) k b) ≡ open_view (pending b.table) k (state_of b) b.memory
+  seen_is = open_seen k b yes
 
   stands : standing b ≡ some (state_of b)
-  stands = is-standing b yes
+  stands = is_standing b yes
 
   pub still_opens : opens (outcome (open_call b) k b).buffers ≡ 0
-  still_opens = standing_opens (outcome (open_call b) k b).buffers (state_of b) (ap (λ (v : View). v.state) seen-is)
+  still_opens = standing_opens (outcome (open_call b) k b).buffers (state_of b) (ap (λ (v : View). v.state) seen_is)
 
   -- with nothing pending
   open_idle : (d : Due) → Fits cells b d → pending b.table ≡ 0
       → Move cells (world (some (state_of b)) b.memory d) (opening k) (open_view 0 k (state_of b) b.memory).report (world (some (state_of b)) b.memory nothing_due)
       → Moves cells (opening k) b d
   open_idle d f idle move =
-      let same : visible_of (outcome (open_call b) k b) ≡ open_view 0 k (state_of b) b.memory = seen-is ∙ ap (λ (p : ℕ). open_view p k (state_of b) b.memory) idle in
+      let same : visible_of (outcome (open_call b) k b) ≡ open_view 0 k (state_of b) b.memory = seen_is ∙ ap (λ (p : ℕ). open_view p k (state_of b) b.memory) idle in
       let left : pending (outcome (open_call b) k b).buffers.table ≡ 0 = open_pending_after k b yes ∙ rw (idle, leb-zero k) in
       record {
         due = nothing_due;
@@ -237,10 +237,10 @@ module _ (cells k : ℕ) (b : Buffers) (yes : opens b ≡ 0) where
         free = λ w. refl;
       }
 
-  open-finish : (p : ℕ) → Fits cells b finish_due → pending b.table ≡ suc p → Moves cells (opening k) b finish_due
-  open-finish p f waits =
+  open_finish : (p : ℕ) → Fits cells b finish_due → pending b.table ≡ suc p → Moves cells (opening k) b finish_due
+  open_finish p f waits =
       let d : Due = cond (leb (open_steps (suc p)) k) nothing_due finish_due in
-      let same : visible_of (outcome (open_call b) k b) ≡ open_view (suc p) k (state_of b) b.memory = seen-is ∙ ap (λ (q : ℕ). open_view q k (state_of b) b.memory) waits in
+      let same : visible_of (outcome (open_call b) k b) ≡ open_view (suc p) k (state_of b) b.memory = seen_is ∙ ap (λ (q : ℕ). open_view q k (state_of b) b.memory) waits in
       let left : pending (outcome (open_call b) k b).buffers.table ≡ cond (leb (open_steps (suc p)) k) 0 (suc p) = open_pending_after k b yes ∙ rw waits in
       record {
         due = d;
@@ -271,9 +271,9 @@ open_input cells k b d f =
     by_check (λ q. opens b ≡ q → Moves cells (opening k) b d) (opens b) (λ n e _. open_nothing cells k n b d f e) (λ e _. found d f e) refl
   where
     found : (d : Due) → Fits cells b d → opens b ≡ 0 → Moves cells (opening k) b d
-    found nothing_due f e = open_idle cells k b e nothing_due f (f.pends (state_of b) (is-standing b e)) (open_idle_moves cells k (state_of b) b.memory)
-    found drop_due f e = open_idle cells k b e drop_due f (f.pends (state_of b) (is-standing b e)) (open_drop_moves cells k (state_of b) b.memory)
-    found finish_due f e = open-finish cells k b e f.pends.1.0 f f.pends.1.1
+    found nothing_due f e = open_idle cells k b e nothing_due f (f.pends (state_of b) (is_standing b e)) (open_idle_moves cells k (state_of b) b.memory)
+    found drop_due f e = open_idle cells k b e drop_due f (f.pends (state_of b) (is_standing b e)) (open_drop_moves cells k (state_of b) b.memory)
+    found finish_due f e = open_finish cells k b e f.pends.1.0 f f.pends.1.1
 
 -- ---- a program write
 

@@ -25,8 +25,8 @@ use Rattle.store.specs.Checks.{make_check}
 use Rattle.store.specs.State.{state_of, standing, slots}
 use Rattle.store.specs.Calls.{make_call, open_call, after_openings, opening_after}
 use Rattle.store.specs.Means.{make_means, room_of}
-use Rattle.store.proofs.Means.{visible_of, by_check, make_means_lem, store-standing}
-use Rattle.store.proofs.Standing.{is-standing}
+use Rattle.store.proofs.Means.{visible_of, by_check, make_means_lem, store_standing}
+use Rattle.store.proofs.Standing.{is_standing}
 use Rattle.store.proofs.Pending.{make_pending}
 use Rattle.store.proofs.Reopened.{done_enough}
 use Rattle.demands.specs.Session.{call_on, input_on, session, buffers_after, was_stopped, is_opening, opening_rule}
@@ -94,7 +94,7 @@ idle_opening k b f = by_check (λ q. opens b ≡ q → Goal) (opens b) (λ n e _
 
     store : opens b ≡ 0 → Goal
     store e =
-        let idle : pending b.table ≡ 0 = f (state_of b) (is-standing b e) in
+        let idle : pending b.table ≡ 0 = f (state_of b) (is_standing b e) in
         let r : (outcome (open_call b) k b).report ≡ done 0 0 = ap (λ (v : View). v.report) (open_seen k b e) ∙ rw (idle, leb-zero k) in
         by-report (done 0 0) r (λ h. subst Halted (sym h) tt) refl
 
@@ -178,8 +178,8 @@ module _ (b : Buffers) (k : ℕ) (l rest : List Input) (e : MakeDone b k) (rule 
   pub run : Simulates (cells_in b) l rest (made_from b k) nothing_due
   run = simulates (cells_in b) l rest (made_from b k) nothing_due false (make_fits k b e) (λ _. refl) rule
 
-  pub from-make : Session (cells_in b) (after_make (made_from b k).memory) (session l (made_from b k)) (world_of (buffers_after l (made_from b k)) run.due)
-  from-make =
+  pub from_make : Session (cells_in b) (after_make (made_from b k).memory) (session l (made_from b k)) (world_of (buffers_after l (made_from b k)) run.due)
+  from_make =
       subst (λ (o : Option State). Session (cells_in b) (world o (made_from b k).memory nothing_due) (session l (made_from b k)) (world_of (buffers_after l (made_from b k)) run.due))
       (make_stands k b e) run.abstract
 
@@ -193,7 +193,7 @@ whole (i ∷ is) due b r =
 
 pub demand_3 : Demand3
 demand_3 b k l e rule =
-    abstract.demand_3 (cells_in b) (made_from b k).memory (session l (made_from b k)) _ (from-make b k l [] e (whole l false (made_from b k) rule))
+    abstract.demand_3 (cells_in b) (made_from b k).memory (session l (made_from b k)) _ (from_make b k l [] e (whole l false (made_from b k) rule))
 
 -- ---- the history agrees with the state that the buffers stand for
 
@@ -203,7 +203,7 @@ history_agrees b k l s e rule there =
     let r = whole l false (made_from b k) rule in
     go (run b k l [] e r).due (run b k l [] e r).fits.pends
     (abstract.history_agrees (cells_in b) (made_from b k).memory (session l (made_from b k)) s last.memory (run b k l [] e r).due
-    (subst (λ (o : Option State). Session (cells_in b) (after_make (made_from b k).memory) (session l (made_from b k)) (world o last.memory (run b k l [] e r).due)) there (from-make b k l [] e r)))
+    (subst (λ (o : Option State). Session (cells_in b) (after_make (made_from b k).memory) (session l (made_from b k)) (world o last.memory (run b k l [] e r).due)) there (from_make b k l [] e r)))
   where
     last : Buffers
     last = buffers_after l (made_from b k)
@@ -230,31 +230,31 @@ module _ (b : Buffers) (k : ℕ) (l : List Input) (h j : ℕ) (e : MakeDone b k)
   abbrev before : Simulates (cells_in b) l (call (restore h) j ∷ []) (made_from b k) nothing_due
   before = run b k l (call (restore h) j ∷ []) e rule
 
-  none-due : before.due ≡ nothing_due
-  none-due = before.free (not_due before.stopped (and_split (not before.stopped || false) true before.after).0)
+  none_due : before.due ≡ nothing_due
+  none_due = before.free (not_due before.stopped (and_split (not before.stopped || false) true before.after).0)
 
   here : Session (cells_in b) (after_make (made_from b k).memory) (session l (made_from b k)) (world_of (buffers_after l (made_from b k)) nothing_due)
   here =
-      subst (λ (d : Due). Session (cells_in b) (after_make (made_from b k).memory) (session l (made_from b k)) (world_of (buffers_after l (made_from b k)) d)) none-due
-      (from-make b k l (call (restore h) j ∷ []) e rule)
+      subst (λ (d : Due). Session (cells_in b) (after_make (made_from b k).memory) (session l (made_from b k)) (world_of (buffers_after l (made_from b k)) d)) none_due
+      (from_make b k l (call (restore h) j ∷ []) e rule)
 
   moves : Moves (cells_in b) (call (restore h) j) (buffers_after l (made_from b k)) nothing_due
   moves =
       input_moves (cells_in b) (call (restore h) j) (buffers_after l (made_from b k)) nothing_due false
-      (subst (λ (d : Due). Fits (cells_in b) (buffers_after l (made_from b k)) d) none-due before.fits) (λ _. refl) refl
+      (subst (λ (d : Due). Fits (cells_in b) (buffers_after l (made_from b k)) d) none_due before.fits) (λ _. refl) refl
 
   stands : asked (buffers_after l (made_from b k)) ≡ 0 → standing (buffers_after l (made_from b k)) ≡ some (state_of (buffers_after l (made_from b k)))
-  stands z = store-standing (buffers_after l (made_from b k)).memory (buffers_after l (made_from b k)).bodies (buffers_after l (made_from b k)).table z
+  stands z = store_standing (buffers_after l (made_from b k)).memory (buffers_after l (made_from b k)).bodies (buffers_after l (made_from b k)).table z
 
-  event-done : (call_on (restore h) j (buffers_after l (made_from b k))).report.status ≡ is_done
+  event_done : (call_on (restore h) j (buffers_after l (made_from b k))).report.status ≡ is_done
       → EventCounts h (buffers_after l (made_from b k)) (history_of (made_from b k) l) (called (restore h) j is_done)
       (call_on (restore h) j (buffers_after l (made_from b k))).buffers.memory (history_of (made_from b k) l)
-  event-done d =
+  event_done d =
       let z = call_passed (restore h) j last (λ r. subst Finished (sym d ∙ r) tt) in
-      let seen-is = call_means_lem (restore h) j last z in
+      let seen_is = call_means_lem (restore h) j last z in
       let v = viewed_done (effect_of (room_of last) last.memory (restore h) (state_of last)) j (state_of last) last.memory (memory_at j (restore h) (state_of last) last.memory)
-      (ap (λ (v : View). v.report.status) (sym seen-is) ∙ d) in
-      let r : (call_on (restore h) j last).report ≡ done v.0 v.1.0 = ap (λ (v : View). v.report) seen-is ∙ v.1.1 in
+      (ap (λ (v : View). v.report.status) (sym seen_is) ∙ d) in
+      let r : (call_on (restore h) j last).report ≡ done v.0 v.1.0 = ap (λ (v : View). v.report) seen_is ∙ v.1.1 in
       abstract.restore_counted (cells_in b) (made_from b k).memory (session l (made_from b k)) (state_of last) last.memory h j v.0 v.1.0
       (world_of (call_on (restore h) j last).buffers moves.due)
       (subst (λ (o : Option State). Session (cells_in b) (after_make (made_from b k).memory) (session l (made_from b k)) (world o last.memory nothing_due)) (stands z) here)
@@ -263,7 +263,7 @@ module _ (b : Buffers) (k : ℕ) (l : List Input) (h j : ℕ) (e : MakeDone b k)
 
   pub done_counts : (call_on (restore h) j (buffers_after l (made_from b k))).report.status ≡ is_done → CountsOne h (made_from b k) l (call (restore h) j ∷ [])
   done_counts d =
-      let c = event-done d in
+      let c = event_done d in
       let o : Outcome = call_on (restore h) j last in
       let n : History = history_of (made_from b k) l in (
         c.0,
@@ -277,12 +277,12 @@ module _ (b : Buffers) (k : ℕ) (l : List Input) (h j : ℕ) (e : MakeDone b k)
       )
 
   -- stopped: what it leaves has nothing pending, and then no opening takes a step; or an opening is to finish it
-  event-late : (ks : List ℕ) (i x : ℕ) → (call_on (restore h) j (buffers_after l (made_from b k))).report.status ≡ is_stopped
+  event_late : (ks : List ℕ) (i x : ℕ) → (call_on (restore h) j (buffers_after l (made_from b k))).report.status ≡ is_stopped
       → AllStopped ks (call_on (restore h) j (buffers_after l (made_from b k))).buffers
       → (outcome (open_call (buffers_after (openings ks) (call_on (restore h) j (buffers_after l (made_from b k))).buffers)) i (buffers_after (openings ks) (call_on (restore h) j (buffers_after l (made_from b k))).buffers)).report ≡ done (suc x) 0
       → EventCounts h (buffers_after l (made_from b k)) (history_of (made_from b k) l) (opened i is_done (suc x))
       (call_on (restore h) j (buffers_after l (made_from b k))).buffers.memory (history_of (made_from b k) (l ++ call (restore h) j ∷ openings ks))
-  event-late ks i x d stops took = by-due moves.due moves.fits.pends moves.move
+  event_late ks i x d stops took = by_due moves.due moves.fits.pends moves.move
     where
       left : Buffers
       left = (call_on (restore h) j (buffers_after l (made_from b k))).buffers
@@ -305,22 +305,22 @@ module _ (b : Buffers) (k : ℕ) (l : List Input) (h j : ℕ) (e : MakeDone b k)
       idle (y ∷ ys) f a t = (idle_opening y left f).0 a.0
 
       -- the history at the last opening
-      history-is : history_of (made_from b k) (l ++ call (restore h) j ∷ openings ks) ≡ observe (observed (called (restore h) j is_stopped) left.memory) n
-      history-is =
+      history_is : history_of (made_from b k) (l ++ call (restore h) j ∷ openings ks) ≡ observe (observed (called (restore h) j is_stopped) left.memory) n
+      history_is =
           history_then l (call (restore h) j ∷ openings ks) (made_from b k) begun
           ∙ stopped_openings ks left (observe (observed (called (restore h) j (call_on (restore h) j (buffers_after l (made_from b k))).report.status) left.memory) n) stops
           ∙ ap (λ (t : Status). observe (observed (called (restore h) j t) left.memory) n) d
 
-      by-due : (due : Due) → Pends due left → Move (cells_in b) (world_of (buffers_after l (made_from b k)) nothing_due) (call (restore h) j) (call_on (restore h) j (buffers_after l (made_from b k))).report (world_of left due) → Goal
-      by-due nothing_due p m = absurd (idle ks p stops took)
-      by-due drop_due p m = absurd (idle ks p stops took)
-      by-due finish_due p m =
+      by_due : (due : Due) → Pends due left → Move (cells_in b) (world_of (buffers_after l (made_from b k)) nothing_due) (call (restore h) j) (call_on (restore h) j (buffers_after l (made_from b k))).report (world_of left due) → Goal
+      by_due nothing_due p m = absurd (idle ks p stops took)
+      by_due drop_due p m = absurd (idle ks p stops took)
+      by_due finish_due p m =
           let c =
           abstract.restore_counted_late (cells_in b) (made_from b k).memory (session l (made_from b k)) (state_of last) last.memory left.memory h j i x
           (call_on (restore h) j (buffers_after l (made_from b k))).report (standing left)
           (subst (λ (o : Option State). Session (cells_in b) (after_make (made_from b k).memory) (session l (made_from b k)) (world o last.memory nothing_due)) (stands z) here)
           (subst (λ (o : Option State). Move (cells_in b) (world o last.memory nothing_due) (call (restore h) j) (call_on (restore h) j (buffers_after l (made_from b k))).report (world_of left finish_due)) (stands z) m) in
-          (c.0, c.1, λ g. ap (λ (t : History). count_event (opened i is_done (suc x)) left.memory t) history-is ∙ c.2 g)
+          (c.0, c.1, λ g. ap (λ (t : History). count_event (opened i is_done (suc x)) left.memory t) history_is ∙ c.2 g)
 
   -- the stopped restore adds no count, nor does a stopped opening; the opening that is done adds one, of the memory that it leaves
   pub late_counts : (ks : List ℕ) (i x : ℕ) → (call_on (restore h) j (buffers_after l (made_from b k))).report.status ≡ is_stopped
@@ -328,7 +328,7 @@ module _ (b : Buffers) (k : ℕ) (l : List Input) (h j : ℕ) (e : MakeDone b k)
       → (opening_after ks i (call_on (restore h) j (buffers_after l (made_from b k))).buffers).report ≡ done (suc x) 0
       → CountsOne h (made_from b k) l (call (restore h) j ∷ openings (ks ++ i ∷ []))
   late_counts ks i x d stops took =
-      let c = event-late ks i x d stops took-last in (c.0, c.1, λ g. longer c.0 (c.2 g))
+      let c = event_late ks i x d stops took_last in (c.0, c.1, λ g. longer c.0 (c.2 g))
     where
       made : Buffers
       made = made_from b k
@@ -352,20 +352,20 @@ module _ (b : Buffers) (k : ℕ) (l : List Input) (h j : ℕ) (e : MakeDone b k)
       before_last : Buffers
       before_last = buffers_after (openings ks) left
 
-      took-last : (outcome (open_call before_last) i before_last).report ≡ done (suc x) 0
-      took-last = subst (λ (u : Buffers). (outcome (open_call u) i u).report ≡ done (suc x) 0) (sym (openings_after ks left)) took
+      took_last : (outcome (open_call before_last) i before_last).report ≡ done (suc x) 0
+      took_last = subst (λ (u : Buffers). (outcome (open_call u) i u).report ≡ done (suc x) 0) (sym (openings_after ks left)) took
 
-      end-memory : (buffers_after (l ++ call (restore h) j ∷ openings (ks ++ i ∷ [])) (made_from b k)).memory ≡ left.memory
-      end-memory =
+      end_memory : (buffers_after (l ++ call (restore h) j ∷ openings (ks ++ i ∷ [])) (made_from b k)).memory ≡ left.memory
+      end_memory =
           ap (λ (x : Buffers). x.memory) (buffers_then l (call (restore h) j ∷ openings (ks ++ i ∷ [])) (made_from b k))
           ∙ openings_memory (ks ++ i ∷ []) left
 
-      last-event : (q : Tracked) → count_event (opened i is_done (suc x)) left.memory now ≡ mismatches left.memory q ∷ []
+      last_event : (q : Tracked) → count_event (opened i is_done (suc x)) left.memory now ≡ mismatches left.memory q ∷ []
           → counts now (session (opening i ∷ []) before_last) ≡ mismatches left.memory q ∷ []
-      last-event q one =
+      last_event q one =
           let o : Outcome = outcome (open_call before_last) i before_last in
           append-nil (count_event (opened i o.report.status o.report.steps) o.buffers.memory now)
-          ∙ ap (λ (r : Report). count_event (opened i r.status r.steps) o.buffers.memory now) took-last
+          ∙ ap (λ (r : Report). count_event (opened i r.status r.steps) o.buffers.memory now) took_last
           ∙ ap (λ (m : List ℕ). count_event (opened i is_done (suc x)) m now) (open_memory i before_last ∙ openings_memory ks left)
           ∙ one
 
@@ -382,8 +382,8 @@ module _ (b : Buffers) (k : ℕ) (l : List Input) (h j : ℕ) (e : MakeDone b k)
           ap (λ (ks : List Input). counts_of (made_from b k) (l ++ call (restore h) j ∷ ks)) (openings_then ks i)
           ∙ counts_then l (call (restore h) j ∷ more) (made_from b k) begun
           ∙ ap (λ (cs : List ℕ). counts_of (made_from b k) l ++ (cs ++ counts (n₁ status) (session more left))) none
-          ∙ ap (λ (cs : List ℕ). counts_of (made_from b k) l ++ cs) (split ∙ last-event q one)
-          ∙ ap (λ (m : List ℕ). counts_of (made_from b k) l ++ mismatches m q ∷ []) (sym end-memory)
+          ∙ ap (λ (cs : List ℕ). counts_of (made_from b k) l ++ cs) (split ∙ last_event q one)
+          ∙ ap (λ (m : List ℕ). counts_of (made_from b k) l ++ mismatches m q ∷ []) (sym end_memory)
 
 pub counted : Counted
 counted = record {

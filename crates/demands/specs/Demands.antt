@@ -290,7 +290,7 @@ pub record Demand2 : Type 0 where
   pub advance_any : (h : ℕ) (b : Buffers) (slot body : ℕ → ℕ) → advancing.MayTake h b slot body
       → Means (advancing.advance_with slot body h b) (λ k. advance_means h k b) b
   -- an advance that no question refuses is done in so many steps, or stopped; where no cell advances it is done at every budget
-  pub advance_steps_lem : (h : ℕ) (b : Buffers) → advance_check b h ≡ 0 → (k : ℕ)
+  pub advance_step_count : (h : ℕ) (b : Buffers) → advance_check b h ≡ 0 → (k : ℕ)
       → (outcome (advance_call h b) k b).report ≡ ended (advance_steps (advancing_cells b) (outward_cells b)) 0 k
   -- "The step bound becomes 76k + 2"
   pub advance_most : (b : Buffers) → advance_steps (advancing_cells b) (outward_cells b) ≤ 76 * advancing_cells b + 2

@@ -51,20 +51,20 @@ module _ (r : Report) (k : ℕ) (hs : List ℕ) (l : Listed) (g : record { repor
   pub listed : (n : ℕ) → n ≡ number_of r.status r.refusal → listed_in_c n k ≡ listed_by l
   listed n e = (λ i. listed_in_c (e i) k) ∙ ap listed_by g
 
-  pub handles-listed : (to : List ℕ) → ((j : ℕ) → j < 8 → get_or to j 0 ≡ get_or hs j 0) → eight to ≡ eight l.handles
-  handles-listed to h = tab_below _ (λ j. get_or hs j 0) 8 h ∙ ap (λ (x : Listed). eight x.handles) g
+  pub handles_listed : (to : List ℕ) → ((j : ℕ) → j < 8 → get_or to j 0 ≡ get_or hs j 0) → eight to ≡ eight l.handles
+  handles_listed to h = tab_below _ (λ j. get_or hs j 0) 8 h ∙ ap (λ (x : Listed). eight x.handles) g
 
 -- a place that was found, by its case: refused, in memory, in bodies, by a rule
 module _ (b : Buffers) (x q : Place) (same : x ≡ q) (within : PlaceWithin x b) where
-  pub in-none : (n : ℕ) → x ≡ Refused n → (looked_in_c n 0 0 0 ≡ looked_by q) × OffsetWithin 0 0 0 b
-  in-none n e = (ap looked_by (sym e ∙ same), (λ z. absurd (omega arith), λ z. absurd (omega arith), λ z. absurd (omega arith)))
+  pub in_none : (n : ℕ) → x ≡ Refused n → (looked_in_c n 0 0 0 ≡ looked_by q) × OffsetWithin 0 0 0 b
+  in_none n e = (ap looked_by (sym e ∙ same), (λ z. absurd (omega arith), λ z. absurd (omega arith), λ z. absurd (omega arith)))
 
   pub in_memory : (at : ℕ) → x ≡ Memory at → (looked_in_c 0 1 at 0 ≡ looked_by q) × OffsetWithin 1 at 0 b
   in_memory at e = (ap looked_by (sym e ∙ same), (λ z. memory_within b x at e within, λ z. absurd (omega arith), λ z. absurd (omega arith)))
 
-  pub in-bodies : (at : ℕ) → x ≡ Bodies at → (looked_in_c 0 2 at 0 ≡ looked_by q) × OffsetWithin 2 at 0 b
-  in-bodies at e = (ap looked_by (sym e ∙ same), (λ z. absurd (omega arith), λ z. bodies_within b x at e within, λ z. absurd (omega arith)))
+  pub in_bodies_lem : (at : ℕ) → x ≡ Bodies at → (looked_in_c 0 2 at 0 ≡ looked_by q) × OffsetWithin 2 at 0 b
+  in_bodies_lem at e = (ap looked_by (sym e ∙ same), (λ z. absurd (omega arith), λ z. bodies_within b x at e within, λ z. absurd (omega arith)))
 
-  pub in-rule : (r : ℕ) → x ≡ Rule r → (looked_in_c 0 3 0 r ≡ looked_by q) × OffsetWithin 3 0 r b
-  in-rule r e =
+  pub in_rule : (r : ℕ) → x ≡ Rule r → (looked_in_c 0 3 0 r ≡ looked_by q) × OffsetWithin 3 0 r b
+  in_rule r e =
       (ap looked_by (sym e ∙ same), (λ z. absurd (omega arith), λ z. absurd (omega arith), λ z. subst (λ (y : Place). PlaceWithin y b) e within))

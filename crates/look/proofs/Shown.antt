@@ -13,7 +13,7 @@ use Rattle.words.specs.Layout.{cell_at, cells_of, slots_of}
 use Rattle.words.specs.Stores.{tab}
 use Rattle.words.specs.Cells.{cell_bytes}
 use Rattle.words.proofs.Scan.{true≢}
-use Rattle.words.proofs.Plans.{length-tab, getD-tab}
+use Rattle.words.proofs.Plans.{length_tab, get_or_tab}
 use Rattle.words.proofs.Cells.{cell_bytes_length}
 use Rattle.patterns.specs.Pattern.{pattern}
 use Rattle.patterns.proofs.Bytes.{pattern_length}
@@ -26,13 +26,13 @@ use Rattle.model.specs.Restore.{Looked, bytes_told, cell_of_byte, place_in_cell,
 use Rattle.store.specs.Outcome.{Buffers}
 use Rattle.store.specs.Checks.{store_check, lent_of}
 use Rattle.store.specs.State.{slots, state_of}
-use Rattle.store.proofs.Checks.{or_else_go, ask_go, store-lengths}
-use Rattle.store.proofs.Raw.{raw-named}
-use Rattle.store.proofs.Outermost.{store-held, store_bytes, store_rule, store-none}
+use Rattle.store.proofs.Checks.{or_else_go, ask_go, store_lengths}
+use Rattle.store.proofs.Raw.{raw_named}
+use Rattle.store.proofs.Outermost.{store_held, store_bytes, store_rule, store_none}
 use Rattle.look.specs.Look.{look_check, place_in, look_place, place_part, PlaceWithin, shown_at, look_means, place_of_rule, place_of, place_by_state}
 use Rattle.look.specs.declared.Place.{Place}
 use Rattle.look.specs.declared.Place.TheVariants.{Refused, Memory, Bodies, Rule}
-use Rattle.look.proofs.Placing.{PlaceFound, in_memory, in-bodies, in-rule, place_found, Accepted, check-passed, look-placed, look_means_lem, look_within}
+use Rattle.look.proofs.Placing.{PlaceFound, in_memory, in_bodies_lem, in_rule, place_found, Accepted, check_passed, look_placed, look_means_lem, look_within}
 
 -- look's number, of its buffers
 abbrev pub checked : (h c : ℕ) → Buffers → ℕ
@@ -72,7 +72,7 @@ restored_cell_lem d c s memory fits long =
     whole = tab (length memory) (restored_byte d s memory)
 
     size : length (cell_bytes whole c) ≡ 64
-    size = cell_bytes_length whole c (omega (arith, length-tab (restored_byte d s memory) (length memory), fits))
+    size = cell_bytes_length whole c (omega (arith, length_tab (restored_byte d s memory) (length memory), fits))
 
     each : (j : ℕ) → j < 64 → get_or (cell_bytes whole c) j 0 ≡ get_or (restored_cell d s memory c) j 0
     each j l =
@@ -80,15 +80,15 @@ restored_cell_lem d c s memory fits long =
         let place : place_in_cell (cell_at c + j) ≡ j = omega arith in
         get_or-take 64 (drop (cell_at c) whole) j 0 l
         ∙ get_or-drop (cell_at c) whole j 0
-        ∙ getD-tab (restored_byte d s memory) (length memory) (cell_at c + j) 0 (omega arith)
+        ∙ get_or_tab (restored_byte d s memory) (length memory) (cell_at c + j) 0 (omega arith)
         ∙ (λ i. get_or (restored_cell d s memory (cell i)) (place i) 0)
 
 module _ (h c : ℕ) (b : Buffers) (pass : checked h c b ≡ 0) where
   passed : Accepted (length b.memory) (length b.bodies) b.table h c
-  passed = check-passed (length b.memory) (length b.bodies) b.table h c pass
+  passed = check_passed (length b.memory) (length b.bodies) b.table h c pass
 
   exact : length b.memory ≡ 64 * cells_of (length b.memory)
-  exact = (store-lengths (length b.memory) (length b.bodies) b.table passed.store).memory_exact
+  exact = (store_lengths (length b.memory) (length b.bodies) b.table passed.store).memory_exact
 
   abbrev e : ℕ
   e = slots_of (length b.table)
@@ -110,30 +110,30 @@ module _ (h c : ℕ) (b : Buffers) (pass : checked h c b ≡ 0) where
   told_at : (p : Place) (v : List ℕ) → place_in e b.table d c ≡ p → bytes_told (shown_at p b) ≡ v → left ≡ v → length v ≡ 64 → Told
   told_at p v q r s l =
       record {
-        same = ap bytes_told (sym (look_means_lem h c b) ∙ ap (λ (x : Place). shown_at x b) (look-placed h c b pass ∙ q)) ∙ r ∙ sym s;
+        same = ap bytes_told (sym (look_means_lem h c b) ∙ ap (λ (x : Place). shown_at x b) (look_placed h c b pass ∙ q)) ∙ r ∙ sym s;
         size = ap length s ∙ l;
       }
 
-  told-by : PlaceFound e b.table d c → Told
+  told_by : PlaceFound e b.table d c → Told
   unfolding value_in
-  told-by (in_memory p q) =
+  told_by (in_memory p q) =
       told_at (Memory (cell_at c)) (cell_bytes b.memory c) q refl (rw p at bytes) (cell_bytes_length b.memory c (omega (arith, exact, passed.cell)))
-  told-by (in-bodies p r q) =
+  told_by (in_bodies_lem p r q) =
       let k = word2 e b.table (source_from e b.table d c) in
-      let within = subst (λ (x : Place). PlaceWithin x b) (look-placed h c b pass ∙ q) (look_within h c b) in
+      let within = subst (λ (x : Place). PlaceWithin x b) (look_placed h c b pass ∙ q) (look_within h c b) in
       told_at (Bodies (cell_at k)) (cell_bytes b.bodies k) q refl (rw (p, r) at bytes) (cell_bytes_length b.bodies k within)
-  told-by (in-rule p r q) =
+  told_by (in_rule p r q) =
       let k = word2 e b.table (source_from e b.table d c) in
       told_at (Rule k) (pattern k) q refl (rw (p, r) at bytes) (pattern_length k)
 
   told : Told
-  told = told-by (place_found e b.table d c)
+  told = told_by (place_found e b.table d c)
 
   -- "the 64 bytes that restore would leave there"
-  pub look-restores : bytes_told (look_means h c b) ≡ cell_bytes (restored_memory (named h (state_of b)) (state_of b) b.memory) c
-  look-restores =
+  pub look_restores : bytes_told (look_means h c b) ≡ cell_bytes (restored_memory (named h (state_of b)) (state_of b) b.memory) c
+  look_restores =
       subst (λ (x : ℕ). bytes_told (look_means h c b) ≡ cell_bytes (restored_memory x (state_of b) b.memory) c)
-      (sym (raw-named b.memory b.bodies b.table passed.store h))
+      (sym (raw_named b.memory b.bodies b.table passed.store h))
       (told.same ∙ sym (restored_cell_lem d c (state_of b) b.memory (omega (arith, exact, passed.cell)) told.size))
 
 -- ---- "a part of the lent bodies, or of the lent memory where nobody from that domain inwards holds the cell": which of them, and at which offset
@@ -142,7 +142,7 @@ asked_yes : (h c : ℕ) (b : Buffers) → store_check (lent_of b) ≡ 0 → is_l
     → range_ok (cells_of (length b.memory)) c 1 ≡ true → checked h c b ≡ 0
 unfolding look_check
 asked_yes h c b pass live range =
-    let five : ltb 0 (depth_named b.table h) ≡ true = ap (ltb 0) (sym (raw-named b.memory b.bodies b.table pass h)) ∙ live in
+    let five : ltb 0 (depth_named b.table h) ≡ true = ap (ltb 0) (sym (raw_named b.memory b.bodies b.table pass h)) ∙ live in
     or_else_go _ _ pass ∙ ask_go _ _ _ five ∙ ask_go _ _ _ range
 
 pub look_tells : (h c : ℕ) (b : Buffers) → store_check (lent_of b) ≡ 0 → is_live h (state_of b) ≡ true
@@ -153,7 +153,7 @@ look_tells h c b store live range = found ∙ ap place (sym same)
     pass = asked_yes h c b store live range
 
     same : named h (state_of b) ≡ depth_named b.table h
-    same = raw-named b.memory b.bodies b.table store h
+    same = raw_named b.memory b.bodies b.table store h
 
     -- the place by the state, of a domain at depth d
     place : ℕ → Place
@@ -170,14 +170,14 @@ look_tells h c b store live range = found ∙ ap place (sym same)
     found-by : PlaceFound (slots b) b.table (depth_named b.table h) c → place_in (slots b) b.table (depth_named b.table h) c ≡ place (depth_named b.table h)
     found-by (in_memory p q) =
         q ∙ ap (λ (o : Option Holding). place_of c o (word2 (slots b) b.table (source_from (slots b) b.table (depth_named b.table h) c)))
-        (sym (store-none b.memory b.bodies b.table store (depth_named b.table h) c live-there p))
-    found-by (in-bodies p r q) =
+        (sym (store_none b.memory b.bodies b.table store (depth_named b.table h) c live-there p))
+    found-by (in_bodies_lem p r q) =
         q ∙ by-holding (outermost (depth_named b.table h) c (state_of b)) (word2 (slots b) b.table (source_from (slots b) b.table (depth_named b.table h) c)) none
-        (store-held b.memory b.bodies b.table store (depth_named b.table h) c live-there ∙ p) (store_rule b.memory b.bodies b.table store (depth_named b.table h) c live-there p ∙ rw r)
-    found-by (in-rule p r q) =
+        (store_held b.memory b.bodies b.table store (depth_named b.table h) c live-there ∙ p) (store_rule b.memory b.bodies b.table store (depth_named b.table h) c live-there p ∙ rw r)
+    found-by (in_rule p r q) =
         q ∙ by-holding (outermost (depth_named b.table h) c (state_of b)) (word2 (slots b) b.table (source_from (slots b) b.table (depth_named b.table h) c))
         (some (word2 (slots b) b.table (source_from (slots b) b.table (depth_named b.table h) c)))
-        (store-held b.memory b.bodies b.table store (depth_named b.table h) c live-there ∙ p) (store_rule b.memory b.bodies b.table store (depth_named b.table h) c live-there p ∙ rw r)
+        (store_held b.memory b.bodies b.table store (depth_named b.table h) c live-there ∙ p) (store_rule b.memory b.bodies b.table store (depth_named b.table h) c live-there p ∙ rw r)
 
     found : look_place h c b ≡ place (depth_named b.table h)
-    found = look-placed h c b pass ∙ found-by (place_found (slots b) b.table (depth_named b.table h) c)
+    found = look_placed h c b pass ∙ found-by (place_found (slots b) b.table (depth_named b.table h) c)

@@ -62,9 +62,9 @@ cells_same a b q = rw q
 -- ---- a number of the directory
 
 module _ (s : List ℕ) (k x : ℕ) where
-  pub put-length : length (put_number s k x) ≡ length s
+  pub put_length : length (put_number s k x) ≡ length s
   unfolding put_number
-  put-length = simp length-set
+  put_length = simp length-set
 
   put_byte : (p : ℕ) → (p ≡ 2 * k → ⊥) → (p ≡ 2 * k + 1 → ⊥) → get_or (put_number s k x) p 0 ≡ get_or s p 0
   unfolding put_number
@@ -107,29 +107,29 @@ pub blank_zeros : (n : ℕ) → Blank (zeros n)
 blank_zeros n k = zeros_clear n k
 
 module _ (s : List ℕ) (blank : (k : ℕ) → get_or s k 0 ≡ 0) where
-  blank-number : (k : ℕ) → number s k ≡ 0
+  blank_number : (k : ℕ) → number s k ≡ 0
   unfolding number
-  blank-number k = omega (arith, blank (2 * k), blank (2 * k + 1))
+  blank_number k = omega (arith, blank (2 * k), blank (2 * k + 1))
 
-  pub kept-none : block_at 1 ≤ length s → Kept s
-  kept-none room =
+  pub kept_none : block_at 1 ≤ length s → Kept s
+  kept_none room =
       record {
-        own = λ g h l m low q. absurd (omega (arith, low, blank-number (1 + g)));
-        low = λ g l. omega (arith, blank-number (1 + g));
-        counted = blank-number 0 ∙ sym (count_none max_groups (owns s) (λ k l. ap not (eq-eqb _ 0 (blank-number (1 + k)))));
-        room = omega (arith, room, blank-number 0);
+        own = λ g h l m low q. absurd (omega (arith, low, blank_number (1 + g)));
+        low = λ g l. omega (arith, blank_number (1 + g));
+        counted = blank_number 0 ∙ sym (count_none max_groups (owns s) (λ k l. ap not (eq-eqb _ 0 (blank_number (1 + k)))));
+        room = omega (arith, room, blank_number 0);
         front = λ k l. blank (directory_end + k);
         behind = λ k l. blank k;
       }
 
   pub taken_none : taken s ≡ 0
-  taken_none = blank-number 0
+  taken_none = blank_number 0
 
-  pub outside-none : (m : ℕ) → Outside m s
-  outside-none m g low high = blank-number (1 + g)
+  pub outside_none : (m : ℕ) → Outside m s
+  outside_none m g low high = blank_number (1 + g)
 
-  pub cells-none : (c : ℕ) → mark_of s c ≡ 0
-  cells-none c = by_le max_cells c (λ far. mark_past s c far) (λ near. mark_at_lem s c near ∙ blank (place_of s c))
+  pub cells_none : (c : ℕ) → mark_of s c ≡ 0
+  cells_none c = by_le max_cells c (λ far. mark_past s c far) (λ near. mark_at_lem s c near ∙ blank (place_of s c))
 
 -- ---- a block is taken
 
@@ -161,13 +161,13 @@ taken_less s m g ok out l h =
     omega (arith, ok.counted, count_less max_groups (groups_for m) (owns s) (λ j a b. not_owned s j (out j a b)) g l (omega (arith, l)) (not_owned s g h))
 
 module _ (s : List ℕ) (g : ℕ) (l : g < max_groups) (long : directory_end ≤ length s) where
-  pub with-length : length (with_block s g) ≡ length s
+  pub with_length : length (with_block s g) ≡ length s
   unfolding with_block
-  with-length = by_bool (eqb (block_of s g) 0) (λ z. rw z (put-length (put_number s (1 + g) (taken s + 1)) 0 (taken s + 1) ∙ put-length s (1 + g) (taken s + 1))) (λ z. rw z)
+  with_length = by_bool (eqb (block_of s g) 0) (λ z. rw z (put_length (put_number s (1 + g) (taken s + 1)) 0 (taken s + 1) ∙ put_length s (1 + g) (taken s + 1))) (λ z. rw z)
 
-  pub with-old : (block_of s g ≡ 0 → ⊥) → with_block s g ≡ s
+  pub with_old : (block_of s g ≡ 0 → ⊥) → with_block s g ≡ s
   unfolding with_block
-  with-old h = rw (ne_eqb _ 0 h)
+  with_old h = rw (ne_eqb _ 0 h)
 
   module _ (h : block_of s g ≡ 0) where
     abbrev one : List ℕ
@@ -176,104 +176,104 @@ module _ (s : List ℕ) (g : ℕ) (l : g < max_groups) (long : directory_end ≤
     abbrev new : List ℕ
     new = put_number one 0 (taken s + 1)
 
-    pub with-new : with_block s g ≡ put_number (put_number s (1 + g) (taken s + 1)) 0 (taken s + 1)
+    pub with_new : with_block s g ≡ put_number (put_number s (1 + g) (taken s + 1)) 0 (taken s + 1)
     unfolding with_block
-    with-new = rw (eq-eqb (block_of s g) 0 h)
+    with_new = rw (eq-eqb (block_of s g) 0 h)
 
-    new-length : length new ≡ length s
-    new-length = put-length one 0 (taken s + 1) ∙ put-length s (1 + g) (taken s + 1)
+    new_length : length new ≡ length s
+    new_length = put_length one 0 (taken s + 1) ∙ put_length s (1 + g) (taken s + 1)
 
-    new-taken : taken new ≡ taken s + 1
-    new-taken = put_same one 0 (taken s + 1) (omega (arith, put-length s (1 + g) (taken s + 1), long))
+    new_taken : taken new ≡ taken s + 1
+    new_taken = put_same one 0 (taken s + 1) (omega (arith, put_length s (1 + g) (taken s + 1), long))
 
-    new-here : block_of new g ≡ taken s + 1
-    new-here = put_other one 0 (taken s + 1) (1 + g) (λ q. omega (arith, q)) ∙ put_same s (1 + g) (taken s + 1) (omega (arith, l, long))
+    new_here : block_of new g ≡ taken s + 1
+    new_here = put_other one 0 (taken s + 1) (1 + g) (λ q. omega (arith, q)) ∙ put_same s (1 + g) (taken s + 1) (omega (arith, l, long))
 
-    new-other : (k : ℕ) → (k ≡ g → ⊥) → block_of new k ≡ block_of s k
-    new-other k ne = put_other one 0 (taken s + 1) (1 + k) (λ q. omega (arith, q)) ∙ put_other s (1 + g) (taken s + 1) (1 + k) (λ q. ne (omega (arith, q)))
+    new_other : (k : ℕ) → (k ≡ g → ⊥) → block_of new k ≡ block_of s k
+    new_other k ne = put_other one 0 (taken s + 1) (1 + k) (λ q. omega (arith, q)) ∙ put_other s (1 + g) (taken s + 1) (1 + k) (λ q. ne (omega (arith, q)))
 
-    new-byte : (p : ℕ) → directory_end ≤ p → get_or new p 0 ≡ get_or s p 0
-    new-byte p far =
+    new_byte : (p : ℕ) → directory_end ≤ p → get_or new p 0 ≡ get_or s p 0
+    new_byte p far =
         put_byte one 0 (taken s + 1) p (λ q. omega (arith, q, far)) (λ q. omega (arith, q, far))
         ∙ put_byte s (1 + g) (taken s + 1) p (λ q. omega (arith, q, far, l)) (λ q. omega (arith, q, far, l))
 
     module _ (ok : Kept s) where
-      new-own : (a b : ℕ) → a < max_groups → b < max_groups → 1 ≤ block_of new a → block_of new a ≡ block_of new b → a ≡ b
-      new-own a b la lb low q =
+      new_own : (a b : ℕ) → a < max_groups → b < max_groups → 1 ≤ block_of new a → block_of new a ≡ block_of new b → a ≡ b
+      new_own a b la lb low q =
           by_bool (eqb a g)
           (λ x. by_bool (eqb b g) (λ y. eqb-true a g x ∙ sym (eqb-true b g y))
-          (λ y. absurd (omega (arith, ok.low b lb, sym (new-other b (eqb-false b g y)), q, ap (block_of new) (eqb-true a g x), new-here))))
+          (λ y. absurd (omega (arith, ok.low b lb, sym (new_other b (eqb-false b g y)), q, ap (block_of new) (eqb-true a g x), new_here))))
           (λ x. by_bool (eqb b g)
-          (λ y. absurd (omega (arith, ok.low a la, sym (new-other a (eqb-false a g x)), q, ap (block_of new) (eqb-true b g y), new-here)))
-          (λ y. ok.own a b la lb (omega (arith, low, new-other a (eqb-false a g x))) (sym (new-other a (eqb-false a g x)) ∙ q ∙ new-other b (eqb-false b g y))))
+          (λ y. absurd (omega (arith, ok.low a la, sym (new_other a (eqb-false a g x)), q, ap (block_of new) (eqb-true b g y), new_here)))
+          (λ y. ok.own a b la lb (omega (arith, low, new_other a (eqb-false a g x))) (sym (new_other a (eqb-false a g x)) ∙ q ∙ new_other b (eqb-false b g y))))
 
-      new-counted : taken new ≡ count max_groups (owns new)
-      new-counted =
-          let one_more = count_flip max_groups (owns s) (owns new) g l (not_owned s g h) (owned new g (λ z. omega (arith, z, new-here))) (λ j b ne. ap (λ (x : ℕ). not (eqb x 0)) (new-other j ne)) in
-          omega (arith, new-taken, ok.counted, one_more)
+      new_counted : taken new ≡ count max_groups (owns new)
+      new_counted =
+          let one_more = count_flip max_groups (owns s) (owns new) g l (not_owned s g h) (owned new g (λ z. omega (arith, z, new_here))) (λ j b ne. ap (λ (x : ℕ). not (eqb x 0)) (new_other j ne)) in
+          omega (arith, new_taken, ok.counted, one_more)
 
-      new-kept : block_at (taken s + 2) ≤ length s → Kept new
-      new-kept room =
+      new_kept : block_at (taken s + 2) ≤ length s → Kept new
+      new_kept room =
           record {
-            own = new-own;
-            low = λ a la. by_bool (eqb a g) (λ x. omega (arith, ap (block_of new) (eqb-true a g x), new-here, new-taken)) (λ x. omega (arith, ok.low a la, new-other a (eqb-false a g x), new-taken));
-            counted = new-counted;
-            room = omega (arith, new-taken, room, new-length);
-            front = λ k b. new-byte (directory_end + k) (omega arith) ∙ ok.front k b;
-            behind = λ k b. new-byte k (omega (arith, b)) ∙ ok.behind k (omega (arith, b, new-taken));
+            own = new_own;
+            low = λ a la. by_bool (eqb a g) (λ x. omega (arith, ap (block_of new) (eqb-true a g x), new_here, new_taken)) (λ x. omega (arith, ok.low a la, new_other a (eqb-false a g x), new_taken));
+            counted = new_counted;
+            room = omega (arith, new_taken, room, new_length);
+            front = λ k b. new_byte (directory_end + k) (omega arith) ∙ ok.front k b;
+            behind = λ k b. new_byte k (omega (arith, b)) ∙ ok.behind k (omega (arith, b, new_taken));
           }
 
       -- no mark changes: the block was blank
-      new-mark : (c : ℕ) → mark_of new c ≡ mark_of s c
-      new-mark c =
+      new_mark : (c : ℕ) → mark_of new c ≡ mark_of s c
+      new_mark c =
           by_le max_cells c (λ far. mark_past new c far ∙ sym (mark_past s c far))
           (λ near.
           mark_at_lem new c near
           ∙ by_bool (eqb (c / 64) g)
           (λ z.
           let q = eqb-true (c / 64) g z in
-          let at : block_of new (c / 64) ≡ taken s + 1 = ap (block_of new) q ∙ new-here in
+          let at : block_of new (c / 64) ≡ taken s + 1 = ap (block_of new) q ∙ new_here in
           let was : block_of s (c / 64) ≡ 0 = ap (block_of s) q ∙ h in
           let low : place_of s c ≡ directory_end + c % 64 = omega (arith, place_is s c, was) in
-          new-byte (place_of new c) (omega (arith, place_is new c))
+          new_byte (place_of new c) (omega (arith, place_is new c))
           ∙ ok.behind (place_of new c) (omega (arith, place_is new c, at))
           ∙ sym (ap (λ (p : ℕ). get_or s p 0) low ∙ ok.front (c % 64) (omega arith)))
           (λ z.
-          let same = new-other (c / 64) (eqb-false (c / 64) g z) in
+          let same = new_other (c / 64) (eqb-false (c / 64) g z) in
           let there : place_of new c ≡ place_of s c = omega (arith, place_is new c, place_is s c, same) in
-          new-byte (place_of new c) (omega (arith, place_is new c)) ∙ ap (λ (p : ℕ). get_or s p 0) there)
+          new_byte (place_of new c) (omega (arith, place_is new c)) ∙ ap (λ (p : ℕ). get_or s p 0) there)
           ∙ sym (mark_at_lem s c near))
 
   module _ (ok : Kept s) (spare : Spare s g) where
-    pub with-kept : Kept (with_block s g)
-    with-kept =
+    pub with_kept : Kept (with_block s g)
+    with_kept =
         by_bool (eqb (block_of s g) 0)
-        (λ z. let h = eqb-true (block_of s g) 0 z in rw (with-new h) (new-kept h ok (spare h)))
-        (λ z. rw (with-old (eqb-false (block_of s g) 0 z)) ok)
+        (λ z. let h = eqb-true (block_of s g) 0 z in rw (with_new h) (new_kept h ok (spare h)))
+        (λ z. rw (with_old (eqb-false (block_of s g) 0 z)) ok)
 
-    pub with-mark : (c : ℕ) → mark_of (with_block s g) c ≡ mark_of s c
-    with-mark c =
+    pub with_mark : (c : ℕ) → mark_of (with_block s g) c ≡ mark_of s c
+    with_mark c =
         by_bool (eqb (block_of s g) 0)
-        (λ z. let h = eqb-true (block_of s g) 0 z in rw (with-new h) (new-mark h ok c))
-        (λ z. rw (with-old (eqb-false (block_of s g) 0 z)))
+        (λ z. let h = eqb-true (block_of s g) 0 z in rw (with_new h) (new_mark h ok c))
+        (λ z. rw (with_old (eqb-false (block_of s g) 0 z)))
 
-    pub with-taken : taken (with_block s g) ≤ taken s + 1
-    with-taken =
+    pub with_taken : taken (with_block s g) ≤ taken s + 1
+    with_taken =
         by_bool (eqb (block_of s g) 0)
-        (λ z. let h = eqb-true (block_of s g) 0 z in rw (with-new h) (omega (arith, new-taken h)))
-        (λ z. rw (with-old (eqb-false (block_of s g) 0 z)) (omega arith))
+        (λ z. let h = eqb-true (block_of s g) 0 z in rw (with_new h) (omega (arith, new_taken h)))
+        (λ z. rw (with_old (eqb-false (block_of s g) 0 z)) (omega arith))
 
-    pub with-own : 1 ≤ block_of (with_block s g) g
-    with-own =
+    pub with_own : 1 ≤ block_of (with_block s g) g
+    with_own =
         by_bool (eqb (block_of s g) 0)
-        (λ z. let h = eqb-true (block_of s g) 0 z in rw (with-new h) (omega (arith, new-here h)))
-        (λ z. let h = eqb-false (block_of s g) 0 z in rw (with-old h) (omega (arith, h)))
+        (λ z. let h = eqb-true (block_of s g) 0 z in rw (with_new h) (omega (arith, new_here h)))
+        (λ z. let h = eqb-false (block_of s g) 0 z in rw (with_old h) (omega (arith, h)))
 
-    pub with-other : (k : ℕ) → (k ≡ g → ⊥) → block_of (with_block s g) k ≡ block_of s k
-    with-other k ne =
+    pub with_other : (k : ℕ) → (k ≡ g → ⊥) → block_of (with_block s g) k ≡ block_of s k
+    with_other k ne =
         by_bool (eqb (block_of s g) 0)
-        (λ z. let h = eqb-true (block_of s g) 0 z in rw (with-new h) (new-other h k ne))
-        (λ z. rw (with-old (eqb-false (block_of s g) 0 z)))
+        (λ z. let h = eqb-true (block_of s g) 0 z in rw (with_new h) (new_other h k ne))
+        (λ z. rw (with_old (eqb-false (block_of s g) 0 z)))
 
 -- no more blocks are taken than there are groups
 pub few : (s : List ℕ) → Kept s → taken s < 65535
@@ -282,8 +282,8 @@ few s ok = omega (arith, ok.counted, count_le max_groups (owns s))
 -- ---- a mark is stored, in a group that has a block
 
 module _ (s : List ℕ) (ok : Kept s) (c : ℕ) (l : c < max_cells) where
-  pub place-fits : place_of s c < length s
-  place-fits = omega (arith, place_is s c, ok.low (c / 64) (omega arith), ok.room)
+  pub place_fits : place_of s c < length s
+  place_fits = omega (arith, place_is s c, ok.low (c / 64) (omega arith), ok.room)
 
   module _ (own : 1 ≤ block_of s (c / 64)) (v : ℕ) where
     far : directory_end ≤ place_of s c
@@ -303,40 +303,40 @@ module _ (s : List ℕ) (ok : Kept s) (c : ℕ) (l : c < max_cells) where
           behind = λ k b. get_or-set_other s (place_of s c) k v 0 (λ q. omega (arith, q, place_is s c, ok.low (c / 64) (omega arith), b, same_number 0 (omega arith))) ∙ ok.behind k (omega (arith, b, same_number 0 (omega arith)));
         }
 
-    store-place : (k : ℕ) → k < max_cells → place_of (set s (place_of s c) v) k ≡ place_of s k
-    store-place k b = omega (arith, place_is (set s (place_of s c) v) k, place_is s k, same_number (1 + k / 64) (omega (arith, b)))
+    store_place : (k : ℕ) → k < max_cells → place_of (set s (place_of s c) v) k ≡ place_of s k
+    store_place k b = omega (arith, place_is (set s (place_of s c) v) k, place_is s k, same_number (1 + k / 64) (omega (arith, b)))
 
     store_other : (k : ℕ) → k < max_cells → (k ≡ c → ⊥) → mark_of (set s (place_of s c) v) k ≡ mark_of s k
     store_other k b ne =
         mark_at_lem (set s (place_of s c) v) k b
-        ∙ ap (λ (p : ℕ). get_or (set s (place_of s c) v) p 0) (store-place k b)
+        ∙ ap (λ (p : ℕ). get_or (set s (place_of s c) v) p 0) (store_place k b)
         ∙ get_or-set_other s (place_of s c) (place_of s k) v 0 (λ q.
         let same : block_of s (c / 64) ≡ block_of s (k / 64) = omega (arith, q, place_is s c, place_is s k) in
         let group = ok.own (c / 64) (k / 64) (omega arith) (omega (arith, b)) own same in
         ne (omega (arith, q, place_is s c, place_is s k, same, group)))
         ∙ sym (mark_at_lem s k b)
 
-    store-here : mark_of (set s (place_of s c) v) c ≡ v
-    store-here =
+    store_here : mark_of (set s (place_of s c) v) c ≡ v
+    store_here =
         mark_at_lem (set s (place_of s c) v) c l
-        ∙ ap (λ (p : ℕ). get_or (set s (place_of s c) v) p 0) (store-place c l)
-        ∙ get_or-set_same s (place_of s c) v 0 place-fits
+        ∙ ap (λ (p : ℕ). get_or (set s (place_of s c) v) p 0) (store_place c l)
+        ∙ get_or-set_same s (place_of s c) v 0 place_fits
 
-    pub store-mark : OneMark s c v (set s (place_of s c) v)
-    store-mark k =
+    pub store_mark : OneMark s c v (set s (place_of s c) v)
+    store_mark k =
         by_bool (eqb k c)
-        (λ z. rw z (ap (mark_of (set s (place_of s c) v)) (eqb-true k c z) ∙ store-here))
+        (λ z. rw z (ap (mark_of (set s (place_of s c) v)) (eqb-true k c z) ∙ store_here))
         (λ z.
         rw z
         (by_le max_cells k
         (λ past. mark_past (set s (place_of s c) v) k past ∙ sym (mark_past s k past))
         (λ near. store_other k near (eqb-false k c z))))
 
-    pub store-block : (g : ℕ) → g < max_groups → block_of (set s (place_of s c) v) g ≡ block_of s g
-    store-block g b = same_number (1 + g) (omega (arith, b))
+    pub store_block : (g : ℕ) → g < max_groups → block_of (set s (place_of s c) v) g ≡ block_of s g
+    store_block g b = same_number (1 + g) (omega (arith, b))
 
-    pub store-taken : taken (set s (place_of s c) v) ≡ taken s
-    store-taken = same_number 0 (omega arith)
+    pub store_taken : taken (set s (place_of s c) v) ≡ taken s
+    store_taken = same_number 0 (omega arith)
 
 -- a cell that has a mark has a block
 pub marked_own : (s : List ℕ) → Kept s → (c : ℕ) → c < max_cells → 1 ≤ mark_of s c → 1 ≤ block_of s (c / 64)
@@ -366,46 +366,46 @@ module _ (d c : ℕ) (small : c < max_cells) (s : List ℕ) (ok : Kept s) (spare
   abbrev got : List ℕ
   got = with_block s g
 
-  group-small : g < max_groups
-  group-small = omega arith
+  group_small : g < max_groups
+  group_small = omega arith
 
   long : directory_end ≤ length s
   long = omega (arith, ok.room)
 
   got_kept : Kept got
-  got_kept = with-kept s g group-small long ok spare
+  got_kept = with_kept s g group_small long ok spare
 
-  pub cell-read : get_or got (place_of got c) 0 ≡ mark_of s c
-  cell-read = sym (mark_at_lem got c small) ∙ with-mark s g group-small long ok spare c
+  pub cell_read : get_or got (place_of got c) 0 ≡ mark_of s c
+  cell_read = sym (mark_at_lem got c small) ∙ with_mark s g group_small long ok spare c
 
-  pub cell-fits : place_of got c < length got
-  cell-fits = place-fits got got_kept c small
+  pub cell_fits : place_of got c < length got
+  cell_fits = place_fits got got_kept c small
 
   own_block : 1 ≤ block_of got g
-  own_block = with-own s g group-small long ok spare
+  own_block = with_own s g group_small long ok spare
 
   abbrev v : ℕ
   v = with_depth d (mark_of s c)
 
-  pub cell-one : OneMark s c v (mark_cell d c s)
+  pub cell_one : OneMark s c v (mark_cell d c s)
   unfolding mark_cell
-  cell-one k =
-      store-mark got got_kept c small own_block v k
-      ∙ ap (cond (eqb k c) v) (with-mark s g group-small long ok spare k)
+  cell_one k =
+      store_mark got got_kept c small own_block v k
+      ∙ ap (cond (eqb k c) v) (with_mark s g group_small long ok spare k)
 
   pub cell_kept : Kept (mark_cell d c s)
   unfolding mark_cell
   cell_kept = store_kept got got_kept c small own_block v
 
-  pub cell-blocks : taken (mark_cell d c s) ≤ taken s + 1
+  pub cell_blocks : taken (mark_cell d c s) ≤ taken s + 1
   unfolding mark_cell
-  cell-blocks = omega (arith, store-taken got got_kept c small own_block v, with-taken s g group-small long ok spare)
+  cell_blocks = omega (arith, store_taken got got_kept c small own_block v, with_taken s g group_small long ok spare)
 
-  pub cell-outside : (m : ℕ) → g < groups_for m → Outside m s → Outside m (mark_cell d c s)
+  pub cell_outside : (m : ℕ) → g < groups_for m → Outside m s → Outside m (mark_cell d c s)
   unfolding mark_cell
-  cell-outside m l out k low high =
-      store-block got got_kept c small own_block v k high
-      ∙ with-other s g group-small long ok spare k (λ q. omega (arith, q, l, low))
+  cell_outside m l out k low high =
+      store_block got got_kept c small own_block v k high
+      ∙ with_other s g group_small long ok spare k (λ q. omega (arith, q, l, low))
       ∙ out k low high
 
 -- one entry more, in a memory of m cells: there is room for its block

@@ -16,17 +16,17 @@ pub data Hold : Type 0 where
 -- ---- lists, outermost first
 
 module _ {A B : Type 0} (k : A → B) where
-  pub map-atInnermost : (f : A → A) (g : B → B) → ((a : A) → k (f a) ≡ g (k a)) → (l : List A) → map k (at_innermost f l) ≡ at_innermost g (map k l)
-  map-atInnermost f g e [] = refl
-  map-atInnermost f g e (a ∷ []) = rw (e a)
-  map-atInnermost f g e (a ∷ b ∷ l) = rw (map-atInnermost f g e (b ∷ l))
+  pub map_at_innermost : (f : A → A) (g : B → B) → ((a : A) → k (f a) ≡ g (k a)) → (l : List A) → map k (at_innermost f l) ≡ at_innermost g (map k l)
+  map_at_innermost f g e [] = refl
+  map_at_innermost f g e (a ∷ []) = rw (e a)
+  map_at_innermost f g e (a ∷ b ∷ l) = rw (map_at_innermost f g e (b ∷ l))
 
-  pub map-intoParent : (f : A → A → A) (g : B → B → B) → ((a b : A) → k (f a b) ≡ g (k a) (k b)) → (l : List A)
+  pub map_into_parent : (f : A → A → A) (g : B → B → B) → ((a b : A) → k (f a b) ≡ g (k a) (k b)) → (l : List A)
       → map k (into_parent f l) ≡ into_parent g (map k l)
-  map-intoParent f g e [] = refl
-  map-intoParent f g e (a ∷ []) = refl
-  map-intoParent f g e (a ∷ b ∷ []) = rw (e a b)
-  map-intoParent f g e (a ∷ b ∷ c ∷ l) = rw (map-intoParent f g e (b ∷ c ∷ l))
+  map_into_parent f g e [] = refl
+  map_into_parent f g e (a ∷ []) = refl
+  map_into_parent f g e (a ∷ b ∷ []) = rw (e a b)
+  map_into_parent f g e (a ∷ b ∷ c ∷ l) = rw (map_into_parent f g e (b ∷ c ∷ l))
 
 -- ---- what the calls do to one byte
 

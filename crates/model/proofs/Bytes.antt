@@ -10,7 +10,7 @@ use lib.Seq.{get_or-take, get_or-drop}
 use Rattle.words.specs.Layout.{cell_at}
 use Rattle.words.specs.Cells.{cell_bytes, same_cell}
 use Rattle.words.proofs.Scan.{by_bool}
-use Rattle.words.proofs.Plans.{getD-tab}
+use Rattle.words.proofs.Plans.{get_or_tab}
 use Rattle.model.specs.State.{Label, read_only, read_write, Holding, Domain, State}
 use Rattle.model.specs.Holdings.{value_or}
 use Rattle.model.specs.Restore.{cell_of_byte, place_in_cell, or_inner, first_held, restored_byte, restored_memory}
@@ -100,7 +100,7 @@ back_byte memory (suc i) x (d ∷ ds) = back_byte memory i x ds
 pub restored_byte_lem : (i x : ℕ) (s : State) (memory : List ℕ) → x < length memory
     → get_or (restored_memory (suc i) s memory) x 0 ≡ back_at i (get_or memory x 0) (held_at x s.domains)
 unfolding restored_memory
-restored_byte_lem i x s memory l = getD-tab (restored_byte (suc i) s memory) (length memory) x 0 l ∙ back_byte memory i x s.domains
+restored_byte_lem i x s memory l = get_or_tab (restored_byte (suc i) s memory) (length memory) x 0 l ∙ back_byte memory i x s.domains
 
 -- ---- the history's lines at one byte
 

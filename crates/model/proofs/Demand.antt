@@ -26,7 +26,7 @@ use Rattle.model.proofs.Agree.{agree_length, agree_named, agree_inside, agree_wr
 use Rattle.model.proofs.Effects.{passed}
 use Rattle.model.proofs.Named.{named_le}
 use Rattle.model.proofs.Invariant.{Inv, inv_write}
-use Rattle.model.proofs.Sound.{Sound, sound_waiting, fresh_sound, depth, restore-sound, restore-zero, restore_mixed}
+use Rattle.model.proofs.Sound.{Sound, sound_waiting, fresh_sound, depth, restore_sound, restore_zero, restore_mixed}
 use Rattle.model.proofs.Lawful.{lawful}
 
 -- ---- any call, carried out
@@ -38,8 +38,8 @@ carried room (changes c) s new m n b w h e z = ((lawful room m c s).keeps b w h 
 carried room (restore a) s new m n b w h e z =
     let y = passed _ _ _ _ b w h _ new e in (
       subst (λ (t : State). Sound t (restored_memory (named a s) s m) (line (restore a) (restored_memory (named a s) s m) n)) y.leaves
-          (restore-sound s m n a y.yes_to_all z),
-      restore-zero s m n a y.yes_to_all z,
+          (restore_sound s m n a y.yes_to_all z),
+      restore_zero s m n a y.yes_to_all z,
     )
 carried room (reads r) s new m n b w h e z =
     let y = passed (read_checks room.cells r s) _ _ _ b w h _ new e in (subst (λ (t : State). Sound t m n) y.leaves z, tt)

@@ -23,7 +23,7 @@ use Rattle.model.specs.Holdings.{advance as advanceState}
 use Rattle.model.specs.Restore.{restored, ended_domains, freed_entries, restore_words}
 use Rattle.model.specs.Session.{Within}
 use Rattle.model.proofs.Asking.{ask_yes, ask_rest}
-use Rattle.model.proofs.Ranged.{ranges_state, newly-after, relabelled-after, asked_cell, AddAsked, add_asked}
+use Rattle.model.proofs.Ranged.{ranges_state, newly_after, relabelled_after, asked_cell, AddAsked, add_asked}
 
 -- ---- counts of none
 
@@ -74,10 +74,10 @@ add_idle room memory h rs s q e =
     y = add_asked room memory h rs s q
 
     none-new : count room.cells (λ c. named_by rs c && not (is_held (inner_holding s c))) ≡ 0
-    none-new = omega (arith, newly-after room.cells memory rs s y.live)
+    none-new = omega (arith, newly_after room.cells memory rs s y.live)
 
     none-raised : count room.cells (λ c. held_read_only (inner_holding s c) && eqb (label_for rs c) 1) ≡ 0
-    none-raised = omega (arith, relabelled-after room.cells memory rs s y.live)
+    none-raised = omega (arith, relabelled_after room.cells memory rs s y.live)
 
     both : (a b : Bool) → (a && b) ≡ false → b ≡ true → a ≡ false
     both true b f t = absurd (true≢ t f)

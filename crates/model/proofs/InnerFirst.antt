@@ -11,7 +11,7 @@ use borrow.Author.Tests.{ltb-true, leb-true}
 use lib.ListN.{length, get_or, take, drop}
 use lib.Seq.{drop-nil, take-take}
 use Rattle.words.specs.Cells.{cell_bytes}
-use Rattle.words.proofs.Plans.{length-tab, getD-tab, tab_below}
+use Rattle.words.proofs.Plans.{length_tab, get_or_tab, tab_below}
 use Rattle.model.specs.State.{Holding, Domain, State}
 use Rattle.model.specs.Holdings.{named, is_live, is_within, value_or}
 use Rattle.model.specs.Restore.{cell_of_byte, place_in_cell, or_inner, first_held, outermost, restored_byte, restored_memory, restored}
@@ -48,49 +48,49 @@ holder_split (suc i) (suc j) c s low l = first_split s.domains i j c (omega arit
 
 module _ (g d : ℕ) (s : State) (memory : List ℕ) (low : 1 ≤ g) (within : g ≤ d) where
   -- what a restore of the outer one leaves at byte x, by the first holder up to the inner one, a, and from there on, b
-  abbrev byteBy : (now : List ℕ) (x : ℕ) (a b : Option Holding) → ℕ
-  byteBy now x a b = get_or (value_or (cell_bytes now (cell_of_byte x)) (or_inner a b)) (place_in_cell x) 0
+  abbrev byte_by : (now : List ℕ) (x : ℕ) (a b : Option Holding) → ℕ
+  byte_by now x a b = get_or (value_or (cell_bytes now (cell_of_byte x)) (or_inner a b)) (place_in_cell x) 0
 
-  by-holders : (now : List ℕ) (x : ℕ) → restored_byte g s now x ≡ byteBy now x (outermost g (cell_of_byte x) (restored d s)) (outermost d (cell_of_byte x) s)
-  by-holders now x = ap (λ (o : Option Holding). get_or (value_or (cell_bytes now (cell_of_byte x)) o) (place_in_cell x) 0) (holder_split g d (cell_of_byte x) s low within)
+  by_holders : (now : List ℕ) (x : ℕ) → restored_byte g s now x ≡ byte_by now x (outermost g (cell_of_byte x) (restored d s)) (outermost d (cell_of_byte x) s)
+  by_holders now x = ap (λ (o : Option Holding). get_or (value_or (cell_bytes now (cell_of_byte x)) o) (place_in_cell x) 0) (holder_split g d (cell_of_byte x) s low within)
 
   -- whole: where nobody up to the inner one holds the cell, its restore has put the byte there
-  whole-byte : (now : List ℕ) (x : ℕ) (a b : Option Holding) → get_or now x 0 ≡ get_or (value_or (cell_bytes memory (cell_of_byte x)) b) (place_in_cell x) 0
-      → get_or (value_or (cell_bytes now (cell_of_byte x)) a) (place_in_cell x) 0 ≡ byteBy memory x a b
-  whole-byte now x none b e = cell_byte now x ∙ e
-  whole-byte now x (some h) b e = refl
+  whole_byte : (now : List ℕ) (x : ℕ) (a b : Option Holding) → get_or now x 0 ≡ get_or (value_or (cell_bytes memory (cell_of_byte x)) b) (place_in_cell x) 0
+      → get_or (value_or (cell_bytes now (cell_of_byte x)) a) (place_in_cell x) 0 ≡ byte_by memory x a b
+  whole_byte now x none b e = cell_byte now x ∙ e
+  whole_byte now x (some h) b e = refl
 
-  whole-memory : restored_memory g (restored d s) (restored_memory d s memory) ≡ restored_memory g s memory
+  whole_memory : restored_memory g (restored d s) (restored_memory d s memory) ≡ restored_memory g s memory
   unfolding restored_memory
-  whole-memory =
-      rw (length-tab (restored_byte d s memory) (length memory))
+  whole_memory =
+      rw (length_tab (restored_byte d s memory) (length memory))
       (tab_below _ (restored_byte g s memory) (length memory) (λ x l.
-      whole-byte (restored_memory d s memory) x (outermost g (cell_of_byte x) (restored d s)) (outermost d (cell_of_byte x) s)
-      (getD-tab (restored_byte d s memory) (length memory) x 0 l)
-      ∙ sym (by-holders memory x)))
+      whole_byte (restored_memory d s memory) x (outermost g (cell_of_byte x) (restored d s)) (outermost d (cell_of_byte x) s)
+      (get_or_tab (restored_byte d s memory) (length memory) x 0 l)
+      ∙ sym (by_holders memory x)))
 
   -- cut: a byte of a cell that nobody holds is the old one
-  mixed-byte : (now : List ℕ) (x : ℕ) (a b : Option Holding)
+  mixed_byte : (now : List ℕ) (x : ℕ) (a b : Option Holding)
       → (get_or now x 0 ≡ get_or memory x 0) ⊎ (get_or now x 0 ≡ get_or (value_or (cell_bytes memory (cell_of_byte x)) b) (place_in_cell x) 0)
-      → byteBy now x a b ≡ byteBy memory x a b
-  mixed-byte now x (some h) b e = refl
-  mixed-byte now x none (some h) e = refl
-  mixed-byte now x none none (inl e) = cell_byte now x ∙ e ∙ sym (cell_byte memory x)
-  mixed-byte now x none none (inr e) = cell_byte now x ∙ e
+      → byte_by now x a b ≡ byte_by memory x a b
+  mixed_byte now x (some h) b e = refl
+  mixed_byte now x none (some h) e = refl
+  mixed_byte now x none none (inl e) = cell_byte now x ∙ e ∙ sym (cell_byte memory x)
+  mixed_byte now x none none (inr e) = cell_byte now x ∙ e
 
-  mixed-memory : (now : List ℕ) → Mixed memory (restored_memory d s memory) now → restored_memory g s now ≡ restored_memory g s memory
+  mixed_memory : (now : List ℕ) → Mixed memory (restored_memory d s memory) now → restored_memory g s now ≡ restored_memory g s memory
   unfolding restored_memory
-  mixed-memory now mixed =
+  mixed_memory now mixed =
       rw mixed.same_length
       (tab_below _ (restored_byte g s memory) (length memory) (λ x l.
-      by-holders now x
-      ∙ mixed-byte now x (outermost g (cell_of_byte x) (restored d s)) (outermost d (cell_of_byte x) s) (either x l (mixed.each_byte x))
-      ∙ sym (by-holders memory x)))
+      by_holders now x
+      ∙ mixed_byte now x (outermost g (cell_of_byte x) (restored d s)) (outermost d (cell_of_byte x) s) (either x l (mixed.each_byte x))
+      ∙ sym (by_holders memory x)))
     where
       either : (x : ℕ) → x < length memory → (get_or now x 0 ≡ get_or memory x 0) ⊎ (get_or now x 0 ≡ get_or (restored_memory d s memory) x 0)
           → (get_or now x 0 ≡ get_or memory x 0) ⊎ (get_or now x 0 ≡ restored_byte d s memory x)
       either x l (inl e) = inl e
-      either x l (inr e) = inr (e ∙ getD-tab (restored_byte d s memory) (length memory) x 0 l)
+      either x l (inr e) = inr (e ∙ get_or_tab (restored_byte d s memory) (length memory) x 0 l)
 
 -- ---- by handles
 
@@ -114,6 +114,6 @@ nested_restores outer inner s memory live within =
     record {
       still_named = named_stays outer (named inner s) s around (named_le inner s);
       state = λ i. record { next = s.next; domains = take-take (named outer s) (named inner s) s.domains around i };
-      memory = whole-memory (named outer s) (named inner s) s memory low around;
-      cut_memory = mixed-memory (named outer s) (named inner s) s memory low around;
+      memory = whole_memory (named outer s) (named inner s) s memory low around;
+      cut_memory = mixed_memory (named outer s) (named inner s) s memory low around;
     }

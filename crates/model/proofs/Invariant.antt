@@ -14,7 +14,7 @@ use Rattle.model.specs.State.{Label}
 use Rattle.model.specs.History.{Tracked, may_write, at_innermost, into_parent, new_domain, add_tracked, bytes_of, delete_around, advance_tracked, advance_line, commit_tracked, is_in, any_writable, write_line, exclude_after, differs, mismatches, tracked_at, count_of}
 use Rattle.model.specs.Restore.{cell_of_byte}
 use Rattle.model.specs.Session.{AllZero}
-use Rattle.model.proofs.Byte.{Hold, add_h, merge_h, back_at, any_wr, good, map-atInnermost, map-intoParent, good_back, good_restore, good_mix, good_create, good_write, good_add, good_commit, good_under, good_own, good_by}
+use Rattle.model.proofs.Byte.{Hold, add_h, merge_h, back_at, any_wr, good, map_at_innermost, map_into_parent, good_back, good_restore, good_mix, good_create, good_write, good_add, good_commit, good_under, good_own, good_by}
 use Rattle.model.proofs.Bytes.{byte_in, kept_at, add_byte, delete_byte, advance_byte, give_byte, commit_byte, any_writable_lem}
 
 abbrev pub Inv : ℕ → ℕ → List Tracked → Type 0
@@ -38,13 +38,13 @@ pub inv_add : (x first n : ℕ) (l : Label) (memory : List ℕ) (qs : List Track
 inv_add x first n l memory [] v = tt
 inv_add x first n l memory (q ∷ []) v = (
   λ e s. good_by (get_or q.snapshot x 0) (get_or memory x 0)
-      (map-atInnermost (byte_in x) (add_tracked memory first n l) (add_h (bytes_of first n x) (may_write l) (get_or memory x 0)) (add_byte memory first n l x) (q ∷ []))
+      (map_at_innermost (byte_in x) (add_tracked memory first n l) (add_h (bytes_of first n x) (may_write l) (get_or memory x 0)) (add_byte memory first n l x) (q ∷ []))
       (good_add false (bytes_of first n x) (may_write l) (get_or q.snapshot x 0) (get_or memory x 0) (kept_at x (q ∷ [])) (v.0 e s)),
   tt,
 )
 inv_add x first n l memory (q ∷ r ∷ qs) v = (
   λ e s. good_by (get_or q.snapshot x 0) (get_or memory x 0)
-      (map-atInnermost (byte_in x) (add_tracked memory first n l) (add_h (bytes_of first n x) (may_write l) (get_or memory x 0)) (add_byte memory first n l x) (q ∷ r ∷ qs))
+      (map_at_innermost (byte_in x) (add_tracked memory first n l) (add_h (bytes_of first n x) (may_write l) (get_or memory x 0)) (add_byte memory first n l x) (q ∷ r ∷ qs))
       (good_add false (bytes_of first n x) (may_write l) (get_or q.snapshot x 0) (get_or memory x 0) (kept_at x (q ∷ r ∷ qs)) (v.0 e s)),
   inv_add x first n l memory (r ∷ qs) v.1,
 )
@@ -112,12 +112,12 @@ pub inv_commit : (x m : ℕ) (qs : List Tracked) → Inv x m qs → Inv x m (int
 inv_commit x m [] v = tt
 inv_commit x m (q ∷ []) v = tt
 inv_commit x m (q ∷ r ∷ []) v = (
-  λ e s. good_by (get_or q.snapshot x 0) m (map-intoParent (byte_in x) commit_tracked merge_h (commit_byte x) (q ∷ r ∷ []))
+  λ e s. good_by (get_or q.snapshot x 0) m (map_into_parent (byte_in x) commit_tracked merge_h (commit_byte x) (q ∷ r ∷ []))
       (good_commit false (get_or q.snapshot x 0) m (byte_in x q) (byte_in x r) [] (v.0 e s)),
   tt,
 )
 inv_commit x m (q ∷ r ∷ t ∷ qs) v = (
-  λ e s. good_by (get_or q.snapshot x 0) m (map-intoParent (byte_in x) commit_tracked merge_h (commit_byte x) (q ∷ r ∷ t ∷ qs))
+  λ e s. good_by (get_or q.snapshot x 0) m (map_into_parent (byte_in x) commit_tracked merge_h (commit_byte x) (q ∷ r ∷ t ∷ qs))
       (good_commit false (get_or q.snapshot x 0) m (byte_in x q) (byte_in x r) (kept_at x (t ∷ qs)) (v.0 e s)),
   inv_commit x m (r ∷ t ∷ qs) v.1,
 )

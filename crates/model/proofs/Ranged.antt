@@ -167,20 +167,20 @@ ranges_state memory (r ∷ rs) s = ranges_state memory rs (add_range memory r s)
         ∙ (λ i. on_innermost (cellwise (λ c o. cell c o i)) s.domains)
 
 module _ (memory : List ℕ) (rs : List Range) (s : State) where
-  pub ranges-length : length (add_ranges memory rs s).domains ≡ length s.domains
-  ranges-length = ap (λ (t : State). length t.domains) (ranges_state memory rs s) ∙ inner_length _ s.domains
+  pub ranges_length : length (add_ranges memory rs s).domains ≡ length s.domains
+  ranges_length = ap (λ (t : State). length t.domains) (ranges_state memory rs s) ∙ inner_length _ s.domains
 
   -- handles name what they named
-  pub ranges-named : (h : ℕ) → named h (add_ranges memory rs s) ≡ named h s
-  ranges-named h =
+  pub ranges_named : (h : ℕ) → named h (add_ranges memory rs s) ≡ named h s
+  ranges_named h =
       ap (named h) (ranges_state memory rs s)
       ∙ (λ i. cond (eqb h 0) (inner_length (cellwise after) s.domains i) (inner_depth (cellwise after) h s.domains (λ d. refl) i))
     where
       after : ℕ → Option Holding → Option Holding
       after c o = list_added memory rs c (outer_holding s c) o
 
-  pub outer-after : (c : ℕ) → outer_holding (add_ranges memory rs s) c ≡ outer_holding s c
-  outer-after c = ap (λ (t : State). outer_holding t c) (ranges_state memory rs s) ∙ outer_on _ s.domains c
+  pub outer_after : (c : ℕ) → outer_holding (add_ranges memory rs s) c ≡ outer_holding s c
+  outer_after c = ap (λ (t : State). outer_holding t c) (ranges_state memory rs s) ∙ outer_on _ s.domains c
 
 -- what a list makes of a cell, seen by the tests
 held_added : (n : Bool) (l : Label) (k : Kind) (v : List ℕ) (o : Option Holding) → is_held (cond n (added l k v o) o) ≡ (is_held o || n)
@@ -224,26 +224,26 @@ raised_added n l k v (some h) f = go n h.label f
     go false read_only f = ap (λ (x : ℕ). eqb x 1) (sym (f refl))
 
 module _ (memory : List ℕ) (rs : List Range) (s : State) (live : 1 ≤ length s.domains) where
-  pub inner-after : (c : ℕ) → inner_holding (add_ranges memory rs s) c ≡ list_added memory rs c (outer_holding s c) (inner_holding s c)
-  inner-after c = ap (λ (t : State). inner_holding t c) (ranges_state memory rs s) ∙ inner_on (λ c o. list_added memory rs c (outer_holding s c) o) s.domains c live
+  pub inner_after : (c : ℕ) → inner_holding (add_ranges memory rs s) c ≡ list_added memory rs c (outer_holding s c) (inner_holding s c)
+  inner_after c = ap (λ (t : State). inner_holding t c) (ranges_state memory rs s) ∙ inner_on (λ c o. list_added memory rs c (outer_holding s c) o) s.domains c live
 
   pub held_after : (c : ℕ) → is_held (inner_holding (add_ranges memory rs s) c) ≡ (is_held (inner_holding s c) || named_by rs c)
-  held_after c = ap is_held (inner-after c) ∙ held_added (named_by rs c) _ _ _ (inner_holding s c)
+  held_after c = ap is_held (inner_after c) ∙ held_added (named_by rs c) _ _ _ (inner_holding s c)
 
 module _ (m : ℕ) (memory : List ℕ) (rs : List Range) (s : State) (live : 1 ≤ length s.domains) where
-  pub newly-after : newly_held m s (add_ranges memory rs s) ≡ count m (λ c. named_by rs c && not (is_held (inner_holding s c)))
-  newly-after = count_ext m _ _ (λ c l.
-      ap (λ (o : Option Holding). not (is_held (inner_holding s c)) && is_held o) (inner-after memory rs s live c)
+  pub newly_after : newly_held m s (add_ranges memory rs s) ≡ count m (λ c. named_by rs c && not (is_held (inner_holding s c)))
+  newly_after = count_ext m _ _ (λ c l.
+      ap (λ (o : Option Holding). not (is_held (inner_holding s c)) && is_held o) (inner_after memory rs s live c)
       ∙ newly_added (named_by rs c) _ _ _ (inner_holding s c))
 
-  pub bodies-after : new_bodies m s (add_ranges memory rs s) ≡ count m (λ c. (named_by rs c && not (is_held (inner_holding s c))) && eqb (kind_for rs c) 0)
-  bodies-after = count_ext m _ _ (λ c l.
-      ap (λ (o : Option Holding). not (is_held (inner_holding s c)) && held_in_body o) (inner-after memory rs s live c)
+  pub bodies_after : new_bodies m s (add_ranges memory rs s) ≡ count m (λ c. (named_by rs c && not (is_held (inner_holding s c))) && eqb (kind_for rs c) 0)
+  bodies_after = count_ext m _ _ (λ c l.
+      ap (λ (o : Option Holding). not (is_held (inner_holding s c)) && held_in_body o) (inner_after memory rs s live c)
       ∙ body_added (named_by rs c) _ (kind_for rs c) (rule_for rs c) _ (inner_holding s c))
 
-  pub relabelled-after : relabelled m s (add_ranges memory rs s) ≡ count m (λ c. held_read_only (inner_holding s c) && eqb (label_for rs c) 1)
-  relabelled-after = count_ext m _ _ (λ c l.
-      ap (λ (o : Option Holding). held_read_only (inner_holding s c) && held_writable o) (inner-after memory rs s live c)
+  pub relabelled_after : relabelled m s (add_ranges memory rs s) ≡ count m (λ c. held_read_only (inner_holding s c) && eqb (label_for rs c) 1)
+  relabelled_after = count_ext m _ _ (λ c l.
+      ap (λ (o : Option Holding). held_read_only (inner_holding s c) && held_writable o) (inner_after memory rs s live c)
       ∙ raised_added (named_by rs c) (label_for rs c) _ _ (inner_holding s c) (label_unnamed rs c))
 
 -- ---- what the questions leave
@@ -299,41 +299,41 @@ asked_here : (m : ℕ) (memory : List ℕ) (r : Range) (rs : List Range) (s : St
     → Asked m memory (r ∷ rs) s c
 asked_here m memory r rs s c rest y e = record {
   within = omega (arith, range_both r.first r.count c e, range_facts m r.first r.count y.lies);
-  kind = rw kind-is (leb-true r.kind 2 (and_split _ _ y.numbers).0);
+  kind = rw kind_is (leb-true r.kind 2 (and_split _ _ y.numbers).0);
   rests = λ h k. new_cell _ _ c (λ i. is_held (inner_holding s i)) (λ i. is_held (outer_holding s i)) (via k y.holds) e h;
   alike = λ h k. new_cell _ _ c (λ i. is_held (inner_holding s i)) (λ i. same_cell (value_or (cell_bytes memory i) (outer_holding s i)) (cell_bytes memory i)) (via k y.same) e h;
   plain = λ h k. not-true _ (new_cell _ _ c (λ i. is_held (inner_holding s i)) (λ i. not (held_by_rule (outer_holding s i))) (via k y.plain) e h);
-  rule = λ h k. rw rule-is (leb-true r.rule max_rule (and_split (leb r.rule max_rule) _ (by-rule k)).0);
-  fits = λ h k. rw rule-is (new_cell _ _ c (λ i. is_held (inner_holding s i)) (λ i. same_cell (pattern r.rule) (cell_bytes memory i)) (and_split (leb r.rule max_rule) _ (by-rule k)).1 e h);
+  rule = λ h k. rw rule-is (leb-true r.rule max_rule (and_split (leb r.rule max_rule) _ (by_rule_lem k)).0);
+  fits = λ h k. rw rule-is (new_cell _ _ c (λ i. is_held (inner_holding s i)) (λ i. same_cell (pattern r.rule) (cell_bytes memory i)) (and_split (leb r.rule max_rule) _ (by_rule_lem k)).1 e h);
 }
   where
-    kind-is : kind_for (r ∷ rs) c ≡ r.kind
-    kind-is = rw e
+    kind_is : kind_for (r ∷ rs) c ≡ r.kind
+    kind_is = rw e
 
     rule-is : rule_for (r ∷ rs) c ≡ r.rule
     rule-is = rw e
 
     via : {b : Bool} → kind_for (r ∷ rs) c ≡ 1 → (not (is_via (kind_numbered r.kind r.rule)) || b) ≡ true → b ≡ true
-    via k q = via_asked r.kind r.rule _ (sym kind-is ∙ k) q
+    via k q = via_asked r.kind r.rule _ (sym kind_is ∙ k) q
 
-    by-rule : kind_for (r ∷ rs) c ≡ 2 → rule_fits memory r.rule r.first r.count s ≡ true
-    by-rule k = rule_asked r.kind r.rule _ (sym kind-is ∙ k) y.rules
+    by_rule_lem : kind_for (r ∷ rs) c ≡ 2 → rule_fits memory r.rule r.first r.count s ≡ true
+    by_rule_lem k = rule_asked r.kind r.rule _ (sym kind_is ∙ k) y.rules
 
 -- a record that does not leaves the cell to the others
 asked_later : (m : ℕ) (memory : List ℕ) (r : Range) (rs : List Range) (s : State) (c : ℕ) → 1 ≤ length s.domains → covers r c ≡ false
     → Asked m memory rs (add_range memory r s) c → Asked m memory (r ∷ rs) s c
 asked_later m memory r rs s c live e y = record {
   within = y.within;
-  kind = rw kind-is y.kind;
-  rests = λ h k. ap is_held (sym outer-is) ∙ y.rests (ap is_held inner-is ∙ h) (sym kind-is ∙ k);
-  alike = λ h k. ap (λ (o : Option Holding). same_cell (value_or (cell_bytes memory c) o) (cell_bytes memory c)) (sym outer-is) ∙ y.alike (ap is_held inner-is ∙ h) (sym kind-is ∙ k);
-  plain = λ h k. ap held_by_rule (sym outer-is) ∙ y.plain (ap is_held inner-is ∙ h) (sym kind-is ∙ k);
-  rule = λ h k. rw rule-is (y.rule (ap is_held inner-is ∙ h) (sym kind-is ∙ k));
-  fits = λ h k. rw rule-is (y.fits (ap is_held inner-is ∙ h) (sym kind-is ∙ k));
+  kind = rw kind_is y.kind;
+  rests = λ h k. ap is_held (sym outer-is) ∙ y.rests (ap is_held inner-is ∙ h) (sym kind_is ∙ k);
+  alike = λ h k. ap (λ (o : Option Holding). same_cell (value_or (cell_bytes memory c) o) (cell_bytes memory c)) (sym outer-is) ∙ y.alike (ap is_held inner-is ∙ h) (sym kind_is ∙ k);
+  plain = λ h k. ap held_by_rule (sym outer-is) ∙ y.plain (ap is_held inner-is ∙ h) (sym kind_is ∙ k);
+  rule = λ h k. rw rule-is (y.rule (ap is_held inner-is ∙ h) (sym kind_is ∙ k));
+  fits = λ h k. rw rule-is (y.fits (ap is_held inner-is ∙ h) (sym kind_is ∙ k));
 }
   where
-    kind-is : kind_for (r ∷ rs) c ≡ kind_for rs c
-    kind-is = rw e
+    kind_is : kind_for (r ∷ rs) c ≡ kind_for rs c
+    kind_is = rw e
 
     rule-is : rule_for (r ∷ rs) c ≡ rule_for rs c
     rule-is = rw e
@@ -352,7 +352,7 @@ asked_cell m memory (r ∷ rs) s rest c live q e =
     by_bool (covers r c)
     (λ t. asked_here m memory r rs s c _ y t)
     (λ t. asked_later m memory r rs s c live t
-    (asked_cell m memory rs (add_range memory r s) rest c (omega (arith, ranges-length memory (r ∷ []) s)) y.onward (rw t at e)))
+    (asked_cell m memory rs (add_range memory r s) rest c (omega (arith, ranges_length memory (r ∷ []) s)) y.onward (rw t at e)))
 
 -- those of the whole call: 5 and 6, 20, those on the ranges, and those on room
 pub record AddAsked (room : Room) (memory : List ℕ) (h : ℕ) (rs : List Range) (s : State) : Type 0 where

@@ -8,7 +8,7 @@ use mathlib.Core.Path.{◌≡◌, refl, sym, ap, subst, ◌∙◌}
 use native.Mathlib.Omega.{arith}
 use borrow.Author.Tests.{ltb-true}
 use lib.ListN.{length, get_or, take}
-use Rattle.words.proofs.Plans.{length-tab}
+use Rattle.words.proofs.Plans.{length_tab}
 use Rattle.ranges.specs.declared.Range.{Range}
 use Rattle.model.specs.State.{State}
 use Rattle.model.specs.Calls.{created, fresh}
@@ -21,7 +21,7 @@ use Rattle.model.proofs.Byte.{back_at}
 use Rattle.model.proofs.Agree.{agree_length, agree_named, agree_create, at_length, Matched, agree_add, agree_delete, agree_advance, agree_commit, agree_take, agree_inside}
 use Rattle.model.proofs.Bytes.{kept_at, agree_bytes, restored_byte_lem}
 use Rattle.model.proofs.Asking.{ask_yes}
-use Rattle.model.proofs.Ranged.{RangeAsked, range_asked, add_asked, ranges-named, ranges-length}
+use Rattle.model.proofs.Ranged.{RangeAsked, range_asked, add_asked, ranges_named, ranges_length}
 use Rattle.model.proofs.Invariant.{Inv, inv_create, inv_add, inv_delete, inv_advance, inv_commit, inv_restore, inv_stopped, count_restored}
 
 -- ---- a state, memory and a history that go together
@@ -79,7 +79,7 @@ ranges_sound cells s m n h [] rest q last z = z
 ranges_sound cells s m n h (r ∷ rs) rest q last z =
     let y = range_asked cells m r s _ q in
     let still : named h (add_range m r s) ≡ length (add_range m r s).domains =
-    ranges-named m (r ∷ []) s h ∙ last ∙ sym (ranges-length m (r ∷ []) s) in
+    ranges_named m (r ∷ []) s h ∙ last ∙ sym (ranges_length m (r ∷ []) s) in
     ranges_sound cells (add_range m r s) m (with_domains (add_line m h r n.domains) n) h rs rest y.onward still (range_sound cells s m n h r _ y last z)
 
 pub add_sound : (room : Room) (s : State) (m : List ℕ) (n : History) (h : ℕ) (rs : List Range) → add_checks room m h rs s ≡ 0 → Sound s m n
@@ -116,7 +116,7 @@ commit_sound s m n h z = record {
 
 pub length_restored : (d : ℕ) (s : State) (m : List ℕ) → length (restored_memory d s m) ≡ length m
 unfolding restored_memory
-length_restored d s m = length-tab (restored_byte d s m) (length m)
+length_restored d s m = length_tab (restored_byte d s m) (length m)
 
 put_back : (s : State) (m : List ℕ) (n : History) (i : ℕ) → Sound s m n → (x : ℕ) → x < length m
     → get_or (restored_memory (suc i) s m) x 0 ≡ back_at i (get_or m x 0) (kept_at x n.domains)
@@ -135,27 +135,27 @@ depth h s qs q a =
     record { place = named h s - 1; in_state = e; in_history = e ∙ agree_named h s qs a }
 
 module _ (s : State) (m : List ℕ) (n : History) (h : ℕ) (q : restore_checks h s ≡ 0) (z : Sound s m n) where
-  at-depth : Depth h s n.domains
-  at-depth = depth h s n.domains q z.agrees.same_domains
+  at_depth_lem : Depth h s n.domains
+  at_depth_lem = depth h s n.domains q z.agrees.same_domains
 
-  restore-at : (i : ℕ) → Sound (restored (suc i) s) (restored_memory (suc i) s m) (with_domains (take (suc i) n.domains) n)
-  restore-at i = record {
+  restore_at : (i : ℕ) → Sound (restored (suc i) s) (restored_memory (suc i) s m) (with_domains (take (suc i) n.domains) n)
+  restore_at i = record {
     agrees = record { same_next = z.agrees.same_next; same_domains = agree_take (suc i) z.agrees.same_domains };
     inv = λ x l.
         let b : x < length m = subst (λ (k : ℕ). x < k) (length_restored (suc i) s m) l in
         subst (λ (v : ℕ). Inv x v (take (suc i) n.domains)) (sym (put_back s m n i z x b)) (inv_restore x (get_or m x 0) i n.domains (z.inv x b));
   }
 
-  pub restore-sound : Sound (restored (named h s) s) (restored_memory (named h s) s m) (line (restore h) (restored_memory (named h s) s m) n)
-  restore-sound =
-      let p = at-depth in
+  pub restore_sound : Sound (restored (named h s) s) (restored_memory (named h s) s m) (line (restore h) (restored_memory (named h s) s m) n)
+  restore_sound =
+      let p = at_depth_lem in
       subst (λ (d : ℕ). Sound (restored d s) (restored_memory d s m) (line (restore h) (restored_memory d s m) n)) p.in_state
       (subst (λ (d : ℕ). Sound (restored (suc p.place) s) (restored_memory (suc p.place) s m) (with_domains (down_to d n.domains) n)) p.in_history
-      (restore-at p.place))
+      (restore_at p.place))
 
-  pub restore-zero : AllZero (completed (restore h) (restored_memory (named h s) s m) n.domains)
-  restore-zero =
-      let p = at-depth in
+  pub restore_zero : AllZero (completed (restore h) (restored_memory (named h s) s m) n.domains)
+  restore_zero =
+      let p = at_depth_lem in
       subst (λ (d : ℕ). AllZero (completed (restore h) (restored_memory d s m) n.domains)) p.in_state
       (subst (λ (d : ℕ). AllZero (count_of (restored_memory (suc p.place) s m) (tracked_at d n.domains))) p.in_history
       (count_restored m (restored_memory (suc p.place) s m) p.place n.domains
@@ -165,7 +165,7 @@ module _ (s : State) (m : List ℕ) (n : History) (h : ℕ) (q : restore_checks 
   -- stopped: the domains inside are excluded, and memory is mixed
   pub restore_mixed : (now : List ℕ) → Mixed m (restored_memory (named h s) s m) now → Sound s now (with_domains (stop_line (restore h) n.domains) n)
   restore_mixed now d =
-      let p = at-depth in
+      let p = at_depth_lem in
       record {
         agrees = record { same_next = z.agrees.same_next; same_domains = agree_inside (named_among h n.domains) z.agrees.same_domains };
         inv = λ x l.

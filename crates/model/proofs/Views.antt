@@ -15,7 +15,7 @@ use Rattle.words.specs.Stores.{tab}
 use Rattle.words.specs.Cells.{cell_bytes}
 use Rattle.words.proofs.Scan.{by_bool, by_le, first_ext}
 use Rattle.words.proofs.Nth.{count_below}
-use Rattle.words.proofs.Plans.{length-tab, getD-tab, tab_below}
+use Rattle.words.proofs.Plans.{length_tab, get_or_tab, tab_below}
 use Rattle.model.specs.State.{Holding, Domain, State}
 use Rattle.model.specs.Answer.{Report, done, stopped, ended, View, view, steps_of}
 use Rattle.model.specs.Calls.{Effect, refuse, change, viewed, make_steps, make_state, make_view, open_steps, open_view, viewed_with}
@@ -60,7 +60,7 @@ all_stored cells k d s m size l = tab_below _ (restored_byte d s m) (length m) (
 -- and until then each byte is the old one or the new one
 pub part_stored : (k d : ℕ) (s : State) (m : List ℕ) → Mixed m (restored_memory d s m) (memory_after_steps k d s m)
 unfolding memory_after_steps restored_memory
-part_stored k d s m = record { same_length = length-tab _ (length m); each_byte = λ x. by_le (suc x) (length m) (λ b. inside x b) (λ b. outside x b) }
+part_stored k d s m = record { same_length = length_tab _ (length m); each_byte = λ x. by_le (suc x) (length m) (λ b. inside x b) (λ b. outside x b) }
   where
     step : ℕ → ℕ
     step x = cond (ltb (rank d x s) k) (restored_byte d s m x) (get_or m x 0)
@@ -71,15 +71,15 @@ part_stored k d s m = record { same_length = length-tab _ (length m); each_byte 
         by_bool (ltb (rank d x s) k)
         (λ t.
         let e : step x ≡ restored_byte d s m x = rw t in
-        inr (getD-tab step (length m) x 0 b ∙ e ∙ sym (getD-tab (restored_byte d s m) (length m) x 0 b)))
+        inr (get_or_tab step (length m) x 0 b ∙ e ∙ sym (get_or_tab (restored_byte d s m) (length m) x 0 b)))
         (λ t.
         let e : step x ≡ get_or m x 0 = rw t in
-        inl (getD-tab step (length m) x 0 b ∙ e))
+        inl (get_or_tab step (length m) x 0 b ∙ e))
 
     outside : (x : ℕ) → length m < suc x
         → (get_or (tab (length m) step) x 0 ≡ get_or m x 0) ⊎ (get_or (tab (length m) step) x 0 ≡ get_or (tab (length m) (restored_byte d s m)) x 0)
     outside x b =
-        let l : length (tab (length m) step) ≤ x = let e = length-tab step (length m) in omega arith in
+        let l : length (tab (length m) step) ≤ x = let e = length_tab step (length m) in omega arith in
         let g : length m ≤ x = omega arith in
         inl (get_or-eq_default (tab (length m) step) 0 l ∙ sym (get_or-eq_default m 0 g))
 

@@ -4,7 +4,7 @@ use Prim.Native.Nat.{ℕ, zero, suc, ◌%◌, ◌≤◌, ◌<◌}
 use native.Mathlib.Omega.{arith}
 use lib.ListN.{length, get_or}
 use Rattle.words.specs.Layout.{cell_size}
-use Rattle.words.proofs.Plans.{length-tab, getD-tab}
+use Rattle.words.proofs.Plans.{length_tab, get_or_tab}
 use Rattle.patterns.specs.Pattern.{scale_byte, pattern_byte, pattern}
 
 -- ---- one byte
@@ -27,8 +27,8 @@ scale_zero (suc (suc (suc k))) h a b = absurd (b (omega arith))
 -- ---- the 64 bytes
 pub pattern_length : (rule : ℕ) → length (pattern rule) ≡ cell_size
 unfolding pattern
-pattern_length rule = length-tab (pattern_byte rule) cell_size
+pattern_length rule = length_tab (pattern_byte rule) cell_size
 
 pub pattern_at : (rule j : ℕ) → j < cell_size → get_or (pattern rule) j 0 ≡ pattern_byte rule j
 unfolding pattern
-pattern_at rule j l = getD-tab (pattern_byte rule) cell_size j 0 l
+pattern_at rule j l = get_or_tab (pattern_byte rule) cell_size j 0 l

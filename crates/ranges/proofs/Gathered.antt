@@ -9,7 +9,7 @@ use Rattle.ranges.specs.declared.Range.{Range}
 use Rattle.ranges.specs.declared.Batch.{Batch}
 use Rattle.ranges.specs.Ranges.{max_ranges}
 use Rattle.ranges.specs.Batch.{no_batch, kept, kept_range, gathered, range_at, ranges_in, batch_ranges}
-use Rattle.words.proofs.Plans.{length-tab, tab-last, tab_below}
+use Rattle.words.proofs.Plans.{length_tab, tab_last, tab_below}
 
 abbrev range : (first count kind rule label : ℕ) → Range
 range f n k r l = record { first = f; count = n; kind = k; rule = r; label = l }
@@ -68,36 +68,36 @@ module _ (b : Batch) (fits : length b.numbers ≡ 5 * max_ranges) (small : b.cou
   abbrev numbers : List ℕ
   numbers = sets b.numbers (5 * b.count) five
 
-  kept-is : kept_range b r ≡ batch (b.count + 1) numbers
+  kept_is : kept_range b r ≡ batch (b.count + 1) numbers
   unfolding kept
-  kept-is = simp (lt-ltb _ _ small)
+  kept_is = simp (lt-ltb _ _ small)
 
   number_is : (j : ℕ) → j < 5 → get_or numbers (5 * b.count + j) 0 ≡ get_or five j 0
   number_is j h = sets_in five b.numbers (5 * b.count) j h (omega arith)
 
-  last-is : range_at numbers b.count ≡ r
-  last-is = λ i. range (first i) (number_is 1 (omega arith) i) (number_is 2 (omega arith) i) (number_is 3 (omega arith) i) (number_is 4 (omega arith) i)
+  last_is : range_at numbers b.count ≡ r
+  last_is = λ i. range (first i) (number_is 1 (omega arith) i) (number_is 2 (omega arith) i) (number_is 3 (omega arith) i) (number_is 4 (omega arith) i)
     where
       first : get_or numbers (5 * b.count) 0 ≡ r.first
       first = ap (λ (i : ℕ). get_or numbers i 0) (sym (add-zero (5 * b.count))) ∙ number_is 0 (omega arith)
 
-  others-are : (i : ℕ) → i < b.count → range_at numbers i ≡ range_at b.numbers i
-  others-are i h = λ t. range (same (5 * i) (omega arith) t) (same (5 * i + 1) (omega arith) t) (same (5 * i + 2) (omega arith) t) (same (5 * i + 3) (omega arith) t) (same (5 * i + 4) (omega arith) t)
+  others_are : (i : ℕ) → i < b.count → range_at numbers i ≡ range_at b.numbers i
+  others_are i h = λ t. range (same (5 * i) (omega arith) t) (same (5 * i + 1) (omega arith) t) (same (5 * i + 2) (omega arith) t) (same (5 * i + 3) (omega arith) t) (same (5 * i + 4) (omega arith) t)
     where
       same : (j : ℕ) → j < 5 * b.count → get_or numbers j 0 ≡ get_or b.numbers j 0
       same j g = sets_below five b.numbers (5 * b.count) j g
 
-  pub kept-ranges : batch_ranges (kept_range b r) ≡ batch_ranges b ++ r ∷ []
+  pub kept_ranges : batch_ranges (kept_range b r) ≡ batch_ranges b ++ r ∷ []
   unfolding ranges_in
-  kept-ranges =
-      ap batch_ranges kept-is ∙ ap (λ (n : ℕ). tab n (range_at numbers)) (add-one b.count) ∙ tab-last (range_at numbers) b.count
-      ∙ ap (λ (l : List Range). l ++ range_at numbers b.count ∷ []) (tab_below _ _ b.count others-are) ∙ ap (λ (x : Range). batch_ranges b ++ x ∷ []) last-is
+  kept_ranges =
+      ap batch_ranges kept_is ∙ ap (λ (n : ℕ). tab n (range_at numbers)) (add-one b.count) ∙ tab_last (range_at numbers) b.count
+      ∙ ap (λ (l : List Range). l ++ range_at numbers b.count ∷ []) (tab_below _ _ b.count others_are) ∙ ap (λ (x : Range). batch_ranges b ++ x ∷ []) last_is
 
-  kept-fits : length (kept_range b r).numbers ≡ 5 * max_ranges
-  kept-fits = ap (λ (x : Batch). length x.numbers) kept-is ∙ length-sets b.numbers (5 * b.count) five ∙ fits
+  kept_fits : length (kept_range b r).numbers ≡ 5 * max_ranges
+  kept_fits = ap (λ (x : Batch). length x.numbers) kept_is ∙ length-sets b.numbers (5 * b.count) five ∙ fits
 
-  kept-count : (kept_range b r).count ≡ b.count + 1
-  kept-count = ap (λ (x : Batch). x.count) kept-is
+  kept_count : (kept_range b r).count ≡ b.count + 1
+  kept_count = ap (λ (x : Batch). x.count) kept_is
 
 -- the records of a list are those that a batch had, and then these, where there is room for them
 gathered_ranges : (rs : List Range) (b : Batch) → length b.numbers ≡ 5 * max_ranges → b.count + length rs ≤ max_ranges → batch_ranges (gathered b rs) ≡ batch_ranges b ++ rs
@@ -105,8 +105,8 @@ unfolding gathered
 gathered_ranges [] b e h = sym (append-nil (batch_ranges b))
 gathered_ranges (r ∷ rs) b e h =
     let small : b.count < max_ranges = omega arith in
-    let c = kept-count b e small r in
-    gathered_ranges rs (kept_range b r) (kept-fits b e small r) (omega arith) ∙ ap (λ (l : List Range). l ++ rs) (kept-ranges b e small r)
+    let c = kept_count b e small r in
+    gathered_ranges rs (kept_range b r) (kept_fits b e small r) (omega arith) ∙ ap (λ (l : List Range). l ++ rs) (kept_ranges b e small r)
     ∙ append_assoc (batch_ranges b) (r ∷ []) rs
 
 no_fits : length no_batch.numbers ≡ 5 * max_ranges
@@ -140,7 +140,7 @@ more_from : (rs : List Range) (b : Batch) → length b.numbers ≡ 5 * max_range
 unfolding gathered
 more_from [] b e c h = absurd (omega arith)
 more_from (r ∷ rs) b e c h = ⊎_elim
-    (λ small. let k = kept-count b e small r in more_from rs (kept_range b r) (kept-fits b e small r) (omega arith) (omega arith))
+    (λ small. let k = kept_count b e small r in more_from rs (kept_range b r) (kept_fits b e small r) (omega arith) (omega arith))
     (λ full. stays_more rs (kept_range b r) (full_count b r full))
     (lt_or_le b.count max_ranges)
 
@@ -149,7 +149,7 @@ gathered_more rs h = let z = no_count in more_from rs no_batch no_fits (omega ar
 
 pub length_ranges : (b : Batch) → length (batch_ranges b) ≡ b.count
 unfolding ranges_in
-length_ranges b = length-tab (range_at b.numbers) b.count
+length_ranges b = length_tab (range_at b.numbers) b.count
 
 pub length_more : (rs : List Range) → max_ranges < length rs → length (batch_ranges (gathered no_batch rs)) ≡ max_ranges + 1
 length_more rs h = length_ranges (gathered no_batch rs) ∙ gathered_more rs h

@@ -11,14 +11,14 @@ use lib.ListN.{length, take}
 use Rattle.words.specs.Layout.{pairs_at}
 use Rattle.words.specs.Stores.{stores, tab}
 use Rattle.words.proofs.Scan.{by_bool, not_lt}
-use Rattle.words.proofs.Plans.{take-tab}
+use Rattle.words.proofs.Plans.{take_tab}
 use Rattle.table.specs.Entry.{live, next_handle, word1, depth_of}
 use Rattle.table.proofs.Rule.{Rule}
-use Rattle.table.proofs.Head.{ended_low, first-remain}
+use Rattle.table.proofs.Head.{ended_low, first_remain}
 use Rattle.model.specs.Restore.{restored}
 use Rattle.store.specs.State.{held_in, domain_in, state_in}
 use Rattle.store.proofs.Domains.{held_none}
-use Rattle.store.proofs.Becoming.{Never, Fate, keeps, frees, Becomes, becomes-rule, becomes-state}
+use Rattle.store.proofs.Becoming.{Never, Fate, keeps, frees, Becomes, becomes_rule, becomes_state}
 use Rattle.restore.specs.Restore.{restore_change}
 use Rattle.restore.specs.Parts.{head_words, ending_words}
 
@@ -38,7 +38,7 @@ module _ (m e b : ℕ) (t : List ℕ) (ok : Rule m e b t) (long : pairs_at e ≤
         right = ok;
         long = long;
         low = ended_low d (live t) ok.live;
-        head = first-remain (restore_change e t d) ok long d high;
+        head = first_remain (restore_change e t d) ok long d high;
         spared = λ i k. refl;
         fate = fate bodies;
         lacked = λ x c one near z. inl (held_none e t bodies x c z);
@@ -47,18 +47,18 @@ module _ (m e b : ℕ) (t : List ℕ) (ok : Rule m e b t) (long : pairs_at e ≤
         bodies = λ i j v l h p. absurd p;
       }
 
-  pub end-rule : Rule m e b (stores (ending_words e t d (live t)) t)
-  end-rule = becomes-rule (becomes [])
+  pub end_rule : Rule m e b (stores (ending_words e t d (live t)) t)
+  end_rule = becomes_rule (becomes [])
 
-  pub end-state : (bodies : List ℕ) → state_in e (stores (ending_words e t d (live t)) t) bodies ≡ restored d (state_in e t bodies)
+  pub end_state : (bodies : List ℕ) → state_in e (stores (ending_words e t d (live t)) t) bodies ≡ restored d (state_in e t bodies)
   unfolding state_in
-  end-state bodies =
-      becomes-state (becomes bodies) ∙ (λ i. record { next = next_handle t; domains = sym (take-tab (domain_in e t bodies) (live t) d high) i })
+  end_state bodies =
+      becomes_state (becomes bodies) ∙ (λ i. record { next = next_handle t; domains = sym (take_tab (domain_in e t bodies) (live t) d high) i })
 
 -- where nobody is ended, the state is as it was
 pub none_ended : (e : ℕ) (t bodies : List ℕ) (d : ℕ) → live t ≡ d → state_in e t bodies ≡ restored d (state_in e t bodies)
 unfolding state_in
 none_ended e t bodies d q =
     let all : tab (live t) (domain_in e t bodies) ≡ take d (tab (live t) (domain_in e t bodies)) =
-    ap (λ (n : ℕ). tab n (domain_in e t bodies)) q ∙ sym (take-tab (domain_in e t bodies) (live t) d (omega arith)) in
+    ap (λ (n : ℕ). tab n (domain_in e t bodies)) q ∙ sym (take_tab (domain_in e t bodies) (live t) d (omega arith)) in
     λ i. record { next = next_handle t; domains = all i }

@@ -13,20 +13,20 @@ use Rattle.words.specs.Cells.{cell_bytes, copy_plan, cell_plan}
 use Rattle.words.proofs.Plans.{stores_none, length_cell_plan}
 use Rattle.words.proofs.Cells.{copy_part, part_from}
 use Rattle.patterns.specs.Pattern.{pattern}
-use Rattle.words.proofs.Gather.{gather-skip}
+use Rattle.words.proofs.Gather.{gather_skip}
 use Rattle.table.specs.Entry.{live}
 use Rattle.table.specs.Marks.{CellsOnce}
 use Rattle.table.specs.Rule.{rule_ok}
-use Rattle.table.proofs.Parts.{rule-once}
-use Rattle.table.proofs.Rule.{Rule, ok-facts}
+use Rattle.table.proofs.Parts.{rule_once}
+use Rattle.table.proofs.Rule.{Rule, ok_facts}
 use Rattle.search.specs.Search.{held_from, value_in, bytes_from, HasSource, value_from}
 use Rattle.search.specs.declared.Held.{Held}
 use Rattle.search.specs.declared.Held.TheVariants.{InBody, ByRule}
-use Rattle.search.proofs.Behind.{BodyFacts, body-facts, RuleFacts, rule-facts, from-slot, from-fits}
+use Rattle.search.proofs.Behind.{BodyFacts, body_facts, RuleFacts, rule_facts, from_slot, from_fits}
 use Rattle.restore.specs.Restore.{restore_bytes}
 use Rattle.restore.specs.Marks.{Holders, FirstDepth, Tells, Unheld}
 use Rattle.restore.specs.Parts.{back_plan}
-use Rattle.restore.proofs.Marking.{holders-none, value-first}
+use Rattle.restore.proofs.Marking.{holders_none, value_first}
 
 -- ---- one cell
 
@@ -47,24 +47,24 @@ put_none e t d c bodies memory k h = rw h (refl, (omega arith, stores_none k mem
 
 module _ (m e : ℕ) (t : List ℕ) (d c : ℕ) (bodies : List ℕ) (ok : rule_ok m e (bodies_of (length bodies)) t ≡ true) (low : 1 ≤ d) where
   rule : Rule m e (bodies_of (length bodies)) t
-  rule = ok-facts m e (bodies_of (length bodies)) t ok
+  rule = ok_facts m e (bodies_of (length bodies)) t ok
 
-  pub put-source : HasSource e t d c
-  put-source = from-slot m e (bodies_of (length bodies)) t rule d c low
+  pub put_source : HasSource e t d c
+  put_source = from_slot m e (bodies_of (length bodies)) t rule d c low
 
-  pub put-live : live t ≤ max_live
-  put-live = rule.live
+  pub put_live : live t ≤ max_live
+  put_live = rule.live
 
-  pub put-once : CellsOnce e t e
-  put-once = rule-once m e (bodies_of (length bodies)) t rule
+  pub put_once : CellsOnce e t e
+  put_once = rule_once m e (bodies_of (length bodies)) t rule
 
   -- by the domains that hold the cell
   module _ (held : ℕ) (tell : Holders e t d c held) where
-    pub put-unheld : held ≡ 0 → held_from e t d c ≡ false
-    put-unheld = holders-none e t d c held tell low put-live
+    pub put_unheld : held ≡ 0 → held_from e t d c ≡ false
+    put_unheld = holders_none e t d c held tell low put_live
 
     pub put_first : (r : ℕ) → FirstDepth held r → value_from e t r c ≡ value_from e t d c
-    put_first r f = value-first m e (bodies_of (length bodies)) t rule d c held low tell r f
+    put_first r f = value_first m e (bodies_of (length bodies)) t rule d c held low tell r f
 
   -- it is put back with the bytes that its first holder has
   put_some : (memory : List ℕ) (budget : ℕ) (v u : List ℕ) → held_from e t d c ≡ true → v ≡ bytes_from e t bodies d c → u ≡ stores (take budget (cell_plan v 0 c)) memory
@@ -75,11 +75,11 @@ module _ (m e : ℕ) (t : List ℕ) (d c : ℕ) (bodies : List ℕ) (ok : rule_o
   -- by the body that the search answered
   module _ (v : Held) (x k : ℕ) (q : v ≡ value_from e t d c) (n : v ≡ InBody x k) where
     facts : BodyFacts e t d c x k
-    facts = body-facts e t d c v x k q n
+    facts = body_facts e t d c v x k q n
 
-    pub put-fits : cell_at k + 64 ≤ length bodies
-    put-fits =
-        let l = from-fits m e (bodies_of (length bodies)) t rule d c low facts.held facts.plain in
+    pub put_fits : cell_at k + 64 ≤ length bodies
+    put_fits =
+        let l = from_fits m e (bodies_of (length bodies)) t rule d c low facts.held facts.plain in
         let z : k < bodies_of (length bodies) = subst (λ (y : ℕ). y < bodies_of (length bodies)) (sym facts.body) l in
         omega arith
 
@@ -87,10 +87,10 @@ module _ (m e : ℕ) (t : List ℕ) (d c : ℕ) (bodies : List ℕ) (ok : rule_o
     unfolding value_in
     body_bytes = rw (facts.plain, facts.body)
 
-    pub put-body : (memory : List ℕ) (budget w at : ℕ) (u : List ℕ) → w ≡ k → at ≡ cell_at w
+    pub put_body : (memory : List ℕ) (budget w at : ℕ) (u : List ℕ) → w ≡ k → at ≡ cell_at w
         → u ≡ stores (take budget (cell_plan (take (at + 64 - at) (drop at bodies)) 0 c)) memory
         → (64 ≡ length (back_plan e t d bodies c)) × ((64 ≤ 64) × (u ≡ stores (take budget (back_plan e t d bodies c)) memory))
-    put-body memory budget w at u p r h =
+    put_body memory budget w at u p r h =
         let there : at ≡ cell_at k = r ∙ ap cell_at p in
         put_some memory budget (take (at + 64 - at) (drop at bodies)) u facts.held
         (part_from bodies at ∙ ap (λ (y : ℕ). take 64 (drop y bodies)) there ∙ body_bytes) h
@@ -98,15 +98,15 @@ module _ (m e : ℕ) (t : List ℕ) (d c : ℕ) (bodies : List ℕ) (ok : rule_o
   -- by the rule
   module _ (v : Held) (x k : ℕ) (q : v ≡ value_from e t d c) (n : v ≡ ByRule x k) where
     ruled : RuleFacts e t d c x k
-    ruled = rule-facts e t d c v x k q n
+    ruled = rule_facts e t d c v x k q n
 
-    rule-bytes : pattern k ≡ bytes_from e t bodies d c
+    rule_bytes : pattern k ≡ bytes_from e t bodies d c
     unfolding value_in
-    rule-bytes = rw (ruled.ruled, ruled.rule)
+    rule_bytes = rw (ruled.ruled, ruled.rule)
 
-    pub put-rule : (memory : List ℕ) (budget : ℕ) (bytes u : List ℕ) → bytes ≡ pattern k → u ≡ stores (take budget (cell_plan bytes 0 c)) memory
+    pub put_rule : (memory : List ℕ) (budget : ℕ) (bytes u : List ℕ) → bytes ≡ pattern k → u ≡ stores (take budget (cell_plan bytes 0 c)) memory
         → (64 ≡ length (back_plan e t d bodies c)) × ((64 ≤ 64) × (u ≡ stores (take budget (back_plan e t d bodies c)) memory))
-    put-rule memory budget bytes u p h = put_some memory budget bytes u ruled.held (p ∙ rule-bytes) h
+    put_rule memory budget bytes u p h = put_some memory budget bytes u ruled.held (p ∙ rule_bytes) h
 
 -- ---- all cells
 
@@ -115,8 +115,8 @@ pub put_passed : (m e : ℕ) (t : List ℕ) (d : ℕ) (bodies : List ℕ) → ru
     → (mask : ℕ) (seen : List ℕ) → Tells e t d mask seen → (cells from n r : ℕ) → Unheld mask seen from n r
     → gather (min cells (8 * from)) (back_plan e t d bodies) ≡ gather (min cells (8 * r)) (back_plan e t d bodies)
 put_passed m e t d bodies ok low mask seen tell cells from n r u =
-    sym (gather-skip (back_plan e t d bodies) (min cells (8 * from)) (min cells (8 * r)) (omega (arith, u.low))
-    (λ c a b. rw (put-unheld m e t d c bodies ok low _ (tell c) (u.none c (omega (arith, a, b)) (omega (arith, a, b))))))
+    sym (gather_skip (back_plan e t d bodies) (min cells (8 * from)) (min cells (8 * r)) (omega (arith, u.low))
+    (λ c a b. rw (put_unheld m e t d c bodies ok low _ (tell c) (u.none c (omega (arith, a, b)) (omega (arith, a, b))))))
 
 pub bytes_are : (m d e : ℕ) (bodies t : List ℕ) → e ≡ slots_of (length t) → gather m (back_plan e t d bodies) ≡ restore_bytes m d bodies t
 unfolding restore_bytes

@@ -19,11 +19,11 @@ use Rattle.marks.specs.Blocks.{block_of, mark_of, Kept}
 use Rattle.table.specs.Marks.{has, Marked}
 use Rattle.marks.proofs.Blocks.{none_held}
 use Rattle.marks.proofs.Digits.{halved, has_none}
-use Rattle.table.proofs.Entry.{find-hit, holds-found}
+use Rattle.table.proofs.Entry.{find_hit, holds_found}
 use Rattle.table.proofs.Marks.{marked_holds}
 use Rattle.table.proofs.Rule.{Rule}
 use Rattle.search.specs.Search.{steps_in, held_from, source_in, held_by, value_from}
-use Rattle.search.proofs.Behind.{steps-within, steps-hold, value-some}
+use Rattle.search.proofs.Behind.{steps_within, steps_hold, value_some}
 use Rattle.changes.proofs.Bits.{lowest_found}
 use Rattle.restore.specs.Marks.{inwards, Holders, FirstDepth, Tells, Unheld}
 
@@ -152,12 +152,12 @@ module _ (e : ℕ) (t : List ℕ) (d c held : ℕ) (tell : Holders e t d c held)
       is_false (holds_in e t k c) (λ p. true≢ (tell k (omega arith) few ∙ and_join (holds_in e t k c) (leb d k) p (le-leb d k l)) h)
 
   -- nobody, where no domain is told
-  pub holders-none : 1 ≤ d → live t ≤ max_live → held ≡ 0 → held_from e t d c ≡ false
-  holders-none low few z =
+  pub holders_none : 1 ≤ d → live t ≤ max_live → held ≡ 0 → held_from e t d c ≡ false
+  holders_none low few z =
       is_false (held_from e t d c)
       (λ h.
-      true≢ (steps-hold e t d c h)
-      (untold (d + steps_in e t d c) low (omega arith) (omega (arith, steps-within e t d c h, few)) (ap (λ (m : ℕ). has (d + steps_in e t d c) m) z ∙ has_none (d + steps_in e t d c))))
+      true≢ (steps_hold e t d c h)
+      (untold (d + steps_in e t d c) low (omega arith) (omega (arith, steps_within e t d c h, few)) (ap (λ (m : ℕ). has (d + steps_in e t d c) m) z ∙ has_none (d + steps_in e t d c))))
 
 -- a search that no domain before r ends ends there
 steps_first : (e : ℕ) (t : List ℕ) (d c r : ℕ) → d ≤ r → r ≤ live t → ((k : ℕ) → d ≤ k → k < r → holds_in e t k c ≡ false) → holds_in e t r c ≡ true
@@ -171,7 +171,7 @@ steps_first e t d c r l within none here =
 
 value_at : (e : ℕ) (t : List ℕ) (d c r : ℕ) → r ≤ live t → d + steps_in e t d c ≡ r → value_from e t d c ≡ held_by r (word1 e t (source_in e t r c)) (word2 e t (source_in e t r c))
 value_at e t d c r within q =
-    value-some e t d c (lt-ltb (steps_in e t d c) (suc (live t) - d) (omega (arith, q))) ∙ (λ j. held_by (q j) (word1 e t (source_in e t (q j) c)) (word2 e t (source_in e t (q j) c)))
+    value_some e t d c (lt-ltb (steps_in e t d c) (suc (live t) - d) (omega (arith, q))) ∙ (λ j. held_by (q j) (word1 e t (source_in e t (q j) c)) (word2 e t (source_in e t (q j) c)))
 
 -- the search may begin at the first holder
 module _ (m e b : ℕ) (t : List ℕ) (ok : Rule m e b t) (d c held : ℕ) (low : 1 ≤ d) (tell : Holders e t d c held) (r : ℕ) (f : FirstDepth held r) where
@@ -181,13 +181,13 @@ module _ (m e b : ℕ) (t : List ℕ) (ok : Rule m e b t) (d c held : ℕ) (low 
   -- who is live
   within : r ≤ live t
   within =
-      let l = holds-found e t r c holder.0 in
-      let q = find-hit e t r c l in
+      let l = holds_found e t r c holder.0 in
+      let q = find_hit e t r c l in
       let u = ok.used (find_in e t r c) l (λ z. omega (arith, z, q.0, f.low)) in
       omega (arith, u.high, q.0)
 
-  pub value-first : value_from e t r c ≡ value_from e t d c
-  value-first =
+  pub value_first : value_from e t r c ≡ value_from e t d c
+  value_first =
       value_at e t r c r within (steps_first e t r c r (omega arith) within (λ k a b. absurd (omega (arith, a, b))) holder.0)
       ∙ sym (value_at e t d c r within
       (steps_first e t d c r holder.1 within (λ k a b. untold e t d c held tell k low a (omega (arith, b, f.high)) (f.before k (omega (arith, a, low)) b)) holder.0))

@@ -9,7 +9,7 @@ use Rattle.words.specs.Layout.{pairs_at}
 use Rattle.words.specs.Stores.{Store, store, stores}
 use Rattle.words.specs.Journal.{journal}
 use Rattle.words.proofs.Scan.{by_le}
-use Rattle.words.proofs.Plans.{run-take-append, take_map}
+use Rattle.words.proofs.Plans.{run_take_append, take_map}
 use Rattle.words.proofs.Pairs.{length_journal, journal_none}
 use Rattle.model.specs.Answer.{Report, ended, steps_of}
 use Rattle.store.specs.Outcome.{Buffers, buffers, in_memory, in_table, step, steps, outcome, leaves, perform}
@@ -38,7 +38,7 @@ restore_length first bytes ws =
 pub restore_steps : (first k : ℕ) (bytes ws : List Store) (m b t : List ℕ)
     → steps (take k (restore_plan first bytes ws)) (buffers m b t) ≡ buffers (stores (take k bytes) m) b (stores (take (k - length bytes) (journal first ws)) t)
 restore_steps first k bytes ws m b t =
-    run-take-append step k (map in_memory bytes) (map in_table (journal first ws)) (buffers m b t)
+    run_take_append step k (map in_memory bytes) (map in_table (journal first ws)) (buffers m b t)
     ∙ rw (length-map, take_map in_memory, take_map in_table, steps_in_memory (take k bytes) m b t, steps_in_table (take (k - length bytes) (journal first ws)) _ b t)
 
 -- report and buffers after k steps

@@ -12,8 +12,8 @@ use Rattle.words.specs.Scan.{count}
 use Rattle.words.specs.Stores.{Store, ◌≔◌, store, stores, tab, gather}
 use Rattle.words.specs.Cells.{cell_plan}
 use Rattle.words.proofs.Scan.{by_bool, by_le}
-use Rattle.words.proofs.Plans.{each-tab, length-tab, length_stores, get_or_stores, length_cell_plan, run-take-append, take-tab, take_min, stores_none, run_stored}
-use Rattle.words.proofs.Gather.{gather-count}
+use Rattle.words.proofs.Plans.{each_tab, length_tab, length_stores, get_or_stores, length_cell_plan, run_take_append, take_tab, take_min, stores_none, run_stored}
+use Rattle.words.proofs.Gather.{gather_count}
 use Rattle.model.specs.Restore.{cell_of_byte, place_in_cell}
 
 -- ---- one cell, of which the first k bytes are stored
@@ -25,7 +25,7 @@ unfolding cell_plan
 cell_part s l from to k x fits =
     let f : ℕ → Store = λ j. cell_at to + j ≔ get_or s (cell_at from + j) 0 in
     let n : ℕ = min k 64 in
-    let cut : take k (tab 64 f) ≡ tab (min k 64) f = sym (take_min k 64 (tab 64 f) (length-tab f 64)) ∙ take-tab f 64 (min k 64) (omega arith) in
+    let cut : take k (tab 64 f) ≡ tab (min k 64) f = sym (take_min k 64 (tab 64 f) (length_tab f 64)) ∙ take_tab f 64 (min k 64) (omega arith) in
     ap (λ (ps : List Store). get_or (stores ps l) x 0) cut
     ∙ by_bool (eqb (cell_of_byte x) to)
     (λ z.
@@ -43,7 +43,7 @@ cell_part s l from to k x fits =
     here ∙ rw (z, same))
     (λ z.
     let ne = eqb-false (cell_of_byte x) to z in
-    get_or_stores (tab (min k 64) f) l x (each-tab (λ p. x ≡ p.at → ⊥) f (min k 64) (λ i b q. ne (omega arith)))
+    get_or_stores (tab (min k 64) f) l x (each_tab (λ p. x ≡ p.at → ⊥) f (min k 64) (λ i b q. ne (omega arith)))
     ∙ rw z)
 
 whole_part : (v l : List ℕ) (to k x : ℕ) → cell_at to + 64 ≤ length l
@@ -58,24 +58,24 @@ module _ (value : ℕ → List ℕ) (held : ℕ → Bool) where
   abbrev pub plan : ℕ → List Store
   plan c = cond (held c) (cell_plan (value c) 0 c) []
 
-  pub cells-length : (n : ℕ) → length (gather n plan) ≡ 64 * count n held
-  cells-length n = gather-count 64 n held plan (λ c. by_bool (held c) (λ z. rw (z, length_cell_plan (value c) 0 c)) (λ z. rw z))
+  pub cells_length : (n : ℕ) → length (gather n plan) ≡ 64 * count n held
+  cells_length n = gather_count 64 n held plan (λ c. by_bool (held c) (λ z. rw (z, length_cell_plan (value c) 0 c)) (λ z. rw z))
 
   -- the byte at x is stored once the held cells below its own, and the bytes of its own cell up to it, are
   abbrev pub reached : (k n x : ℕ) → Bool
   reached k n x = ltb (cell_of_byte x) n && (held (cell_of_byte x) && ltb (64 * count (cell_of_byte x) held + place_in_cell x) k)
 
-  pub cells-stored : (k n x : ℕ) (l : List ℕ) → cell_at n ≤ length l
+  pub cells_stored : (k n x : ℕ) (l : List ℕ) → cell_at n ≤ length l
       → get_or (stores (take k (gather n plan)) l) x 0 ≡ cond (reached k n x) (get_or (value (cell_of_byte x)) (place_in_cell x) 0) (get_or l x 0)
-  cells-stored k zero x l fits =
+  cells_stored k zero x l fits =
       ap (λ (y : List ℕ). get_or y x 0) (sym (stores_none k l)) ∙ rw (le-ltb (cell_of_byte x) 0 (omega arith))
-  cells-stored k (suc n) x l fits =
+  cells_stored k (suc n) x l fits =
       let c : ℕ = cell_of_byte x in
       let p : ℕ = place_in_cell x in
       let before : List ℕ = stores (take k (gather n plan)) l in
       let long : length (stores (take k (gather n plan)) l) ≡ length l = length_stores (take k (gather n plan)) l in
-      let ih = cells-stored k n x l (omega arith) in
-      ap (λ (y : List ℕ). get_or y x 0) (run-take-append store k (gather n plan) (plan n) l)
+      let ih = cells_stored k n x l (omega arith) in
+      ap (λ (y : List ℕ). get_or y x 0) (run_take_append store k (gather n plan) (plan n) l)
       ∙ by_bool (eqb (cell_of_byte x) n)
       (λ z.
       let q : cell_of_byte x ≡ n = eqb-true (cell_of_byte x) n z in
@@ -88,7 +88,7 @@ module _ (value : ℕ → List ℕ) (held : ℕ → Bool) where
       by_le k (64 * count n held + place_in_cell x)
       (λ le. le-ltb (place_in_cell x) (k - 64 * count n held) (omega arith) ∙ sym (le-ltb (64 * count n held + place_in_cell x) k le))
       (λ lt. lt-ltb (place_in_cell x) (k - 64 * count n held) (omega arith) ∙ sym (lt-ltb (64 * count n held + place_in_cell x) k lt)) in
-      rw (cells-length n, h)
+      rw (cells_length n, h)
       (one ∙ rw (z, same, old, hc, lt-ltb (cell_of_byte x) (suc n) (omega arith), q)))
       (λ h.
       let hc : held (cell_of_byte x) ≡ false = ap held q ∙ h in

@@ -28,15 +28,15 @@ use Rattle.store.specs.Outcome.{Buffers, buffers, outcome, perform, unless}
 use Rattle.store.specs.Checks.{store_check, lent, lent_of}
 use Rattle.store.specs.State.{state_in, state_of, standing}
 use Rattle.store.specs.Means.{or_refused}
-use Rattle.store.proofs.Checks.{ask_yes, store-lengths}
-use Rattle.store.proofs.Means.{visible_of, by_check, store-standing}
-use Rattle.store.proofs.Changes.{change-standing}
-use Rattle.store.proofs.Raw.{raw-rule, raw-state, raw-named, raw-next, raw-after, raw-long}
+use Rattle.store.proofs.Checks.{ask_yes, store_lengths}
+use Rattle.store.proofs.Means.{visible_of, by_check, store_standing}
+use Rattle.store.proofs.Changes.{change_standing}
+use Rattle.store.proofs.Raw.{raw_rule, raw_state, raw_named, raw_next, raw_after, raw_long}
 use Rattle.restore.specs.Restore.{restore_check, restore_bytes, restore_words, restore_plan, restore_call, restore_means}
 use Rattle.restore.proofs.Plan.{restore_length, restore_steps}
-use Rattle.restore.proofs.Ending.{end-rule, end-state, none_ended}
-use Rattle.restore.proofs.Counting.{words-none, words-some, words_names, words_few, words_count, bytes_count}
-use Rattle.restore.proofs.Bytes.{memory-after}
+use Rattle.restore.proofs.Ending.{end_rule, end_state, none_ended}
+use Rattle.restore.proofs.Counting.{words_none, words_some, words_names, words_few, words_count, bytes_count}
+use Rattle.restore.proofs.Bytes.{memory_after_lem}
 
 -- of memory, the state that opening finds reads the length alone
 pub standing_memory : (m m' b t : List ℕ) → length m ≡ length m' → standing (buffers m b t) ≡ standing (buffers m' b t)
@@ -65,13 +65,13 @@ module _ (memory bodies t : List ℕ) (yes : store_check (lent (length memory) (
   ws = restore_words d t
 
   ok : Rule m e b t
-  ok = raw-rule memory bodies t yes
+  ok = raw_rule memory bodies t yes
 
   few : live t ≤ max_live
   few = ok.live
 
   pub whole_cells : length memory ≡ cell_at (cells_of (length memory))
-  whole_cells = (store-lengths (length memory) (length bodies) t yes).memory_exact
+  whole_cells = (store_lengths (length memory) (length bodies) t yes).memory_exact
 
   -- ---- the words
 
@@ -81,46 +81,46 @@ module _ (memory bodies t : List ℕ) (yes : store_check (lent (length memory) (
   pub room : length (restore_words d t) ≤ max_pairs (slots_of (length t))
   room = omega (arith, words_few t d low few)
 
-  whole-rule : Rule m e b (stores ws t)
-  whole-rule =
+  whole_rule : Rule m e b (stores ws t)
+  whole_rule =
       by_bool (eqb (live t) d)
-      (λ z. rw (words-none t d (eqb-true (live t) d z)) ok)
-      (λ z. rw (words-some t d (eqb-false (live t) d z)) (end-rule m e b t ok (raw-long memory bodies t yes) d low high))
+      (λ z. rw (words_none t d (eqb-true (live t) d z)) ok)
+      (λ z. rw (words_some t d (eqb-false (live t) d z)) (end_rule m e b t ok (raw_long memory bodies t yes) d low high))
 
-  whole-state : state_in e (stores ws t) bodies ≡ restored d (state_in e t bodies)
-  whole-state =
+  whole_state : state_in e (stores ws t) bodies ≡ restored d (state_in e t bodies)
+  whole_state =
       by_bool (eqb (live t) d)
-      (λ z. rw (words-none t d (eqb-true (live t) d z)) (none_ended e t bodies d (eqb-true (live t) d z)))
-      (λ z. rw (words-some t d (eqb-false (live t) d z)) (end-state m e b t ok (raw-long memory bodies t yes) d low high bodies))
+      (λ z. rw (words_none t d (eqb-true (live t) d z)) (none_ended e t bodies d (eqb-true (live t) d z)))
+      (λ z. rw (words_some t d (eqb-false (live t) d z)) (end_state m e b t ok (raw_long memory bodies t yes) d low high bodies))
 
   -- the new table is right
-  pub new-rule : Rule (cells_of (length memory)) (slots_of (length t)) (bodies_of (length bodies)) (stores (restore_words d t) (take (pairs_at (slots_of (length t))) t))
-  new-rule = raw-next memory bodies t yes ws names whole-rule
+  pub new_rule : Rule (cells_of (length memory)) (slots_of (length t)) (bodies_of (length bodies)) (stores (restore_words d t) (take (pairs_at (slots_of (length t))) t))
+  new_rule = raw_next memory bodies t yes ws names whole_rule
 
   -- and stands for the state without the domains inside
-  pub new-state : state_in (slots_of (length t)) (stores (restore_words d t) (take (pairs_at (slots_of (length t))) t)) bodies ≡ restored d (state_of (buffers memory bodies t))
-  new-state = raw-after memory bodies t yes ws names whole-rule bodies ∙ whole-state ∙ ap (restored d) (sym (raw-state memory bodies t yes))
+  pub new_state : state_in (slots_of (length t)) (stores (restore_words d t) (take (pairs_at (slots_of (length t))) t)) bodies ≡ restored d (state_of (buffers memory bodies t))
+  new_state = raw_after memory bodies t yes ws names whole_rule bodies ∙ whole_state ∙ ap (restored d) (sym (raw_state memory bodies t yes))
 
   -- ---- as many bytes and words as the model says, and its memory
 
-  pub new-words : length (restore_words d t) ≡ model.restore_words (cells_of (length memory)) d (state_of (buffers memory bodies t))
-  new-words = words_count t d m b bodies ok high ∙ ap (model.restore_words m d) (sym (raw-state memory bodies t yes))
+  pub new_words : length (restore_words d t) ≡ model.restore_words (cells_of (length memory)) d (state_of (buffers memory bodies t))
+  new_words = words_count t d m b bodies ok high ∙ ap (model.restore_words m d) (sym (raw_state memory bodies t yes))
 
-  pub new-bytes : length (restore_bytes (cells_of (length memory)) d bodies t) ≡ 64 * cells_put_back (cells_of (length memory)) d (state_of (buffers memory bodies t))
-  new-bytes = bytes_count t d m bodies low ∙ ap (λ (s : State). 64 * cells_put_back m d s) (sym (raw-state memory bodies t yes))
+  pub new_bytes : length (restore_bytes (cells_of (length memory)) d bodies t) ≡ 64 * cells_put_back (cells_of (length memory)) d (state_of (buffers memory bodies t))
+  new_bytes = bytes_count t d m bodies low ∙ ap (λ (s : State). 64 * cells_put_back m d s) (sym (raw_state memory bodies t yes))
 
-  pub new-memory : (k : ℕ) → stores (take k (restore_bytes (cells_of (length memory)) d bodies t)) memory ≡ memory_after_steps k d (state_of (buffers memory bodies t)) memory
-  new-memory k = memory-after t bodies d low memory m k whole_cells ∙ ap (λ (s : State). memory_after_steps k d s memory) (sym (raw-state memory bodies t yes))
+  pub new_memory : (k : ℕ) → stores (take k (restore_bytes (cells_of (length memory)) d bodies t)) memory ≡ memory_after_steps k d (state_of (buffers memory bodies t)) memory
+  new_memory k = memory_after_lem t bodies d low memory m k whole_cells ∙ ap (λ (s : State). memory_after_steps k d s memory) (sym (raw_state memory bodies t yes))
 
   -- ---- the state that opening finds at every budget
 
-  after-bytes : (j : ℕ) → standing (buffers memory bodies (stores (take j (journal first ws)) t))
+  after_bytes : (j : ℕ) → standing (buffers memory bodies (stores (take j (journal first ws)) t))
       ≡ some (cond (ltb (2 * length ws) j) (restored d (state_of (buffers memory bodies t))) (state_of (buffers memory bodies t)))
-  after-bytes j =
+  after_bytes j =
       let z : j - 0 ≡ j = omega arith in
       let y : 0 + 2 * length ws ≡ 2 * length ws = omega arith in
       let nil : take {A = Store} j [] ≡ [] = take-nil j in
-      rw (z, y, nil) at (change-standing memory bodies t yes [] ws tt room names new-rule 0 (restored d (state_of (buffers memory bodies t))) new-state j)
+      rw (z, y, nil) at (change_standing memory bodies t yes [] ws tt room names new_rule 0 (restored d (state_of (buffers memory bodies t))) new_state j)
 
   later : (a p k : ℕ) → ltb p (k - a) ≡ ltb (a + p) k
   later a p k =
@@ -128,22 +128,22 @@ module _ (memory bodies t : List ℕ) (yes : store_check (lent (length memory) (
       (λ l. le-ltb p (k - a) (omega arith) ∙ sym (le-ltb (a + p) k l))
       (λ l. lt-ltb p (k - a) (omega arith) ∙ sym (lt-ltb (a + p) k l))
 
-  pub restore-standing : (k : ℕ)
+  pub restore_standing : (k : ℕ)
       → standing (buffers (stores (take k (restore_bytes (cells_of (length memory)) d bodies t)) memory) bodies
       (stores (take (k - length (restore_bytes (cells_of (length memory)) d bodies t)) (journal (pairs_at (slots_of (length t))) (restore_words d t))) t))
       ≡ some (cond (ltb (length (restore_bytes (cells_of (length memory)) d bodies t) + 2 * length (restore_words d t)) k)
       (restored d (state_of (buffers memory bodies t))) (state_of (buffers memory bodies t)))
-  restore-standing k =
+  restore_standing k =
       standing_memory (stores (take k bytes) memory) memory bodies (stores (take (k - length bytes) (journal first ws)) t) (length_stores (take k bytes) memory)
-      ∙ after-bytes (k - length bytes)
+      ∙ after_bytes (k - length bytes)
       ∙ rw (later (length bytes) (2 * length ws) k)
 
-  restore-seen : (k : ℕ) → visible_of (outcome (perform (restore_plan first bytes ws) 0) k (buffers memory bodies t))
+  restore_seen : (k : ℕ) → visible_of (outcome (perform (restore_plan first bytes ws) 0) k (buffers memory bodies t))
       ≡ viewed_with (change (64 * cells_put_back m d (state_of (buffers memory bodies t))) (model.restore_words m d (state_of (buffers memory bodies t))) 0 (restored d (state_of (buffers memory bodies t))))
       k (state_of (buffers memory bodies t)) memory (memory_after_steps k d (state_of (buffers memory bodies t)) memory)
   unfolding outcome
-  restore-seen k =
-      rw (restore_steps first k bytes ws memory bodies t, restore_length first bytes ws, restore-standing k, new-memory k, new-bytes, new-words)
+  restore_seen k =
+      rw (restore_steps first k bytes ws memory bodies t, restore_length first bytes ws, restore_standing k, new_memory k, new_bytes, new_words)
 
 -- ---- the call
 
@@ -172,8 +172,8 @@ restore_means_lem h k b =
     (store_check (lent_of b))
     (λ n e. refl)
     (λ yes.
-    let stands = store-standing b.memory b.bodies b.table yes in
-    let name = raw-named b.memory b.bodies b.table yes h in
+    let stands = store_standing b.memory b.bodies b.table yes in
+    let name = raw_named b.memory b.bodies b.table yes h in
     subst (λ (r : ℕ). goal h (asked b.table h) r k b) (ap (λ (x : ℕ). ask (ltb 0 x) 5 0) (sym name))
     (by_check (λ q. goal h q q k b) (asked b.table h)
     (λ n e. ap (λ (s : Option State). view (refused (suc n)) s b.memory) stands)
@@ -182,4 +182,4 @@ restore_means_lem h k b =
     (restore_bytes (cells_of (length b.memory)) (depth_named b.table h) b.bodies b.table) (restore_words (depth_named b.table h) b.table)) 0) k b)
     ≡ viewed_with (change (64 * cells_put_back (cells_of (length b.memory)) d (state_of b)) (model.restore_words (cells_of (length b.memory)) d (state_of b)) 0 (restored d (state_of b)))
     k (state_of b) b.memory (memory_after_steps k d (state_of b) b.memory)) (sym name)
-    (restore-seen b.memory b.bodies b.table yes (depth_named b.table h) (asked_low b.table h e) (depth_small b.table h) k))))
+    (restore_seen b.memory b.bodies b.table yes (depth_named b.table h) (asked_low b.table h e) (depth_small b.table h) k))))

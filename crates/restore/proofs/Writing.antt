@@ -11,12 +11,12 @@ use Rattle.changes.specs.Staged.{Journaled}
 use Rattle.words.specs.Layout.{live_at, handle_at, slots_of}
 use Rattle.words.specs.Stores.{Store, ◌≔◌, tab}
 use Rattle.words.proofs.Scan.{by_le, or_split}
-use Rattle.words.proofs.Plans.{stores_none, tab-last}
+use Rattle.words.proofs.Plans.{stores_none, tab_last}
 use Rattle.table.specs.Entry.{live, word1, depth_of}
 use Rattle.table.specs.Changes.{keep}
 use Rattle.restore.specs.Restore.{restore_change, restore_words}
 use Rattle.restore.specs.Parts.{head_words, ending_words}
-use Rattle.restore.proofs.Counting.{words-none, words-some}
+use Rattle.restore.proofs.Counting.{words_none, words_some}
 
 -- ---- the head
 
@@ -35,7 +35,7 @@ head_turn d k w hs more l word q r =
     r
     ∙ ap (λ (ws : List Store). ws ++ (w ≔ 0) ∷ []) q
     ∙ ap (λ (x : ℕ). head_words d k ++ (x ≔ 0) ∷ []) there
-    ∙ ap (λ (ws : List Store). (live_at ≔ d) ∷ ws) (sym (tab-last f (k - d)) ∙ ap (λ (n : ℕ). tab n f) next)
+    ∙ ap (λ (ws : List Store). (live_at ≔ d) ∷ ws) (sym (tab_last f (k - d)) ∙ ap (λ (n : ℕ). tab n f) next)
 
 -- ---- the entries
 
@@ -55,9 +55,9 @@ not_freed e t d i l = rw (le-ltb d (depth_of (word1 e t i)) l)
 
 -- where no domain ends
 pub unfinished : (t : List ℕ) (d k : ℕ) → live t ≡ d → Journaled (slots_of (length t)) (restore_words d t) k t 0 t
-unfinished t d k q = rw (words-none t d q) (record { made = refl; few = omega arith; words = stores_none k t })
+unfinished t d k q = rw (words_none t d q) (record { made = refl; few = omega arith; words = stores_none k t })
 
 pub finished : (t : List ℕ) (d e k r : ℕ) (u : List ℕ) → (live t ≡ d → ⊥) → e ≡ slots_of (length t)
     → Journaled e (ending_words e t d (live t)) k t r u → Journaled (slots_of (length t)) (restore_words d t) k t r u
 finished t d e k r u ends slots h =
-    rw (words-some t d ends) (subst (λ (x : ℕ). Journaled x (ending_words x t d (live t)) k t r u) slots h)
+    rw (words_some t d ends) (subst (λ (x : ℕ). Journaled x (ending_words x t d (live t)) k t r u) slots h)

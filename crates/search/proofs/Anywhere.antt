@@ -4,40 +4,40 @@ use borrow.Author.Tests.{eqb-false}
 use Rattle.words.proofs.Scan.{by_bool, by_le, is_false, not_lt}
 use Rattle.table.specs.Entry.{word1, depth_of, cell_of, find_in}
 use Rattle.table.specs.Marks.{CellsOnce, EndsAt}
-use Rattle.table.proofs.Entry.{find-some, find-hit, names-both}
+use Rattle.table.proofs.Entry.{find_some, find_hit, names_both}
 use Rattle.search.specs.Search.{IsKey, named_by, Unnamed}
-use Rattle.search.proofs.Keys.{found-by-key}
+use Rattle.search.proofs.Keys.{found_by_key}
 
 module _ (e : ℕ) (t : List ℕ) (once : CellsOnce e t e) (d c key : ℕ) (low : 1 ≤ d) (is : IsKey d c key) where
   -- two entries of one depth and cell are one
-  same-entry : (i j : ℕ) → i < e → j < e → depth_of (word1 e t i) ≡ d → cell_of (word1 e t i) ≡ c → depth_of (word1 e t j) ≡ d → cell_of (word1 e t j) ≡ c → i ≡ j
-  same-entry i j li lj di ci dj cj =
+  same_entry : (i j : ℕ) → i < e → j < e → depth_of (word1 e t i) ≡ d → cell_of (word1 e t i) ≡ c → depth_of (word1 e t j) ≡ d → cell_of (word1 e t j) ≡ c → i ≡ j
+  same_entry i j li lj di ci dj cj =
       by_bool (eqb i j) (λ z. eqb-true i j z)
       (λ z.
       by_le i j
       (λ le. absurd (once j lj i (omega (arith, le, eqb-false i j z)) (omega (arith, dj, low)) (di ∙ sym dj) (ci ∙ sym cj)))
       (λ lt. absurd (once i li j lt (omega (arith, di, low)) (dj ∙ sym di) (cj ∙ sym ci))))
 
-  pub found-anywhere : (i : ℕ) → i < e → named_by key (word1 e t i) ≡ true → find_in e t d c ≡ i
-  found-anywhere i l h =
-      let n = names-both e t (depth_of key) (cell_of key) (word1 e t i) h in
+  pub found_anywhere : (i : ℕ) → i < e → named_by key (word1 e t i) ≡ true → find_in e t d c ≡ i
+  found_anywhere i l h =
+      let n = names_both e t (depth_of key) (cell_of key) (word1 e t i) h in
       let di : depth_of (word1 e t i) ≡ d = n.0 ∙ is.depth in
       let ci : cell_of (word1 e t i) ≡ c = n.1 ∙ is.cell in
-      let le = find-some e t d c i l di ci in
-      let f = find-hit e t d c (omega (arith, le, l)) in
-      same-entry (find_in e t d c) i (omega (arith, le, l)) l f.0 f.1 di ci
+      let le = find_some e t d c i l di ci in
+      let f = find_hit e t d c (omega (arith, le, l)) in
+      same_entry (find_in e t d c) i (omega (arith, le, l)) l f.0 f.1 di ci
 
   -- a free entry has depth 0, which no key has
-  unnamed-free : (top : ℕ) → EndsAt e t top → Unnamed e t key top e
-  unnamed-free top ends k far l =
+  unnamed_free : (top : ℕ) → EndsAt e t top → Unnamed e t key top e
+  unnamed_free top ends k far l =
       is_false (named_by key (word1 e t k))
-      (λ h. absurd (omega (arith, (names-both e t (depth_of key) (cell_of key) (word1 e t k) h).0, is.depth, low, (ends.1 k far l).0)))
+      (λ h. absurd (omega (arith, (names_both e t (depth_of key) (cell_of key) (word1 e t k) h).0, is.depth, low, (ends.1 k far l).0)))
 
   -- none is named from the start to the last in use, nor from the front to the start
   pub found_nowhere : (top start n k : ℕ) → EndsAt e t top → top ≤ n → start ≤ k → Unnamed e t key start n → Unnamed e t key 0 k → find_in e t d c ≡ e
   found_nowhere top start n k ends past met behind front =
-      found-by-key e t d c key is e (omega arith)
+      found_by_key e t d c key is e (omega arith)
       (λ j a b.
-      by_le top j (λ far. unnamed-free top ends j far b)
+      by_le top j (λ far. unnamed_free top ends j far b)
       (λ used. by_le start j (λ far. behind j far (omega (arith, used, past))) (λ near. front j a (omega (arith, near, met)))))
       (λ l. absurd (not_lt e e l (omega arith)))

@@ -6,13 +6,13 @@ use Rattle.search.specs.Domain.{place_of, depth_named}
 
 -- ---- the depth that a handle names
 module _ (t : List ℕ) (h : ℕ) where
-  pub named-innermost : h ≡ 0 → depth_named t h ≡ live t
+  pub named_innermost : h ≡ 0 → depth_named t h ≡ live t
   unfolding depth_named
-  named-innermost z = rw (eq-eqb h 0 z)
+  named_innermost z = rw (eq-eqb h 0 z)
 
-  pub named-at : (h ≡ 0 → ⊥) → (k : ℕ) → k < live t → ((j : ℕ) → j < k → eqb (handle t j) h ≡ false) → handle t k ≡ h → depth_named t h ≡ k + 1
+  pub named_at : (h ≡ 0 → ⊥) → (k : ℕ) → k < live t → ((j : ℕ) → j < k → eqb (handle t j) h ≡ false) → handle t k ≡ h → depth_named t h ≡ k + 1
   unfolding depth_named
-  named-at u k l none here =
+  named_at u k l none here =
       let at : place_of t h ≡ k = first_at_lem (live t) (λ j. eqb (handle t j) h) k (omega arith) none (λ _. eq-eqb _ _ here) in
       rw (ne_eqb h 0 u, at, lt-ltb k (live t) l) (sym (add-one k))
 

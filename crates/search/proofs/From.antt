@@ -5,7 +5,7 @@ use borrow.Author.Tests.{eqb-false}
 use mir.Val.{bool_byte}
 use Rattle.words.specs.Scan.{first, count, nth}
 use Rattle.words.proofs.Scan.{first_at_lem, first_le, first_hit, first_miss, by_bool, by_le, count_more, count_stop}
-use Rattle.words.proofs.Nth.{nth-from, nth-below, nth-holds, nth-rank, count-mono}
+use Rattle.words.proofs.Nth.{nth_from, nth_below, nth_holds, nth_rank, count_mono}
 
 abbrev pub first_from : ℕ → ℕ → (ℕ → Bool) → ℕ
 first_from n from f = from + first (n - from) (λ k. f (from + k))
@@ -37,14 +37,14 @@ module _ (n from : ℕ) (f : ℕ → Bool) where
       first_at_lem _ _ _ (omega arith) (λ j l. h (from + j) (omega arith) (omega arith)) (λ l. rw back (t (omega arith))) in
       rw s back
 
-  pub from-ge : from ≤ first_from n from f
-  from-ge = omega arith
+  pub from_ge : from ≤ first_from n from f
+  from_ge = omega arith
 
-  pub from-hit : first_from n from f < n → f (first_from n from f) ≡ true
-  from-hit l = first_hit (n - from) (λ k. f (from + k)) (omega arith)
+  pub from_hit : first_from n from f < n → f (first_from n from f) ≡ true
+  from_hit l = first_hit (n - from) (λ k. f (from + k)) (omega arith)
 
-  pub from-miss : Failing f from (first_from n from f)
-  from-miss k l h =
+  pub from_miss : Failing f from (first_from n from f)
+  from_miss k l h =
       let back : from + (k - from) ≡ k = omega arith in
       subst (λ (x : ℕ). f x ≡ false) back (first_miss (n - from) (λ k. f (from + k)) (k - from) (omega arith))
 
@@ -62,9 +62,9 @@ module _ (f : ℕ → Bool) (i n : ℕ) (so_far : n ≡ count i f) where
   count_no h = rw (count_more, h, so_far)
 
   -- the same in a loop that adds the answer as a number
-  pub count-byte : (b : Bool) → b ≡ f i → n + bool_byte b ≡ count (i + 1) f
-  count-byte true q = count_yes (sym q)
-  count-byte false q = let h = count_no (sym q) in omega arith
+  pub count_byte : (b : Bool) → b ≡ f i → n + bool_byte b ≡ count (i + 1) f
+  count_byte true q = count_yes (sym q)
+  count_byte false q = let h = count_no (sym q) in omega arith
 
 pub byte_small : (b : Bool) → bool_byte b ≤ 1
 byte_small true = omega arith
@@ -72,18 +72,18 @@ byte_small false = omega arith
 
 module _ (n from : ℕ) (f : ℕ → Bool) where
   -- passing the one that is found passes one
-  pub from-passed : first_from n from f < n → count (suc (first_from n from f)) f ≡ suc (count from f)
+  pub from_passed : first_from n from f < n → count (suc (first_from n from f)) f ≡ suc (count from f)
   unfolding count
-  from-passed l =
-      rw (from-hit n from f l) (ap suc (count_stop (first_from n from f) from f (from-ge n from f) (from-miss n from f)))
+  from_passed l =
+      rw (from_hit n from f l) (ap suc (count_stop (first_from n from f) from f (from_ge n from f) (from_miss n from f)))
 
   -- while not all of them are passed, another is found
-  pub from-left : from ≤ n → count from f < count n f → first_from n from f < n
-  from-left l h =
+  pub from_left : from ≤ n → count from f < count n f → first_from n from f < n
+  from_left l h =
       by_bool (ltb (first_from n from f) n) (λ p. ltb-true (first_from n from f) n p)
       (λ p.
       let le : n ≤ first_from n from f = ltb-false (first_from n from f) n p in
-      let same = count_stop n from f l (λ k a b. from-miss n from f k a (omega arith)) in
+      let same = count_stop n from f l (λ k a b. from_miss n from f k a (omega arith)) in
       absurd (never same h))
     where
       never : {a b : ℕ} → a ≡ b → b < a → ⊥
@@ -93,22 +93,22 @@ module _ (n from : ℕ) (f : ℕ → Bool) where
 
 module _ (f : ℕ → Bool) (n at r : ℕ) (low : at ≤ n) (passed : count at f ≡ r) where
   -- the next is the r-th
-  pub next-nth : first_from n at f ≡ nth n f r
-  next-nth = sym (nth-from n f r at passed low)
+  pub next_nth : first_from n at f ≡ nth n f r
+  next_nth = sym (nth_from n f r at passed low)
 
   module _ (left : r < count n f) where
-    pub next-below : first_from n at f < n
-    next-below = rw next-nth (nth-below n f r left)
+    pub next_below : first_from n at f < n
+    next_below = rw next_nth (nth_below n f r left)
 
-    pub next-passed : count (first_from n at f + 1) f ≡ r + 1
-    next-passed = rw next-nth (count_more (nth n f r) f ∙ rw (nth-holds n f r left, nth-rank n f r left))
+    pub next_passed : count (first_from n at f + 1) f ≡ r + 1
+    next_passed = rw next_nth (count_more (nth n f r) f ∙ rw (nth_holds n f r left, nth_rank n f r left))
 
   -- there is one left exactly where one is found
-  pub next-left : first_from n at f < n → r < count n f
-  next-left h = omega (arith, from-passed n at f h, count-mono f (suc (first_from n at f)) n h)
+  pub next_left : first_from n at f < n → r < count n f
+  next_left h = omega (arith, from_passed n at f h, count_mono f (suc (first_from n at f)) n h)
 
-  pub next-none : n ≤ first_from n at f → count n f ≤ r
-  next-none h = by_le (count n f) r (λ l. l) (λ l. absurd (above (from-left n at f low (omega arith)) h))
+  pub next_none : n ≤ first_from n at f → count n f ≤ r
+  next_none h = by_le (count n f) r (λ l. l) (λ l. absurd (above (from_left n at f low (omega arith)) h))
     where
       above : {a b : ℕ} → a < b → b ≤ a → ⊥
       above p q = omega arith

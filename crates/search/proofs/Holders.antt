@@ -3,7 +3,7 @@ use Rattle.std.proofs.Common.{◌≡◌, ℕ, suc, ◌+◌, ◌-◌, ◌<◌, �
 use Rattle.words.specs.Scan.{first}
 use Rattle.words.proofs.Scan.{first_at_lem, first_hit, first_miss, by_bool, not_lt}
 use Rattle.table.specs.Entry.{live, find_in, holds_in}
-use Rattle.table.proofs.Entry.{holds-true, holds-false, holds-found}
+use Rattle.table.proofs.Entry.{holds_true, holds_false, holds_found}
 use Rattle.search.specs.Search.{steps_in, holder_in}
 use Rattle.search.specs.declared.Holder.TheVariants.{At, Nobody}
 
@@ -15,30 +15,30 @@ pub zero_one : ◌≡◌ {A = ℕ} 0 1 → ⊥
 zero_one z = omega arith
 
 module _ (e : ℕ) (t : List ℕ) (from c : ℕ) where
-  pub lacking-more : (d : ℕ) → from ≤ d → Lacking e t from c (d - from) → find_in e t d c ≡ e → Lacking e t from c (d + 1 - from)
-  lacking-more d l h q k s =
+  pub lacking_more : (d : ℕ) → from ≤ d → Lacking e t from c (d - from) → find_in e t d c ≡ e → Lacking e t from c (d + 1 - from)
+  lacking_more d l h q k s =
       by_bool (ltb k (d - from)) (λ p. h k (ltb-true _ _ p))
       (λ p.
       let at : from + k ≡ d = omega (arith, ltb-false k (d - from) p) in
-      rw at (holds-false e t d c (omega arith)))
+      rw at (holds_false e t d c (omega arith)))
 
   -- the code's two exits: past the innermost domain, and at a domain that holds the cell
-  pub holder-nobody : (d : ℕ) → from ≤ d → live t < d → Lacking e t from c (d - from) → holder_in e t from c ≡ Nobody
+  pub holder_nobody : (d : ℕ) → from ≤ d → live t < d → Lacking e t from c (d - from) → holder_in e t from c ≡ Nobody
   unfolding holder_in steps_in
-  holder-nobody d l s h =
+  holder_nobody d l s h =
       let n : first (suc (live t) - from) (λ k. holds_in e t (from + k) c) ≡ suc (live t) - from =
       first_at_lem _ _ _ (omega arith) (λ j k. h j (omega arith)) (λ k. absurd (not_lt _ _ k (omega arith))) in
       rw (le-ltb (first (suc (live t) - from) (λ k. holds_in e t (from + k) c)) (suc (live t) - from) (omega arith))
 
-  pub holder-none : ((d : ℕ) → find_in e t d c ≡ e) → holder_in e t from c ≡ Nobody
-  holder-none h = holder-nobody (from + suc (live t)) (omega arith) (omega arith) (λ k l. holds-false e t (from + k) c (omega (arith, h (from + k))))
+  pub holder_none : ((d : ℕ) → find_in e t d c ≡ e) → holder_in e t from c ≡ Nobody
+  holder_none h = holder_nobody (from + suc (live t)) (omega arith) (omega arith) (λ k l. holds_false e t (from + k) c (omega (arith, h (from + k))))
 
-  pub holder-at : (d i : ℕ) → from ≤ d → d ≤ live t → Lacking e t from c (d - from) → find_in e t d c ≡ i → i < e → holder_in e t from c ≡ At d i
+  pub holder_at : (d i : ℕ) → from ≤ d → d ≤ live t → Lacking e t from c (d - from) → find_in e t d c ≡ i → i < e → holder_in e t from c ≡ At d i
   unfolding holder_in steps_in
-  holder-at d i l s h q r =
+  holder_at d i l s h q r =
       let back : from + (d - from) ≡ d = omega arith in
       let n : first (suc (live t) - from) (λ k. holds_in e t (from + k) c) ≡ d - from =
-      first_at_lem _ _ _ (omega arith) h (λ _. rw back (holds-true e t d c (omega arith))) in
+      first_at_lem _ _ _ (omega arith) h (λ _. rw back (holds_true e t d c (omega arith))) in
       rw (n, lt-ltb (d - from) (suc (live t) - from) (omega arith), back, q)
 
   -- what an answer says
@@ -48,9 +48,9 @@ module _ (e : ℕ) (t : List ℕ) (from c : ℕ) where
     pub slot : i < e
     pub before : Lacking e t from c (d - from)
 
-  pub holder-facts : (d i : ℕ) → holder_in e t from c ≡ At d i → HolderFacts d i
+  pub holder_facts : (d i : ℕ) → holder_in e t from c ≡ At d i → HolderFacts d i
   unfolding holder_in steps_in
-  holder-facts d i h =
+  holder_facts d i h =
       let n = suc (live t) - from in
       let f : ℕ → Bool = λ k. holds_in e t (from + k) c in
       by_bool (ltb (first n f) n)
@@ -59,7 +59,7 @@ module _ (e : ℕ) (t : List ℕ) (from c : ℕ) where
       let qd : from + first n f ≡ d = cc in
       let qi : find_in e t (from + first n f) c ≡ i = cc in
       let lt = ltb-true (first n f) n p in
-      let hit = holds-found e t (from + first n f) c (first_hit n f lt) in
+      let hit = holds_found e t (from + first n f) c (first_hit n f lt) in
       record {
         live = omega arith;
         entry = subst (λ (x : ℕ). find_in e t x c ≡ i) qd qi;

@@ -25,32 +25,32 @@ near key w apart bare sum high low = (omega arith, omega arith)
 
 -- apart is the word's difference from the key, around 2 ^ 32
 module _ (key w apart : ℕ) (bare : Bare key) (known : key < 2 ^ 32) (small : apart < 2 ^ 32) (back : (apart + key) % 2 ^ 32 ≡ w) where
-  near-named : apart / 268_435_456 ≡ 0 → apart % 65_536 ≡ 0 → (depth_of w ≡ depth_of key) × (cell_of w ≡ cell_of key)
-  near-named high low = (omega arith, omega arith)
+  near_named : apart / 268_435_456 ≡ 0 → apart % 65_536 ≡ 0 → (depth_of w ≡ depth_of key) × (cell_of w ≡ cell_of key)
+  near_named high low = (omega arith, omega arith)
 
-  named-near : depth_of w ≡ depth_of key → cell_of w ≡ cell_of key → (apart / 268_435_456 ≡ 0) × (apart % 65_536 ≡ 0)
-  named-near high low = let sum = unwrapped key w apart (key_least key w bare high low) small back in near key w apart bare sum high low
+  named_near : depth_of w ≡ depth_of key → cell_of w ≡ cell_of key → (apart / 268_435_456 ≡ 0) × (apart % 65_536 ≡ 0)
+  named_near high low = let sum = unwrapped key w apart (key_least key w bare high low) small back in near key w apart bare sum high low
 
-  pub near-test : (eqb (apart / 268_435_456) 0 && eqb (apart % 65_536) 0) ≡ named_by key w
-  near-test =
+  pub near_test : (eqb (apart / 268_435_456) 0 && eqb (apart % 65_536) 0) ≡ named_by key w
+  near_test =
       by_bool (named_by key w)
       (λ y.
       let n = and_split (eqb (depth_of w) (depth_of key)) (eqb (cell_of w) (cell_of key)) y in
-      let f = named-near (eqb-true _ _ n.0) (eqb-true _ _ n.1) in
+      let f = named_near (eqb-true _ _ n.0) (eqb-true _ _ n.1) in
       and_join _ _ (eq-eqb _ _ f.0) (eq-eqb _ _ f.1) ∙ sym y)
       (λ y.
       is_false (eqb (apart / 268_435_456) 0 && eqb (apart % 65_536) 0)
       (λ p.
       let n = and_split (eqb (apart / 268_435_456) 0) (eqb (apart % 65_536) 0) p in
-      let f = near-named (eqb-true _ _ n.0) (eqb-true _ _ n.1) in
+      let f = near_named (eqb-true _ _ n.0) (eqb-true _ _ n.1) in
       true≢ (and_join _ _ (eq-eqb _ _ f.0) (eq-eqb _ _ f.1)) y)
       ∙ sym y)
 
 -- ---- entries that are passed over
 
 module _ (f : ℕ → Bool) (i : ℕ) where
-  four-failing : f i ≡ false → f (i + 1) ≡ false → f (i + 2) ≡ false → f (i + 3) ≡ false → Failing f i (i + 4)
-  four-failing p q r s k l h =
+  four_failing : f i ≡ false → f (i + 1) ≡ false → f (i + 2) ≡ false → f (i + 3) ≡ false → Failing f i (i + 4)
+  four_failing p q r s k l h =
       by_bool (eqb k i) (λ z. ap f (eqb-true k i z) ∙ p) (λ z.
       by_bool (eqb k (i + 1)) (λ y. ap f (eqb-true k (i + 1) y) ∙ q) (λ y.
       by_bool (eqb k (i + 2)) (λ x. ap f (eqb-true k (i + 2) x) ∙ r) (λ x.
@@ -62,11 +62,11 @@ module _ (f : ℕ → Bool) (i : ℕ) where
       let two = or_split (a || b) (c || d) h in
       let x = or_split a b two.0 in
       let y = or_split c d two.1 in
-      four-failing (sym p ∙ x.0) (sym q ∙ x.1) (sym r ∙ y.0) (sym s ∙ y.1)
+      four_failing (sym p ∙ x.0) (sym q ∙ x.1) (sym r ∙ y.0) (sym s ∙ y.1)
 
-  pub none-of-eight : (from : ℕ) (a b : Bool) → Failing f from i → (a ≡ false → Failing f i (i + 4)) → (b ≡ false → Failing f (i + 4) (i + 4 + 4)) → (a || b) ≡ false
+  pub none_of_eight : (from : ℕ) (a b : Bool) → Failing f from i → (a ≡ false → Failing f i (i + 4)) → (b ≡ false → Failing f (i + 4) (i + 4 + 4)) → (a || b) ≡ false
       → Failing f from (i + 8)
-  none-of-eight from a b h p q z =
+  none_of_eight from a b h p q z =
       let two = or_split a b z in
       failing_join f from i (i + 8) h (failing_join f i (i + 4) (i + 8) (p two.0) (λ k l s. q two.1 k l (omega arith)))
 
@@ -75,30 +75,30 @@ module _ (e : ℕ) (t : List ℕ) (d c key : ℕ) (is : IsKey d c key) where
   same_names : (w : ℕ) → named_by key w ≡ names d c w
   same_names w = rw (is.depth, is.cell)
 
-  pub found-by-key : (i : ℕ) → i ≤ e → Unnamed e t key 0 i → (i < e → named_by key (word1 e t i) ≡ true) → find_in e t d c ≡ i
-  found-by-key i l h s =
+  pub found_by_key : (i : ℕ) → i ≤ e → Unnamed e t key 0 i → (i < e → named_by key (word1 e t i) ≡ true) → find_in e t d c ≡ i
+  found_by_key i l h s =
       find_at e t d c i l (λ j k. sym (same_names (word1 e t j)) ∙ h j (omega arith) k) (λ k. sym (same_names (word1 e t i)) ∙ s k)
 
 -- ---- no word has a depth or a cell so large
 module _ (e : ℕ) (t : List ℕ) (d c : ℕ) where
-  pub none-wide : max_cells ≤ c → find_in e t d c ≡ e
-  none-wide l = find_none e t d c (λ j _ _ q. too_wide (word1 e t j) q)
+  pub none_wide : max_cells ≤ c → find_in e t d c ≡ e
+  none_wide l = find_none e t d c (λ j _ _ q. too_wide (word1 e t j) q)
     where
       too_wide : (w : ℕ) → cell_of w ≡ c → ⊥
       too_wide w q = omega arith
 
   none_deep : ((k : ℕ) → get_or t k 0 < 2 ^ 32) → 16 ≤ d → find_in e t d c ≡ e
-  none_deep words l = find_none e t d c (λ j _ q _. too-deep (word1 e t j) (words _) q)
+  none_deep words l = find_none e t d c (λ j _ q _. too_deep (word1 e t j) (words _) q)
     where
-      too-deep : (w : ℕ) → w < 2 ^ 32 → depth_of w ≡ d → ⊥
-      too-deep w s q = omega arith
+      too_deep : (w : ℕ) → w < 2 ^ 32 → depth_of w ≡ d → ⊥
+      too_deep w s q = omega arith
 
   -- the code's test
-  pub none-beyond : ((k : ℕ) → get_or t k 0 < 2 ^ 32) → (leb 16 d || leb max_cells c) ≡ true → find_in e t d c ≡ e
-  none-beyond words h =
+  pub none_beyond : ((k : ℕ) → get_or t k 0 < 2 ^ 32) → (leb 16 d || leb max_cells c) ≡ true → find_in e t d c ≡ e
+  none_beyond words h =
       by_bool (leb 16 d)
       (λ p. none_deep words (leb-true 16 d p))
-      (λ p. none-wide (leb-true max_cells c (rw p at h)))
+      (λ p. none_wide (leb-true max_cells c (rw p at h)))
 
 pub within : (d c : ℕ) → (leb 16 d || leb max_cells c) ≡ false → (d < 16) × (c < max_cells)
 within d c h = let s = or_split (leb 16 d) (leb max_cells c) h in (leb-false 16 d s.0, leb-false max_cells c s.1)

@@ -12,13 +12,13 @@ use Rattle.words.proofs.Scan.{by_bool, by_le}
 use Rattle.model.specs.Answer.{steps_of}
 use Rattle.model.specs.Calls.{make_steps, open_steps}
 use Rattle.store.specs.Checks.{open_check, lent}
-use Rattle.store.proofs.Checks.{open-table, table-pairs}
-use Rattle.table.proofs.Pairs.{pairs-few}
+use Rattle.store.proofs.Checks.{open_table, table_pairs}
+use Rattle.table.proofs.Pairs.{pairs_few}
 
 -- "Open needs at most 2E + 11 steps"
 pub open_bound : (memory bodies : ℕ) (t : List ℕ) → open_check (lent memory bodies t) ≡ 0 → open_steps (pending t) ≤ 2 * slots_of (length t) + 11
 open_bound memory bodies t h =
-    let few = pairs-few (slots_of (length t)) t (table-pairs memory bodies t (open-table memory bodies t h)) in
+    let few = pairs_few (slots_of (length t)) t (table_pairs memory bodies t (open_table memory bodies t h)) in
     by_le (pending t) 0
     (λ l. let z : pending t ≡ 0 = omega arith in rw (eq-eqb (pending t) 0 z) (omega arith))
     (λ l. rw (ne_eqb (pending t) 0 (λ z. omega arith)) (omega arith))

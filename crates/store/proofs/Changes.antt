@@ -17,15 +17,15 @@ use Rattle.words.specs.Stores.{Store, store, stores, gather}
 use Rattle.words.specs.Journal.{pending, names_ok, effective, journal}
 use Rattle.words.specs.Cells.{cell_bytes}
 use Rattle.words.proofs.Scan.{by_le}
-use Rattle.words.proofs.Plans.{Each, each_take, length_stores, stores_none, each_map, run-take-append, take_map}
+use Rattle.words.proofs.Plans.{Each, each_take, length_stores, stores_none, each_map, run_take_append, take_map}
 use Rattle.words.proofs.Cells.{Outside, cell_kept}
-use Rattle.words.proofs.Copies.{copy_of, copies-outside}
+use Rattle.words.proofs.Copies.{copy_of, copies_outside}
 use Rattle.words.proofs.Pairs.{length_journal, journal_some, journal_none}
 use Rattle.words.proofs.Journal as law
 use Rattle.table.specs.Entry.{word2}
 use Rattle.table.proofs.Rule.{Rule}
 use Rattle.search.specs.Free.{body_free}
-use Rattle.search.proofs.Free.{body-unused}
+use Rattle.search.proofs.Free.{body_unused}
 use Rattle.search.proofs.Value.{Copy}
 use Rattle.model.specs.State.{State}
 use Rattle.model.specs.Answer.{Report, ended, steps_of}
@@ -33,11 +33,11 @@ use Rattle.model.specs.Calls.{viewed, change}
 use Rattle.store.specs.Outcome.{buffers, in_bodies, in_table, step, steps, outcome, leaves, perform, change_plan}
 use Rattle.store.specs.Checks.{shape_check, open_check, store_check, lent}
 use Rattle.store.specs.State.{state_in, state_of, standing}
-use Rattle.store.proofs.Checks.{store-shape, store-idle, store-opens}
+use Rattle.store.proofs.Checks.{store_shape, store_idle, store_opens}
 use Rattle.store.proofs.Outcome.{steps_in_table}
-use Rattle.store.proofs.State.{state-kept}
-use Rattle.store.proofs.Cuts.{stands_open, cut, cut-effective, cut-opens}
-use Rattle.store.proofs.Means.{visible_of, store-effective, store_rule, store-state, t-long}
+use Rattle.store.proofs.State.{state_kept}
+use Rattle.store.proofs.Cuts.{stands_open, cut, cut_effective, cut_opens}
+use Rattle.store.proofs.Means.{visible_of, store_effective, store_rule, store_state, t_long}
 use Rattle.table.proofs.Marks.{owns_make}
 use Rattle.store.proofs.Raw.{front_copy, front_second}
 
@@ -62,7 +62,7 @@ change_length first bytes ws =
 pub change_steps : (first k : ℕ) (bytes ws : List Store) (m b t : List ℕ)
     → steps (take k (change_plan first bytes ws)) (buffers m b t) ≡ buffers m (stores (take k bytes) b) (stores (take (k - length bytes) (journal first ws)) t)
 change_steps first k bytes ws m b t =
-    run-take-append step k (map in_bodies bytes) (map in_table (journal first ws)) (buffers m b t)
+    run_take_append step k (map in_bodies bytes) (map in_table (journal first ws)) (buffers m b t)
     ∙ rw (length-map, take_map in_bodies, take_map in_table, steps_in_bodies (take k bytes) m b t, steps_in_table (take (k - length bytes) (journal first ws)) m _ t)
 
 -- from what a call's code did to its outcome
@@ -110,7 +110,7 @@ pub copies_spare : (e : ℕ) (t memory : List ℕ) (wants : ℕ → Bool) (from 
     → Each (Spares e t) (gather n (copy_of memory wants from to))
 copies_spare e t memory wants from to n free =
     each_spares e t (gather n (copy_of memory wants from to)) (λ i c.
-    copies-outside memory wants from to n (word2 e t i) (λ j l w q. body-unused e t (to j) (free j l w) i c.slot (owns_make _ c.used c.copy c.plain) q))
+    copies_outside memory wants from to n (word2 e t i) (λ j l w q. body_unused e t (to j) (free j l w) i c.slot (owns_make _ c.used c.copy c.plain) q))
 
 -- ---- the call at every budget
 
@@ -128,7 +128,7 @@ module _ (memory bodies t : List ℕ) (yes : store_check (lent (length memory) (
   head = take (pairs_at (slots_of (length t))) t
 
   idle : pending t ≡ 0
-  idle = store-idle (length memory) (length bodies) t yes
+  idle = store_idle (length memory) (length bodies) t yes
 
   right : Rule (cells_of (length memory)) (slots_of (length t)) (bodies_of (length bodies)) head
   right = store_rule memory bodies t yes
@@ -142,11 +142,11 @@ module _ (memory bodies t : List ℕ) (yes : store_check (lent (length memory) (
   worded j = stores (take j (journal (pairs_at (slots_of (length t))) ws)) t
 
   -- bytes in free bodies do not matter to the old table
-  pub old-state : (k : ℕ) → state_in (slots_of (length t)) (take (pairs_at (slots_of (length t))) t) (filled k) ≡ state_of (buffers memory bodies t)
-  old-state k =
-      state-kept (cells_of (length memory)) e (bodies_of (length bodies)) head head bodies (filled k) right (λ i l. refl) (λ i c. refl)
+  pub old_state : (k : ℕ) → state_in (slots_of (length t)) (take (pairs_at (slots_of (length t))) t) (filled k) ≡ state_of (buffers memory bodies t)
+  old_state k =
+      state_kept (cells_of (length memory)) e (bodies_of (length bodies)) head head bodies (filled k) right (λ i l. refl) (λ i c. refl)
       (spared e head (take k bytes) bodies (each_take (Spares e head) k bytes spare)) refl refl (λ k l. refl)
-      ∙ sym (store-state memory bodies t yes)
+      ∙ sym (store_state memory bodies t yes)
 
   same_bytes : (k : ℕ) → length (filled k) ≡ length bodies
   same_bytes k = length_stores (take k bytes) bodies
@@ -154,42 +154,42 @@ module _ (memory bodies t : List ℕ) (yes : store_check (lent (length memory) (
   -- at every cut the table can be opened, and its effective table is the old one or the new one
   module _ (some-change : 0 < length ws) where
     shape : shape_check (lent (length memory) (length bodies) t) ≡ 0
-    shape = store-shape (length memory) (length bodies) t yes
+    shape = store_shape (length memory) (length bodies) t yes
 
-    cut-is : (j : ℕ) → worded j ≡ cut (length memory) (length bodies) t ws shape (t-long memory bodies t yes) idle some-change few names right next j
-    cut-is j = rw (← journal_some first ws some-change)
+    cut_is : (j : ℕ) → worded j ≡ cut (length memory) (length bodies) t ws shape (t_long memory bodies t yes) idle some-change few names right next j
+    cut_is j = rw (← journal_some first ws some-change)
 
-    pub worded-opens : (j : ℕ) → open_check (lent (length memory) (length bodies) (worded j)) ≡ 0
-    worded-opens j = rw (cut-is j) (cut-opens (length memory) (length bodies) t ws shape (t-long memory bodies t yes) idle some-change few names right next j)
+    pub worded_opens : (j : ℕ) → open_check (lent (length memory) (length bodies) (worded j)) ≡ 0
+    worded_opens j = rw (cut_is j) (cut_opens (length memory) (length bodies) t ws shape (t_long memory bodies t yes) idle some-change few names right next j)
 
-    pub worded-effective : (j : ℕ) → effective (pairs_at (slots_of (length t))) (worded j) ≡ cond (ltb (2 * length ws) j) (stores ws (take (pairs_at (slots_of (length t))) t)) (take (pairs_at (slots_of (length t))) t)
-    worded-effective j = rw (cut-is j) (cut-effective (length memory) (length bodies) t ws shape (t-long memory bodies t yes) idle some-change few names right next j)
+    pub worded_effective : (j : ℕ) → effective (pairs_at (slots_of (length t))) (worded j) ≡ cond (ltb (2 * length ws) j) (stores ws (take (pairs_at (slots_of (length t))) t)) (take (pairs_at (slots_of (length t))) t)
+    worded_effective j = rw (cut_is j) (cut_effective (length memory) (length bodies) t ws shape (t_long memory bodies t yes) idle some-change few names right next j)
 
-  worded-length : (j : ℕ) → length (worded j) ≡ length t
-  worded-length j = length_stores (take j (journal first ws)) t
+  worded_length : (j : ℕ) → length (worded j) ≡ length t
+  worded_length j = length_stores (take j (journal first ws)) t
 
-  stands-some : (k j : ℕ) → 0 < length ws → standing (buffers memory (filled k) (worded j))
+  stands_some : (k j : ℕ) → 0 < length ws → standing (buffers memory (filled k) (worded j))
       ≡ some (state_in (slots_of (length t)) (cond (ltb (2 * length ws) j) (stores ws (take (pairs_at (slots_of (length t))) t)) (take (pairs_at (slots_of (length t))) t)) (filled k))
-  stands-some k j pos =
-      stands_open memory (filled k) (worded j) (rw (same_bytes k) (worded-opens pos j))
-      ∙ rw (worded-length j, worded-effective pos j)
+  stands_some k j pos =
+      stands_open memory (filled k) (worded j) (rw (same_bytes k) (worded_opens pos j))
+      ∙ rw (worded_length j, worded_effective pos j)
 
-  stands-none : (k j : ℕ) → length ws ≡ 0 → standing (buffers memory (filled k) (worded j)) ≡ some (state_in (slots_of (length t)) (take (pairs_at (slots_of (length t))) t) (filled k))
-  stands-none k j z =
+  stands_none : (k j : ℕ) → length ws ≡ 0 → standing (buffers memory (filled k) (worded j)) ≡ some (state_in (slots_of (length t)) (take (pairs_at (slots_of (length t))) t) (filled k))
+  stands_none k j z =
       let same : worded j ≡ t = rw (journal_none first ws z) (sym (stores_none j t)) in
-      let opens : open_check (lent (length memory) (length (filled k)) t) ≡ 0 = rw (same_bytes k) (store-opens (length memory) (length bodies) t yes) in
-      rw same (stands_open memory (filled k) t opens ∙ rw (store-effective memory bodies t yes))
+      let opens : open_check (lent (length memory) (length (filled k)) t) ≡ 0 = rw (same_bytes k) (store_opens (length memory) (length bodies) t yes) in
+      rw same (stands_open memory (filled k) t opens ∙ rw (store_effective memory bodies t yes))
 
   module _ (h : ℕ) (after : State) (becomes : state_in (slots_of (length t)) (stores ws (take (pairs_at (slots_of (length t))) t)) (stores bytes bodies) ≡ after) where
-    pub change-standing : (k : ℕ) → standing (buffers memory (filled k) (worded (k - length bytes)))
+    pub change_standing : (k : ℕ) → standing (buffers memory (filled k) (worded (k - length bytes)))
         ≡ some (cond (ltb (length bytes + 2 * length ws) k) after (state_of (buffers memory bodies t)))
-    change-standing k =
+    change_standing k =
         by_le k (length bytes + 2 * length ws)
         (λ l.
         rw (le-ltb (length bytes + 2 * length ws) k l)
         (by_le (length ws) 0
-        (λ z. stands-none k (k - length bytes) (omega arith) ∙ ap some (old-state k))
-        (λ pos. stands-some k (k - length bytes) pos ∙ rw (le-ltb (2 * length ws) (k - length bytes) (omega arith)) (ap some (old-state k)))))
+        (λ z. stands_none k (k - length bytes) (omega arith) ∙ ap some (old_state k))
+        (λ pos. stands_some k (k - length bytes) pos ∙ rw (le-ltb (2 * length ws) (k - length bytes) (omega arith)) (ap some (old_state k)))))
         (λ l.
         let full : filled k ≡ stores bytes bodies = rw (take_all k bytes (omega arith)) in
         rw (lt-ltb (length bytes + 2 * length ws) k l)
@@ -197,9 +197,9 @@ module _ (memory bodies t : List ℕ) (yes : store_check (lent (length memory) (
         (λ z.
         let nil : ws ≡ [] = empty ws (omega arith) in
         let same : state_in e (stores ws head) (stores bytes bodies) ≡ state_in e head (filled k) = rw (nil, full) in
-        stands-none k (k - length bytes) (omega arith) ∙ ap some (sym same ∙ becomes))
+        stands_none k (k - length bytes) (omega arith) ∙ ap some (sym same ∙ becomes))
         (λ pos.
-        stands-some k (k - length bytes) pos
+        stands_some k (k - length bytes) pos
         ∙ rw (lt-ltb (2 * length ws) (k - length bytes) (omega arith), full) (ap some becomes))))
       where
         empty : (xs : List Store) → length xs ≡ 0 → xs ≡ []
@@ -207,7 +207,7 @@ module _ (memory bodies t : List ℕ) (yes : store_check (lent (length memory) (
         empty (x ∷ xs) z = absurd (omega arith)
 
     -- what is to be seen of the call at budget k is what its effect says
-    pub change-seen : (k : ℕ) → visible_of (outcome (perform (change_plan (pairs_at (slots_of (length t))) bytes ws) h) k (buffers memory bodies t))
+    pub change_seen : (k : ℕ) → visible_of (outcome (perform (change_plan (pairs_at (slots_of (length t))) bytes ws) h) k (buffers memory bodies t))
         ≡ viewed (change (length bytes) (length ws) h after) k (state_of (buffers memory bodies t)) memory
     unfolding outcome
-    change-seen k = rw (change_steps first k bytes ws memory bodies t, change_length first bytes ws, change-standing k)
+    change_seen k = rw (change_steps first k bytes ws memory bodies t, change_length first bytes ws, change_standing k)

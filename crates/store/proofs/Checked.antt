@@ -5,16 +5,16 @@ use mathlib.Core.Path.{◌≡◌}
 use lib.ListN.{length}
 use Rattle.words.specs.Layout.{cells_of, bodies_of, slots_of}
 use Rattle.table.specs.Marks.{CellsOnce, EndsAt, Reached}
-use Rattle.table.proofs.Parts.{rule-once}
+use Rattle.table.proofs.Parts.{rule_once}
 use Rattle.store.specs.Checks.{store_check, lent}
-use Rattle.store.proofs.Checks.{store-lengths}
+use Rattle.store.proofs.Checks.{store_lengths}
 use Rattle.store.proofs.Raw.{check_rule}
 
 module _ (memory bodies : ℕ) (t : List ℕ) (yes : store_check (lent memory bodies t) ≡ 0) where
   -- no depth has a cell twice
-  pub checked-once : CellsOnce (slots_of (length t)) t (slots_of (length t))
-  checked-once = rule-once (cells_of memory) (slots_of (length t)) (bodies_of bodies) t (check_rule memory bodies t yes)
+  pub checked_once : CellsOnce (slots_of (length t)) t (slots_of (length t))
+  checked_once = rule_once (cells_of memory) (slots_of (length t)) (bodies_of bodies) t (check_rule memory bodies t yes)
 
   -- the entries end where the call was told
-  pub checked-ends : (top : ℕ) → Reached t top → EndsAt (slots_of (length t)) t top
-  checked-ends top reached = let f = store-lengths memory bodies t yes in (reached f.slots_low f.slots_high).0
+  pub checked_ends : (top : ℕ) → Reached t top → EndsAt (slots_of (length t)) t top
+  checked_ends top reached = let f = store_lengths memory bodies t yes in (reached f.slots_low f.slots_high).0

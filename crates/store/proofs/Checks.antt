@@ -14,8 +14,8 @@ use Rattle.words.proofs.Scan.{and_split}
 use Rattle.table.specs.Entry.{live, next_handle}
 use Rattle.table.specs.Checks.{lengths_ok, header_ok}
 use Rattle.table.specs.Rule.{pairs_ok, table_ok}
-use Rattle.table.proofs.Rule.{Rule, ok-facts, ok-make}
-use Rattle.table.proofs.Checks.{Lengths, lengths-facts}
+use Rattle.table.proofs.Rule.{Rule, ok_facts, ok_make}
+use Rattle.table.proofs.Checks.{Lengths, lengths_facts}
 use Rattle.model.specs.Answer.{ask, or_else}
 use Rattle.model.proofs.Asking.{or_else_ask}
 use Rattle.store.specs.Checks.{shape_check, table_check, open_check, idle_check, store_check, create_check, lent}
@@ -25,97 +25,97 @@ pub use Rattle.model.proofs.Asking.{ask_yes, ask_go, ask_stop, ask_rest, or_else
 -- ---- what passed questions tell
 
 module _ (memory bodies : ℕ) (t : List ℕ) where
-  pub shape-lengths : shape_check (lent memory bodies t) ≡ 0 → lengths_ok memory bodies (length t) ≡ true
+  pub shape_lengths : shape_check (lent memory bodies t) ≡ 0 → lengths_ok memory bodies (length t) ≡ true
   unfolding shape_check
-  shape-lengths e = ask_yes (lengths_ok memory bodies (length t)) 1 (ask (header_ok memory bodies t) 2 0) (omega arith) e
+  shape_lengths e = ask_yes (lengths_ok memory bodies (length t)) 1 (ask (header_ok memory bodies t) 2 0) (omega arith) e
 
-  pub shape-facts : shape_check (lent memory bodies t) ≡ 0 → Lengths memory bodies (length t)
-  shape-facts e = lengths-facts memory bodies (length t) (shape-lengths e)
+  pub shape_facts : shape_check (lent memory bodies t) ≡ 0 → Lengths memory bodies (length t)
+  shape_facts e = lengths_facts memory bodies (length t) (shape_lengths e)
 
-  pub shape-make : lengths_ok memory bodies (length t) ≡ true → header_ok memory bodies t ≡ true → shape_check (lent memory bodies t) ≡ 0
+  pub shape_make : lengths_ok memory bodies (length t) ≡ true → header_ok memory bodies t ≡ true → shape_check (lent memory bodies t) ≡ 0
   unfolding shape_check
-  shape-make p q = rw (p, q)
+  shape_make p q = rw (p, q)
 
   -- questions 1 to 3 and then question 4
-  pub store-parts : store_check (lent memory bodies t) ≡ or_else (idle_check (lent memory bodies t)) (table_check (lent memory bodies t))
+  pub store_parts : store_check (lent memory bodies t) ≡ or_else (idle_check (lent memory bodies t)) (table_check (lent memory bodies t))
   unfolding store_check idle_check
-  store-parts = or_else_ask (shape_check (lent memory bodies t)) (eqb (pending t) 0) 3 (table_check (lent memory bodies t)) (omega arith)
+  store_parts = or_else_ask (shape_check (lent memory bodies t)) (eqb (pending t) 0) 3 (table_check (lent memory bodies t)) (omega arith)
 
-  pub idle-facts : idle_check (lent memory bodies t) ≡ 0 → (shape_check (lent memory bodies t) ≡ 0) × (pending t ≡ 0)
+  pub idle_facts : idle_check (lent memory bodies t) ≡ 0 → (shape_check (lent memory bodies t) ≡ 0) × (pending t ≡ 0)
   unfolding idle_check
-  idle-facts e =
+  idle_facts e =
       let both = or_else_both (shape_check (lent memory bodies t)) (ask (eqb (pending t) 0) 3 0) e in
       (both.0, eqb-true (pending t) 0 (ask_yes (eqb (pending t) 0) 3 0 (omega arith) both.1))
 
-  pub table-yes : table_check (lent memory bodies t) ≡ 0 → table_ok (cells_of memory) (slots_of (length t)) (bodies_of bodies) t ≡ true
+  pub table_yes : table_check (lent memory bodies t) ≡ 0 → table_ok (cells_of memory) (slots_of (length t)) (bodies_of bodies) t ≡ true
   unfolding table_check
-  table-yes e = ask_yes (table_ok (cells_of memory) (slots_of (length t)) (bodies_of bodies) t) 4 0 (omega arith) e
+  table_yes e = ask_yes (table_ok (cells_of memory) (slots_of (length t)) (bodies_of bodies) t) 4 0 (omega arith) e
 
   -- the two parts of question 4
-  pub table-pairs : table_check (lent memory bodies t) ≡ 0 → pairs_ok (slots_of (length t)) t ≡ true
+  pub table_pairs : table_check (lent memory bodies t) ≡ 0 → pairs_ok (slots_of (length t)) t ≡ true
   unfolding table_ok
-  table-pairs e = (and_split (pairs_ok (slots_of (length t)) t) _ (table-yes e)).0
+  table_pairs e = (and_split (pairs_ok (slots_of (length t)) t) _ (table_yes e)).0
 
-  pub table-rule : table_check (lent memory bodies t) ≡ 0 → Rule (cells_of memory) (slots_of (length t)) (bodies_of bodies) (effective (pairs_at (slots_of (length t))) t)
+  pub table_rule : table_check (lent memory bodies t) ≡ 0 → Rule (cells_of memory) (slots_of (length t)) (bodies_of bodies) (effective (pairs_at (slots_of (length t))) t)
   unfolding table_ok
-  table-rule e = ok-facts _ _ _ _ (and_split (pairs_ok (slots_of (length t)) t) _ (table-yes e)).1
+  table_rule e = ok_facts _ _ _ _ (and_split (pairs_ok (slots_of (length t)) t) _ (table_yes e)).1
 
-  pub table-make : pairs_ok (slots_of (length t)) t ≡ true → Rule (cells_of memory) (slots_of (length t)) (bodies_of bodies) (effective (pairs_at (slots_of (length t))) t)
+  pub table_make : pairs_ok (slots_of (length t)) t ≡ true → Rule (cells_of memory) (slots_of (length t)) (bodies_of bodies) (effective (pairs_at (slots_of (length t))) t)
       → table_check (lent memory bodies t) ≡ 0
   unfolding table_check table_ok
-  table-make p r = rw (p, ok-make _ _ _ _ r)
+  table_make p r = rw (p, ok_make _ _ _ _ r)
 
-  pub open-shape : open_check (lent memory bodies t) ≡ 0 → shape_check (lent memory bodies t) ≡ 0
+  pub open_shape : open_check (lent memory bodies t) ≡ 0 → shape_check (lent memory bodies t) ≡ 0
   unfolding open_check
-  open-shape e = (or_else_both (shape_check (lent memory bodies t)) (table_check (lent memory bodies t)) e).0
+  open_shape e = (or_else_both (shape_check (lent memory bodies t)) (table_check (lent memory bodies t)) e).0
 
-  pub open-table : open_check (lent memory bodies t) ≡ 0 → table_check (lent memory bodies t) ≡ 0
+  pub open_table : open_check (lent memory bodies t) ≡ 0 → table_check (lent memory bodies t) ≡ 0
   unfolding open_check
-  open-table e = (or_else_both (shape_check (lent memory bodies t)) (table_check (lent memory bodies t)) e).1
+  open_table e = (or_else_both (shape_check (lent memory bodies t)) (table_check (lent memory bodies t)) e).1
 
-  pub open-make : shape_check (lent memory bodies t) ≡ 0 → table_check (lent memory bodies t) ≡ 0 → open_check (lent memory bodies t) ≡ 0
+  pub open_make : shape_check (lent memory bodies t) ≡ 0 → table_check (lent memory bodies t) ≡ 0 → open_check (lent memory bodies t) ≡ 0
   unfolding open_check
-  open-make p q = rw (p, q)
+  open_make p q = rw (p, q)
 
   -- a table that passes questions 1 to 4
-  pub store-shape : store_check (lent memory bodies t) ≡ 0 → shape_check (lent memory bodies t) ≡ 0
+  pub store_shape : store_check (lent memory bodies t) ≡ 0 → shape_check (lent memory bodies t) ≡ 0
   unfolding store_check
-  store-shape e = (or_else_both (shape_check (lent memory bodies t)) (ask (eqb (pending t) 0) 3 (table_check (lent memory bodies t))) e).0
+  store_shape e = (or_else_both (shape_check (lent memory bodies t)) (ask (eqb (pending t) 0) 3 (table_check (lent memory bodies t))) e).0
 
-  pub store-lengths : store_check (lent memory bodies t) ≡ 0 → Lengths memory bodies (length t)
-  store-lengths e = shape-facts (store-shape e)
+  pub store_lengths : store_check (lent memory bodies t) ≡ 0 → Lengths memory bodies (length t)
+  store_lengths e = shape_facts (store_shape e)
 
-  pub store-idle : store_check (lent memory bodies t) ≡ 0 → pending t ≡ 0
+  pub store_idle : store_check (lent memory bodies t) ≡ 0 → pending t ≡ 0
   unfolding store_check
-  store-idle e =
+  store_idle e =
       eqb-true (pending t) 0
       (ask_yes (eqb (pending t) 0) 3 (table_check (lent memory bodies t)) (omega arith)
       (or_else_both (shape_check (lent memory bodies t)) (ask (eqb (pending t) 0) 3 (table_check (lent memory bodies t))) e).1)
 
-  pub store-table : store_check (lent memory bodies t) ≡ 0 → table_check (lent memory bodies t) ≡ 0
+  pub store_table : store_check (lent memory bodies t) ≡ 0 → table_check (lent memory bodies t) ≡ 0
   unfolding store_check
-  store-table e =
+  store_table e =
       ask_rest (eqb (pending t) 0) 3 (table_check (lent memory bodies t)) (omega arith)
       (or_else_both (shape_check (lent memory bodies t)) (ask (eqb (pending t) 0) 3 (table_check (lent memory bodies t))) e).1
 
-  pub store-opens : store_check (lent memory bodies t) ≡ 0 → open_check (lent memory bodies t) ≡ 0
-  store-opens e = open-make (store-shape e) (store-table e)
+  pub store_opens : store_check (lent memory bodies t) ≡ 0 → open_check (lent memory bodies t) ≡ 0
+  store_opens e = open_make (store_shape e) (store_table e)
 
-  pub create-store : create_check (lent memory bodies t) ≡ 0 → store_check (lent memory bodies t) ≡ 0
+  pub create_store : create_check (lent memory bodies t) ≡ 0 → store_check (lent memory bodies t) ≡ 0
   unfolding create_check
-  create-store e = (or_else_both (store_check (lent memory bodies t)) _ e).0
+  create_store e = (or_else_both (store_check (lent memory bodies t)) _ e).0
 
-  create-rest : create_check (lent memory bodies t) ≡ 0 → ask (ltb (live t) max_live) 9 (ask (ltb (next_handle t) 4_294_967_295) 10 0) ≡ 0
+  create_rest : create_check (lent memory bodies t) ≡ 0 → ask (ltb (live t) max_live) 9 (ask (ltb (next_handle t) 4_294_967_295) 10 0) ≡ 0
   unfolding create_check
-  create-rest e = (or_else_both (store_check (lent memory bodies t)) (ask (ltb (live t) max_live) 9 (ask (ltb (next_handle t) 4_294_967_295) 10 0)) e).1
+  create_rest e = (or_else_both (store_check (lent memory bodies t)) (ask (ltb (live t) max_live) 9 (ask (ltb (next_handle t) 4_294_967_295) 10 0)) e).1
 
-  pub create-live : create_check (lent memory bodies t) ≡ 0 → live t < max_live
-  create-live e = ltb-true _ _ (ask_yes (ltb (live t) max_live) 9 (ask (ltb (next_handle t) 4_294_967_295) 10 0) (omega arith) (create-rest e))
+  pub create_live : create_check (lent memory bodies t) ≡ 0 → live t < max_live
+  create_live e = ltb-true _ _ (ask_yes (ltb (live t) max_live) 9 (ask (ltb (next_handle t) 4_294_967_295) 10 0) (omega arith) (create_rest e))
 
-  pub create-next : create_check (lent memory bodies t) ≡ 0 → next_handle t < 4_294_967_295
-  create-next e =
+  pub create_next : create_check (lent memory bodies t) ≡ 0 → next_handle t < 4_294_967_295
+  create_next e =
       ltb-true _ _ (ask_yes (ltb (next_handle t) 4_294_967_295) 10 0 (omega arith)
-      (ask_rest (ltb (live t) max_live) 9 (ask (ltb (next_handle t) 4_294_967_295) 10 0) (omega arith) (create-rest e)))
+      (ask_rest (ltb (live t) max_live) 9 (ask (ltb (next_handle t) 4_294_967_295) 10 0) (omega arith) (create_rest e)))
 
 -- ---- questions 1 and 2 read the length and words 0 to 3 and 7
 

@@ -14,13 +14,13 @@ use Rattle.words.specs.Layout.{live_at, next_at, handle_at, pairs_at, max_live, 
 use Rattle.words.specs.Stores.{stores, tab}
 use Rattle.words.specs.Journal.{names_ok, name_ok}
 use Rattle.words.proofs.Scan.{by_bool}
-use Rattle.words.proofs.Plans.{tab_below, tab-last}
+use Rattle.words.proofs.Plans.{tab_below, tab_last}
 use Rattle.words.proofs.Names.{name_live, name_next, name_from}
 use Rattle.table.specs.Entry.{live, next_handle, handle, word1, word2, depth_of, find_in}
 use Rattle.table.specs.Rule.{handle_before, handle_ok}
-use Rattle.table.proofs.Entry.{find_none, holds-false}
+use Rattle.table.proofs.Entry.{find_none, holds_false}
 use Rattle.table.proofs.Rule.{Rule}
-use Rattle.table.proofs.Head.{handle-live, handle-unused, handle-make, head-changed}
+use Rattle.table.proofs.Head.{handle_live, handle_unused, handle_make, head_changed}
 use Rattle.model.specs.Calls.{created}
 use Rattle.store.specs.State.{held_in, domain_in, state_in}
 use Rattle.store.specs.Calls.{domain_words}
@@ -37,9 +37,9 @@ module _ (m e b : ℕ) (t : List ℕ) (ok : Rule m e b t) (long : pairs_at e ≤
   u : List ℕ
   u = stores (domain_words (live t) (next_handle t)) t
 
-  at-live : live u ≡ live t + 1
+  at_live : live u ≡ live t + 1
   unfolding u
-  at-live =
+  at_live =
       get_or-set_other (set (set t live_at (live t + 1)) next_at (next_handle t + 1)) (handle_at (live t)) live_at (next_handle t) 0 (λ q. omega arith)
       ∙ get_or-set_other (set t live_at (live t + 1)) next_at live_at (next_handle t + 1) 0 (λ q. omega arith)
       ∙ get_or-set_same t live_at (live t + 1) 0 (omega arith)
@@ -67,14 +67,14 @@ module _ (m e b : ℕ) (t : List ℕ) (ok : Rule m e b t) (long : pairs_at e ≤
   seconds : (i : ℕ) → i < e → word2 e u i ≡ word2 e t i
   seconds i l = at_other (second_at e i) (λ q. omega arith) (λ q. omega arith) (λ q. omega arith)
 
-  handle-old : (k : ℕ) → (k ≡ live t → ⊥) → handle u k ≡ handle t k
-  handle-old k q = at_other (handle_at k) (λ z. omega arith) (λ z. omega arith) (λ z. q (omega arith))
+  handle_old : (k : ℕ) → (k ≡ live t → ⊥) → handle u k ≡ handle t k
+  handle_old k q = at_other (handle_at k) (λ z. omega arith) (λ z. omega arith) (λ z. q (omega arith))
 
   -- the handle before one is as it was, up to the new one's
-  before-old : (k : ℕ) → k ≤ live t → handle_before u k ≡ handle_before t k
-  before-old k l =
+  before_old : (k : ℕ) → k ≤ live t → handle_before u k ≡ handle_before t k
+  before_old k l =
       by_bool (eqb k 0) (λ z. rw z)
-      (λ z. rw z (let ne = eqb-false k 0 z in handle-old (k - 1) (λ q. omega arith)))
+      (λ z. rw z (let ne = eqb-false k 0 z in handle_old (k - 1) (λ q. omega arith)))
 
   -- and below the next handle
   before_small : handle_before t (live t) < next_handle t
@@ -84,7 +84,7 @@ module _ (m e b : ℕ) (t : List ℕ) (ok : Rule m e b t) (long : pairs_at e ≤
       (λ z.
       let ne = eqb-false (live t) 0 z in
       let p : live t - 1 < live t = omega arith in
-      rw z (handle-live t (live t - 1) (ok.handles (live t - 1) (omega arith)) p).1)
+      rw z (handle_live t (live t - 1) (ok.handles (live t - 1) (omega arith)) p).1)
 
   handles : (k : ℕ) → k < max_live → handle_ok u k ≡ true
   handles k l =
@@ -92,55 +92,55 @@ module _ (m e b : ℕ) (t : List ℕ) (ok : Rule m e b t) (long : pairs_at e ≤
       (λ z.
       let q = eqb-true k (live t) z in
       subst (λ (x : ℕ). handle_ok u x ≡ true) (sym q)
-      (handle-make u (live t)
-      (λ s. (rw (before-old (live t) (omega arith), at_new) before_small, rw (at_new, at_next) (omega arith)))
-      (λ s. absurd (above (live t) (subst (λ (x : ℕ). x ≤ live t) at-live s)))))
+      (handle_make u (live t)
+      (λ s. (rw (before_old (live t) (omega arith), at_new) before_small, rw (at_new, at_next) (omega arith)))
+      (λ s. absurd (above (live t) (subst (λ (x : ℕ). x ≤ live t) at_live s)))))
       (λ z.
       let ne = eqb-false k (live t) z in
-      handle-make u k
+      handle_make u k
       (λ s.
-      let lt : k < live t = let y = subst (λ (x : ℕ). k < x) at-live s in omega arith in
-      let r = handle-live t k (ok.handles k l) lt in
+      let lt : k < live t = let y = subst (λ (x : ℕ). k < x) at_live s in omega arith in
+      let r = handle_live t k (ok.handles k l) lt in
       let big : handle t k < next_handle t + 1 = omega arith in
-      (rw (before-old k (omega arith), handle-old k ne) r.0, rw (handle-old k ne, at_next) big))
+      (rw (before_old k (omega arith), handle_old k ne) r.0, rw (handle_old k ne, at_next) big))
       (λ s.
-      let ge : live t ≤ k = let y = subst (λ (x : ℕ). x ≤ k) at-live s in omega arith in
-      handle-old k ne ∙ handle-unused t k (ok.handles k l) ge))
+      let ge : live t ≤ k = let y = subst (λ (x : ℕ). x ≤ k) at_live s in omega arith in
+      handle_old k ne ∙ handle_unused t k (ok.handles k l) ge))
     where
       above : (x : ℕ) → x + 1 ≤ x → ⊥
       above x q = omega arith
 
-  pub create-rule : Rule m e b (stores (domain_words (live t) (next_handle t)) t)
+  pub create_rule : Rule m e b (stores (domain_words (live t) (next_handle t)) t)
   unfolding u
-  create-rule =
-      head-changed m e b t u ok firsts seconds (rw at-live (omega arith)) (rw at_next (omega arith)) handles
-      (λ i l z. let k = ok.used i l z in rw at-live (omega (arith, k.high)))
+  create_rule =
+      head_changed m e b t u ok firsts seconds (rw at_live (omega arith)) (rw at_next (omega arith)) handles
+      (λ i l z. let k = ok.used i l z in rw at_live (omega (arith, k.high)))
 
   -- no entry is of the new domain's depth
-  nothing-held : (bodies : List ℕ) (c : ℕ) → held_in e u bodies (suc (live t)) c ≡ none
+  nothing_held : (bodies : List ℕ) (c : ℕ) → held_in e u bodies (suc (live t)) c ≡ none
   unfolding held_in
-  nothing-held bodies c =
+  nothing_held bodies c =
       let f : find_in e u (suc (live t)) c ≡ e =
       find_none e u (suc (live t)) c (λ j l p q.
       let w = sym (ap depth_of (firsts j l)) ∙ p in
       let k = ok.used j l (λ z. omega (arith, w, ap depth_of z)) in
       omega (arith, w, k.high)) in
       let le : e ≤ find_in e u (suc (live t)) c = omega arith in
-      rw (holds-false e u (suc (live t)) c le)
+      rw (holds_false e u (suc (live t)) c le)
 
-  pub create-state : (bodies : List ℕ) → state_in e (stores (domain_words (live t) (next_handle t)) t) bodies ≡ created (state_in e t bodies)
+  pub create_state : (bodies : List ℕ) → state_in e (stores (domain_words (live t) (next_handle t)) t) bodies ≡ created (state_in e t bodies)
   unfolding state_in u
-  create-state bodies =
+  create_state bodies =
       let old : (k : ℕ) → k < live t → domain_in e u bodies k ≡ domain_in e t bodies k =
       λ k l i. record {
-        handle = handle-old k (λ q. omega arith) i;
+        handle = handle_old k (λ q. omega arith) i;
         holds = λ c. held_kept m e b t u bodies bodies ok firsts seconds (λ j s. refl) (suc k) c (omega arith) i;
       } in
       let new : domain_in e u bodies (live t) ≡ record { handle = next_handle t; holds = λ c. none } =
-      λ i. record { handle = at_new i; holds = λ c. nothing-held bodies c i } in
+      λ i. record { handle = at_new i; holds = λ c. nothing_held bodies c i } in
       let doms : tab (live u) (domain_in e u bodies) ≡ tab (live t) (domain_in e t bodies) ++ record { handle = next_handle t; holds = λ c. none } ∷ [] =
-      ap (λ (x : ℕ). tab x (domain_in e u bodies)) (at-live ∙ add-one (live t))
-      ∙ tab-last (domain_in e u bodies) (live t)
+      ap (λ (x : ℕ). tab x (domain_in e u bodies)) (at_live ∙ add-one (live t))
+      ∙ tab_last (domain_in e u bodies) (live t)
       ∙ (λ i. tab_below (domain_in e u bodies) (domain_in e t bodies) (live t) old i ++ new i ∷ []) in
       λ i. record { next = at_next i; domains = doms i }
 

@@ -19,11 +19,11 @@ use Rattle.words.proofs.Names.{names_each}
 use Rattle.words.proofs.Journal as law
 use Rattle.table.specs.Rule.{pairs_ok}
 use Rattle.table.proofs.Rule.{Rule}
-use Rattle.table.proofs.Pairs.{pairs_make, pairs-few, pairs-names}
+use Rattle.table.proofs.Pairs.{pairs_make, pairs_few, pairs_names}
 use Rattle.store.specs.Outcome.{buffers}
 use Rattle.store.specs.Checks.{shape_check, open_check, lent}
 use Rattle.store.specs.State.{state_in, state_of, standing}
-use Rattle.store.proofs.Checks.{open-make, open-shape, open-table, table-make, table-pairs, table-rule, shape_kept}
+use Rattle.store.proofs.Checks.{open_make, open_shape, open_table, table_make, table_pairs, table_rule, shape_kept}
 
 -- ---- a word that no pair may name is in none
 
@@ -44,16 +44,16 @@ stands_open memory bodies t h = rw (eq-eqb _ _ h)
 -- accepted: the shape is kept, the pairs are as they should be, and the effective table is right
 module _ (memory bodies : ℕ) (t u : List ℕ) (long : length u ≡ length t) (shape : shape_check (lent memory bodies t) ≡ 0)
     (kept : (i : ℕ) → name_ok (pairs_at (slots_of (length t))) i ≡ false → i < pairs_at (slots_of (length t)) → (i ≡ pending_at → ⊥) → get_or u i 0 ≡ get_or t i 0) where
-  pub still-shaped : shape_check (lent memory bodies u) ≡ 0
-  still-shaped =
+  pub still_shaped : shape_check (lent memory bodies u) ≡ 0
+  still_shaped =
       shape_kept memory bodies t u long (λ i l. kept i (unnamed_low (pairs_at (slots_of (length t))) i l) (omega arith) (λ z. omega arith))
       (kept zero_at (unnamed_zero (pairs_at (slots_of (length t)))) (omega arith) (λ z. omega arith)) ∙ shape
 
   pub still_opens : pending u ≤ max_pairs (slots_of (length t)) → names_ok (pairs_at (slots_of (length t))) 0 (pairs u (pairs_at (slots_of (length t))) (pending u)) ≡ true
       → Rule (cells_of memory) (slots_of (length t)) (bodies_of bodies) (effective (pairs_at (slots_of (length t))) u) → open_check (lent memory bodies u) ≡ 0
   still_opens few names rule =
-      open-make memory bodies u still-shaped
-      (table-make memory bodies u (rw long (pairs_make (slots_of (length t)) u few names)) (rw long rule))
+      open_make memory bodies u still_shaped
+      (table_make memory bodies u (rw long (pairs_make (slots_of (length t)) u few names)) (rw long rule))
 
 -- ---- a journal of some changes over a table with nothing pending
 
@@ -75,32 +75,32 @@ module _ (memory bodies : ℕ) (t : List ℕ) (ws : List Store) (shape : shape_c
   abbrev pub cut : ℕ → List ℕ
   cut k = stores (take k (journaled (pairs_at (slots_of (length t))) ws)) t
 
-  pub cut-length : (k : ℕ) → length (cut k) ≡ length t
-  cut-length k = law.cut-length first ws t front room idle some-change names k
+  pub cut_length : (k : ℕ) → length (cut k) ≡ length t
+  cut_length k = law.cut_length first ws t front room idle some-change names k
 
   kept : (k i : ℕ) → name_ok first i ≡ false → i < first → (i ≡ pending_at → ⊥) → get_or (cut k) i 0 ≡ get_or t i 0
-  kept k i n l p = law.cut-kept first ws t front room idle some-change names k i l p (apart_from first i ws n names)
+  kept k i n l p = law.cut_kept first ws t front room idle some-change names k i l p (apart_from first i ws n names)
 
   -- the effective table is the old one until word 6 is stored, and the new one from then on
-  pub cut-effective : (k : ℕ) → effective (pairs_at (slots_of (length t))) (cut k)
+  pub cut_effective : (k : ℕ) → effective (pairs_at (slots_of (length t))) (cut k)
       ≡ cond (ltb (2 * length ws) k) (stores ws (take (pairs_at (slots_of (length t))) t)) (take (pairs_at (slots_of (length t))) t)
-  cut-effective k =
+  cut_effective k =
       by_le k (2 * length ws)
-      (λ l. rw (le-ltb (2 * length ws) k l) (law.cut-old first ws t front room idle some-change names k l))
-      (λ l. rw (lt-ltb (2 * length ws) k l) (law.cut-new first ws t front room idle some-change names k l))
+      (λ l. rw (le-ltb (2 * length ws) k l) (law.cut_old first ws t front room idle some-change names k l))
+      (λ l. rw (lt-ltb (2 * length ws) k l) (law.cut_new first ws t front room idle some-change names k l))
 
-  cut-rule : (k : ℕ) → Rule (cells_of memory) (slots_of (length t)) (bodies_of bodies) (effective first (cut k))
-  cut-rule k =
+  cut_rule : (k : ℕ) → Rule (cells_of memory) (slots_of (length t)) (bodies_of bodies) (effective first (cut k))
+  cut_rule k =
       by_le k (2 * length ws)
-      (λ l. rw (law.cut-old first ws t front room idle some-change names k l) right)
-      (λ l. rw (law.cut-new first ws t front room idle some-change names k l) next)
+      (λ l. rw (law.cut_old first ws t front room idle some-change names k l) right)
+      (λ l. rw (law.cut_new first ws t front room idle some-change names k l) next)
 
   -- every cut can be opened
-  pub cut-opens : (k : ℕ) → open_check (lent memory bodies (cut k)) ≡ 0
-  cut-opens k =
-      let fewer = law.cut-count first ws t front room idle some-change names k in
-      still_opens memory bodies t (cut k) (cut-length k) shape (kept k) (omega arith)
-      (law.cut-names first ws t front room idle some-change names k) (cut-rule k)
+  pub cut_opens : (k : ℕ) → open_check (lent memory bodies (cut k)) ≡ 0
+  cut_opens k =
+      let fewer = law.cut_count first ws t front room idle some-change names k in
+      still_opens memory bodies t (cut k) (cut_length k) shape (kept k) (omega arith)
+      (law.cut_names first ws t front room idle some-change names k) (cut_rule k)
 
 -- ---- opening a table that opening accepts, stopped at any budget
 
@@ -111,45 +111,45 @@ module _ (memory bodies : ℕ) (t : List ℕ) (long : length t ≡ table_words (
   before : pending_at < start
   before = pending_at_below (slots_of (length t))
 
-  pairs-right : pairs_ok (slots_of (length t)) t ≡ true
-  pairs-right = table-pairs memory bodies t (open-table memory bodies t opens)
+  pairs_right : pairs_ok (slots_of (length t)) t ≡ true
+  pairs_right = table_pairs memory bodies t (open_table memory bodies t opens)
 
   fits : start + 2 * pending t ≤ length t
-  fits = let l = pairs-few (slots_of (length t)) t pairs-right in omega arith
+  fits = let l = pairs_few (slots_of (length t)) t pairs_right in omega arith
 
   named : names_ok start 0 (pairs t start (pending t)) ≡ true
-  named = pairs-names (slots_of (length t)) t pairs-right
+  named = pairs_names (slots_of (length t)) t pairs_right
 
   abbrev pub opening : ℕ → List ℕ
   opening k = stores (take k (open_plan (pairs_at (slots_of (length t))) t)) t
 
-  pub opening-length : (k : ℕ) → length (opening k) ≡ length t
-  opening-length k = law.opening-length start t before fits named k
+  pub opening_length : (k : ℕ) → length (opening k) ≡ length t
+  opening_length k = law.opening_length start t before fits named k
 
   -- it has the same effective table, so it stands for the same state
-  pub opening-effective : (k : ℕ) → effective (pairs_at (slots_of (length t))) (opening k) ≡ effective (pairs_at (slots_of (length t))) t
-  opening-effective k = law.opening-effective start t before fits named k
+  pub opening_effective : (k : ℕ) → effective (pairs_at (slots_of (length t))) (opening k) ≡ effective (pairs_at (slots_of (length t))) t
+  opening_effective k = law.opening_effective start t before fits named k
 
   -- and is accepted again
-  pub opening-opens : (k : ℕ) → open_check (lent memory bodies (opening k)) ≡ 0
-  opening-opens k =
-      let l = pairs-few (slots_of (length t)) t pairs-right in
-      let fewer = law.opening-count start t before fits named k in
-      still_opens memory bodies t (opening k) (opening-length k) (open-shape memory bodies t opens)
-      (λ i n h p. law.opening-kept start t before fits named k i h p n) (omega arith)
-      (law.opening-names start t before fits named k)
-      (rw (opening-effective k) (table-rule memory bodies t (open-table memory bodies t opens)))
+  pub opening_opens : (k : ℕ) → open_check (lent memory bodies (opening k)) ≡ 0
+  opening_opens k =
+      let l = pairs_few (slots_of (length t)) t pairs_right in
+      let fewer = law.opening_count start t before fits named k in
+      still_opens memory bodies t (opening k) (opening_length k) (open_shape memory bodies t opens)
+      (λ i n h p. law.opening_kept start t before fits named k i h p n) (omega arith)
+      (law.opening_names start t before fits named k)
+      (rw (opening_effective k) (table_rule memory bodies t (open_table memory bodies t opens)))
 
   -- opening it again, whole, gives word for word what opening at once would have given
-  pub opening-again : (k : ℕ) → stores (open_plan (pairs_at (slots_of (length t))) (opening k)) (opening k) ≡ stores (open_plan (pairs_at (slots_of (length t))) t) t
-  opening-again k = law.opening-again start t before fits named k
+  pub opening_again : (k : ℕ) → stores (open_plan (pairs_at (slots_of (length t))) (opening k)) (opening k) ≡ stores (open_plan (pairs_at (slots_of (length t))) t) t
+  opening_again k = law.opening_again start t before fits named k
 
   -- as many pairs are pending until it is whole, and then none
-  pub opening-stopped : (k : ℕ) → k ≤ pending t → pending (opening k) ≡ pending t
-  opening-stopped k l = law.opening-stopped start t before fits named k l
+  pub opening_stopped : (k : ℕ) → k ≤ pending t → pending (opening k) ≡ pending t
+  opening_stopped k l = law.opening_stopped start t before fits named k l
 
-  pub opening-done : pending (stores (open_plan (pairs_at (slots_of (length t))) t) t) ≡ 0
-  opening-done = law.opening-done start t before fits named
+  pub opening_done : pending (stores (open_plan (pairs_at (slots_of (length t))) t) t) ≡ 0
+  opening_done = law.opening_done start t before fits named
 
 -- ---- any number of openings one after the other, each stopped at its own budget
 
@@ -158,6 +158,6 @@ pub openings_open : (memory bodies : ℕ) (ks : List ℕ) (t : List ℕ) → len
 openings_open memory bodies [] t long opens = opens
 openings_open memory bodies (k ∷ ks) t long opens =
     let u : List ℕ = opening memory bodies t long opens k in
-    let n : length u ≡ length t = opening-length memory bodies t long opens k in
+    let n : length u ≡ length t = opening_length memory bodies t long opens k in
     subst (λ (x : ℕ). open_check (lent memory bodies (openings (pairs_at (slots_of x)) ks u)) ≡ 0) n
-    (openings_open memory bodies ks u (n ∙ long ∙ ap (λ (x : ℕ). table_words (slots_of x)) (sym n)) (opening-opens memory bodies t long opens k))
+    (openings_open memory bodies ks u (n ∙ long ∙ ap (λ (x : ℕ). table_words (slots_of x)) (sym n)) (opening_opens memory bodies t long opens k))

@@ -12,9 +12,9 @@ use lib.ListN.{length}
 use Rattle.words.specs.Scan.{first}
 use Rattle.words.specs.Stores.{tab, tab_from}
 use Rattle.words.proofs.Scan.{by_bool, by_le}
-use Rattle.words.proofs.Plans.{length-tab, tab_below}
+use Rattle.words.proofs.Plans.{length_tab, tab_below}
 use Rattle.table.specs.Entry.{live, next_handle, handle, word1, word2, writable_of, via_of, pattern_of, parent, find_in, holds_in}
-use Rattle.table.proofs.Entry.{holds-true}
+use Rattle.table.proofs.Entry.{holds_true}
 use Rattle.search.specs.Search.{value_in}
 use Rattle.search.specs.Domain.{place_of, depth_named}
 use Rattle.model.specs.State.{Holding, Domain}
@@ -24,28 +24,28 @@ use Rattle.store.specs.State.{label_of, kind_of, held_in, domain_in, state_in}
 -- ---- lists of domains by a rule
 
 module _ (g : ℕ → Domain) where
-  holding-from : (at n d c : ℕ) → d < n → holding_at (tab_from g at n) (suc d) c ≡ (g (at + d)).holds c
-  holding-from at zero d c l = absurd (not-suc-le-zero l)
-  holding-from at (suc n) zero c l = let z : at ≡ at + 0 = omega arith in ap (λ (x : ℕ). (g x).holds c) z
-  holding-from at (suc n) (suc d) c l =
+  holding_from : (at n d c : ℕ) → d < n → holding_at (tab_from g at n) (suc d) c ≡ (g (at + d)).holds c
+  holding_from at zero d c l = absurd (not-suc-le-zero l)
+  holding_from at (suc n) zero c l = let z : at ≡ at + 0 = omega arith in ap (λ (x : ℕ). (g x).holds c) z
+  holding_from at (suc n) (suc d) c l =
       let z : suc at + d ≡ at + suc d = omega arith in
-      holding-from (suc at) n d c (le_of_suc-le-suc l) ∙ ap (λ (x : ℕ). (g x).holds c) z
+      holding_from (suc at) n d c (le_of_suc-le-suc l) ∙ ap (λ (x : ℕ). (g x).holds c) z
 
-  pub holding-tab : (n d c : ℕ) → d < n → holding_at (tab n g) (suc d) c ≡ (g d).holds c
-  holding-tab n d c l = holding-from 0 n d c l ∙ ap (λ (x : ℕ). (g x).holds c) (zero-add d)
+  pub holding_tab : (n d c : ℕ) → d < n → holding_at (tab n g) (suc d) c ≡ (g d).holds c
+  holding_tab n d c l = holding_from 0 n d c l ∙ ap (λ (x : ℕ). (g x).holds c) (zero-add d)
 
-  past-from : (at n d c : ℕ) → n ≤ d → holding_at (tab_from g at n) (suc d) c ≡ none
-  past-from at zero d c l = refl
-  past-from at (suc n) zero c l = absurd (not-suc-le-zero l)
-  past-from at (suc n) (suc d) c l = past-from (suc at) n d c (le_of_suc-le-suc l)
+  past_from : (at n d c : ℕ) → n ≤ d → holding_at (tab_from g at n) (suc d) c ≡ none
+  past_from at zero d c l = refl
+  past_from at (suc n) zero c l = absurd (not-suc-le-zero l)
+  past_from at (suc n) (suc d) c l = past_from (suc at) n d c (le_of_suc-le-suc l)
 
-  pub holding-past : (n d c : ℕ) → n ≤ d → holding_at (tab n g) (suc d) c ≡ none
-  holding-past n d c l = past-from 0 n d c l
+  pub holding_past : (n d c : ℕ) → n ≤ d → holding_at (tab n g) (suc d) c ≡ none
+  holding_past n d c l = past_from 0 n d c l
 
   -- depth 0 is nobody's
-  pub holding-zero : (n c : ℕ) → holding_at (tab n g) 0 c ≡ none
-  holding-zero zero c = refl
-  holding-zero (suc n) c = refl
+  pub holding_zero : (n c : ℕ) → holding_at (tab n g) 0 c ≡ none
+  holding_zero zero c = refl
+  holding_zero (suc n) c = refl
 
   module _ (f : Domain → Domain) where
     abbrev changed : ℕ → ℕ → Domain
@@ -58,84 +58,84 @@ module _ (g : ℕ → Domain) where
         let one : g at ≡ changed d at = rw z in
         λ i. one i ∷ same_from (suc at) n d (omega arith) i
 
-    depth-from : (at n d : ℕ) → on_depth (suc d) f (tab_from g at n) ≡ tab_from (changed (at + suc d)) at n
-    depth-from at zero d = refl
-    depth-from at (suc n) zero =
+    depth_from : (at n d : ℕ) → on_depth (suc d) f (tab_from g at n) ≡ tab_from (changed (at + suc d)) at n
+    depth_from at zero d = refl
+    depth_from at (suc n) zero =
         let z : eqb (suc at) (at + 1) ≡ true = eq-eqb (suc at) (at + 1) (omega arith) in
         let one : f (g at) ≡ changed (at + 1) at = rw z in
         λ i. one i ∷ same_from (suc at) n (at + 1) (omega arith) i
-    depth-from at (suc n) (suc d) =
+    depth_from at (suc n) (suc d) =
         let z : eqb (suc at) (at + suc (suc d)) ≡ false = ne_eqb (suc at) (at + suc (suc d)) (λ q. omega arith) in
         let y : suc at + suc d ≡ at + suc (suc d) = omega arith in
         let one : g at ≡ changed (at + suc (suc d)) at = rw z in
-        λ i. one i ∷ (depth-from (suc at) n d ∙ ap (λ (x : ℕ). tab_from (changed x) (suc at) n) y) i
+        λ i. one i ∷ (depth_from (suc at) n d ∙ ap (λ (x : ℕ). tab_from (changed x) (suc at) n) y) i
 
-    pub on-depth : (n d : ℕ) → on_depth (suc d) f (tab n g) ≡ tab n (λ k. cond (eqb (suc k) (suc d)) (f (g k)) (g k))
-    on-depth n d = depth-from 0 n d ∙ ap (λ (x : ℕ). tab n (changed x)) (zero-add (suc d))
+    pub on_depth_lem : (n d : ℕ) → on_depth (suc d) f (tab n g) ≡ tab n (λ k. cond (eqb (suc k) (suc d)) (f (g k)) (g k))
+    on_depth_lem n d = depth_from 0 n d ∙ ap (λ (x : ℕ). tab n (changed x)) (zero-add (suc d))
 
-    inner-from : (at n : ℕ) → on_innermost f (tab_from g at n) ≡ tab_from (changed (at + n)) at n
-    inner-from at zero = refl
-    inner-from at (suc zero) =
+    inner_from : (at n : ℕ) → on_innermost f (tab_from g at n) ≡ tab_from (changed (at + n)) at n
+    inner_from at zero = refl
+    inner_from at (suc zero) =
         let z : eqb (suc at) (at + 1) ≡ true = eq-eqb (suc at) (at + 1) (omega arith) in
         let one : f (g at) ≡ changed (at + 1) at = rw z in
         λ i. one i ∷ []
-    inner-from at (suc (suc n)) =
+    inner_from at (suc (suc n)) =
         let z : eqb (suc at) (at + suc (suc n)) ≡ false = ne_eqb (suc at) (at + suc (suc n)) (λ q. omega arith) in
         let y : suc at + suc n ≡ at + suc (suc n) = omega arith in
         let one : g at ≡ changed (at + suc (suc n)) at = rw z in
-        λ i. one i ∷ (inner-from (suc at) (suc n) ∙ ap (λ (x : ℕ). tab_from (changed x) (suc at) (suc n)) y) i
+        λ i. one i ∷ (inner_from (suc at) (suc n) ∙ ap (λ (x : ℕ). tab_from (changed x) (suc at) (suc n)) y) i
 
-    pub on-innermost : (n : ℕ) → on_innermost f (tab n g) ≡ tab n (λ k. cond (eqb (suc k) n) (f (g k)) (g k))
-    on-innermost n = inner-from 0 n ∙ ap (λ (x : ℕ). tab n (changed x)) (zero-add n)
+    pub on_innermost_lem : (n : ℕ) → on_innermost f (tab n g) ≡ tab n (λ k. cond (eqb (suc k) n) (f (g k)) (g k))
+    on_innermost_lem n = inner_from 0 n ∙ ap (λ (x : ℕ). tab n (changed x)) (zero-add n)
 
   module _ (f : Domain → Domain → Domain) where
     abbrev merge : ℕ → ℕ → Domain
     merge n k = cond (eqb k n) (f (g n) (g (suc n))) (g k)
 
-    commit-from : (at n : ℕ) → on_commit f (tab_from g at (suc (suc n))) ≡ tab_from (merge (at + n)) at (suc n)
-    commit-from at zero =
+    commit_from : (at n : ℕ) → on_commit f (tab_from g at (suc (suc n))) ≡ tab_from (merge (at + n)) at (suc n)
+    commit_from at zero =
         let z : eqb at (at + 0) ≡ true = eq-eqb at (at + 0) (omega arith) in
         let y : at ≡ at + 0 = omega arith in
         let one : f (g at) (g (suc at)) ≡ merge (at + 0) at = rw z (ap (λ (x : ℕ). f (g x) (g (suc x))) y) in
         λ i. one i ∷ []
-    commit-from at (suc n) =
+    commit_from at (suc n) =
         let z : eqb at (at + suc n) ≡ false = ne_eqb at (at + suc n) (λ q. omega arith) in
         let y : suc at + n ≡ at + suc n = omega arith in
         let one : g at ≡ merge (at + suc n) at = rw z in
-        λ i. one i ∷ (commit-from (suc at) n ∙ ap (λ (x : ℕ). tab_from (merge x) (suc at) (suc n)) y) i
+        λ i. one i ∷ (commit_from (suc at) n ∙ ap (λ (x : ℕ). tab_from (merge x) (suc at) (suc n)) y) i
 
     abbrev beside : ℕ → ℕ → Domain
     beside n k = cond (eqb (suc (suc k)) n) (f (g k) (g (suc k))) (g k)
 
-    parent-from : (at n : ℕ) → on_parent f (tab_from g at n) ≡ tab_from (beside (at + n)) at n
-    parent-from at zero = refl
-    parent-from at (suc zero) =
+    parent_from : (at n : ℕ) → on_parent f (tab_from g at n) ≡ tab_from (beside (at + n)) at n
+    parent_from at zero = refl
+    parent_from at (suc zero) =
         let z : eqb (suc (suc at)) (at + 1) ≡ false = ne_eqb (suc (suc at)) (at + 1) (λ q. omega arith) in
         let one : g at ≡ beside (at + 1) at = rw z in
         λ i. one i ∷ []
-    parent-from at (suc (suc zero)) =
+    parent_from at (suc (suc zero)) =
         let z : eqb (suc (suc at)) (at + 2) ≡ true = eq-eqb (suc (suc at)) (at + 2) (omega arith) in
         let y : eqb (suc (suc (suc at))) (at + 2) ≡ false = ne_eqb (suc (suc (suc at))) (at + 2) (λ q. omega arith) in
         let one : f (g at) (g (suc at)) ≡ beside (at + 2) at = rw z in
         let two : g (suc at) ≡ beside (at + 2) (suc at) = rw y in
         λ i. one i ∷ two i ∷ []
-    parent-from at (suc (suc (suc n))) =
+    parent_from at (suc (suc (suc n))) =
         let z : eqb (suc (suc at)) (at + suc (suc (suc n))) ≡ false = ne_eqb (suc (suc at)) (at + suc (suc (suc n))) (λ q. omega arith) in
         let y : suc at + suc (suc n) ≡ at + suc (suc (suc n)) = omega arith in
         let one : g at ≡ beside (at + suc (suc (suc n))) at = rw z in
-        λ i. one i ∷ (parent-from (suc at) (suc (suc n)) ∙ ap (λ (x : ℕ). tab_from (beside x) (suc at) (suc (suc n))) y) i
+        λ i. one i ∷ (parent_from (suc at) (suc (suc n)) ∙ ap (λ (x : ℕ). tab_from (beside x) (suc at) (suc (suc n))) y) i
 
     -- of n domains the last but one, if any, is changed by the last: which stays, or leaves
-    pub on-parent : (n : ℕ) → on_parent f (tab n g) ≡ tab n (λ k. cond (eqb (suc (suc k)) n) (f (g k) (g (suc k))) (g k))
-    on-parent n = parent-from 0 n ∙ ap (λ (x : ℕ). tab n (beside x)) (zero-add n)
+    pub on_parent_lem : (n : ℕ) → on_parent f (tab n g) ≡ tab n (λ k. cond (eqb (suc (suc k)) n) (f (g k) (g (suc k))) (g k))
+    on_parent_lem n = parent_from 0 n ∙ ap (λ (x : ℕ). tab n (beside x)) (zero-add n)
 
-    pub on-commit : (n : ℕ) → on_commit f (tab n g) ≡ tab (n - 1) (λ k. cond (eqb (suc k) (n - 1)) (f (g k) (g (n - 1))) (g k))
-    on-commit zero = refl
-    on-commit (suc zero) = refl
-    on-commit (suc (suc n)) =
+    pub on_commit_lem : (n : ℕ) → on_commit f (tab n g) ≡ tab (n - 1) (λ k. cond (eqb (suc k) (n - 1)) (f (g k) (g (n - 1))) (g k))
+    on_commit_lem zero = refl
+    on_commit_lem (suc zero) = refl
+    on_commit_lem (suc (suc n)) =
         let less : suc (suc n) - 1 ≡ suc n = omega arith in
         rw less
-        (commit-from 0 n ∙ ap (λ (x : ℕ). tab (suc n) (merge x)) (zero-add n)
+        (commit_from 0 n ∙ ap (λ (x : ℕ). tab (suc n) (merge x)) (zero-add n)
         ∙ tab_below (merge n) (λ k. cond (eqb (suc k) (suc n)) (f (g k) (g (suc n))) (g k)) (suc n) (λ k l.
         by_bool (eqb k n)
         (λ z. let q = eqb-true k n z in rw (z, eq-eqb (suc k) (suc n) (ap suc q), q))
@@ -144,65 +144,65 @@ module _ (g : ℕ → Domain) where
 -- ---- the state of a table's words
 
 module _ (e : ℕ) (t bodies : List ℕ) where
-  pub state-domains : (state_in e t bodies).domains ≡ tab (live t) (domain_in e t bodies)
+  pub state_domains : (state_in e t bodies).domains ≡ tab (live t) (domain_in e t bodies)
   unfolding state_in
-  state-domains = refl
+  state_domains = refl
 
-  pub domains-count : length (state_in e t bodies).domains ≡ live t
-  domains-count = ap length state-domains ∙ length-tab (domain_in e t bodies) (live t)
+  pub domains_count : length (state_in e t bodies).domains ≡ live t
+  domains_count = ap length state_domains ∙ length_tab (domain_in e t bodies) (live t)
 
   -- what the model finds at a depth is what the words say
-  pub state-holding : (d c : ℕ) → 1 ≤ d → d ≤ live t → holding_at (state_in e t bodies).domains d c ≡ held_in e t bodies d c
+  pub state_holding : (d c : ℕ) → 1 ≤ d → d ≤ live t → holding_at (state_in e t bodies).domains d c ≡ held_in e t bodies d c
   unfolding state_in
-  state-holding zero c low high = absurd (not-suc-le-zero low)
-  state-holding (suc d) c low high = holding-tab (domain_in e t bodies) (live t) d c high
+  state_holding zero c low high = absurd (not-suc-le-zero low)
+  state_holding (suc d) c low high = holding_tab (domain_in e t bodies) (live t) d c high
 
   -- of the innermost domain, and of its parent
-  pub inner-holding : (c : ℕ) → 1 ≤ live t → holding_at (state_in e t bodies).domains (length (state_in e t bodies).domains) c ≡ held_in e t bodies (live t) c
-  inner-holding c low = ap (λ (d : ℕ). holding_at (state_in e t bodies).domains d c) domains-count ∙ state-holding (live t) c low (omega arith)
+  pub inner_holding_lem : (c : ℕ) → 1 ≤ live t → holding_at (state_in e t bodies).domains (length (state_in e t bodies).domains) c ≡ held_in e t bodies (live t) c
+  inner_holding_lem c low = ap (λ (d : ℕ). holding_at (state_in e t bodies).domains d c) domains_count ∙ state_holding (live t) c low (omega arith)
 
-  pub outer-holding : (c : ℕ) → 2 ≤ live t → holding_at (state_in e t bodies).domains (length (state_in e t bodies).domains - 1) c ≡ held_in e t bodies (parent (live t)) c
-  outer-holding c two =
-      ap (λ (d : ℕ). holding_at (state_in e t bodies).domains (d - 1) c) domains-count ∙ state-holding (parent (live t)) c (omega arith) (omega arith)
+  pub outer_holding_lem : (c : ℕ) → 2 ≤ live t → holding_at (state_in e t bodies).domains (length (state_in e t bodies).domains - 1) c ≡ held_in e t bodies (parent (live t)) c
+  outer_holding_lem c two =
+      ap (λ (d : ℕ). holding_at (state_in e t bodies).domains (d - 1) c) domains_count ∙ state_holding (parent (live t)) c (omega arith) (omega arith)
 
-  pub state-past : (d c : ℕ) → live t < d → holding_at (state_in e t bodies).domains d c ≡ none
+  pub state_past : (d c : ℕ) → live t < d → holding_at (state_in e t bodies).domains d c ≡ none
   unfolding state_in
-  state-past zero c h = absurd (not-suc-le-zero h)
-  state-past (suc d) c h = holding-past (domain_in e t bodies) (live t) d c (le_of_suc-le-suc h)
+  state_past zero c h = absurd (not-suc-le-zero h)
+  state_past (suc d) c h = holding_past (domain_in e t bodies) (live t) d c (le_of_suc-le-suc h)
 
-  pub state-zero : (c : ℕ) → holding_at (state_in e t bodies).domains 0 c ≡ none
+  pub state_zero : (c : ℕ) → holding_at (state_in e t bodies).domains 0 c ≡ none
   unfolding state_in
-  state-zero c = holding-zero (domain_in e t bodies) (live t) c
+  state_zero c = holding_zero (domain_in e t bodies) (live t) c
 
   -- not held, held, held read-write and held via parent, by the words
   pub held_none : (d c : ℕ) → holds_in e t d c ≡ false → held_in e t bodies d c ≡ none
   unfolding held_in
   held_none d c z = rw z
 
-  pub held-some : (d c : ℕ) → find_in e t d c < e
+  pub held_some : (d c : ℕ) → find_in e t d c < e
       → held_in e t bodies d c ≡ some (record { label = label_of (word1 e t (find_in e t d c)); kind = kind_of (word1 e t (find_in e t d c)) (word2 e t (find_in e t d c)); value = value_in e t bodies d c })
   unfolding held_in
-  held-some d c h = rw (holds-true e t d c h)
+  held_some d c h = rw (holds_true e t d c h)
 
-  pub held-holds : (d c : ℕ) → is_held (held_in e t bodies d c) ≡ holds_in e t d c
+  pub held_holds : (d c : ℕ) → is_held (held_in e t bodies d c) ≡ holds_in e t d c
   unfolding held_in
-  held-holds d c = by_bool (holds_in e t d c) (λ z. rw z) (λ z. rw z)
+  held_holds d c = by_bool (holds_in e t d c) (λ z. rw z) (λ z. rw z)
 
-  pub held-writable : (d c : ℕ) → held_writable (held_in e t bodies d c) ≡ (holds_in e t d c && eqb (writable_of (word1 e t (find_in e t d c))) 1)
+  pub held_writable_lem : (d c : ℕ) → held_writable (held_in e t bodies d c) ≡ (holds_in e t d c && eqb (writable_of (word1 e t (find_in e t d c))) 1)
   unfolding held_in
-  held-writable d c =
+  held_writable_lem d c =
       by_bool (holds_in e t d c)
       (λ z. rw z (by_bool (eqb (writable_of (word1 e t (find_in e t d c))) 1) (λ y. rw y) (λ y. rw y)))
       (λ z. rw z)
 
-  kind-via : (w v : ℕ) → is_via (kind_of w v) ≡ eqb (via_of w) 1
-  kind-via w v = by_bool (eqb (via_of w) 1) (λ y. rw y) (λ y. rw y (by_bool (eqb (pattern_of w) 1) (λ p. rw p) (λ p. rw p)))
+  kind_via : (w v : ℕ) → is_via (kind_of w v) ≡ eqb (via_of w) 1
+  kind_via w v = by_bool (eqb (via_of w) 1) (λ y. rw y) (λ y. rw y (by_bool (eqb (pattern_of w) 1) (λ p. rw p) (λ p. rw p)))
 
-  pub held-via : (d c : ℕ) → held_via (held_in e t bodies d c) ≡ (holds_in e t d c && eqb (via_of (word1 e t (find_in e t d c))) 1)
+  pub held_via_lem : (d c : ℕ) → held_via (held_in e t bodies d c) ≡ (holds_in e t d c && eqb (via_of (word1 e t (find_in e t d c))) 1)
   unfolding held_in
-  held-via d c =
+  held_via_lem d c =
       by_bool (holds_in e t d c)
-      (λ z. rw z (kind-via (word1 e t (find_in e t d c)) (word2 e t (find_in e t d c))))
+      (λ z. rw z (kind_via (word1 e t (find_in e t d c)) (word2 e t (find_in e t d c))))
       (λ z. rw z)
 
 -- ---- handles
@@ -233,7 +233,7 @@ state_named e t bodies h =
     let s : (k : ℕ) → 0 + k ≡ k = λ k. zero-add k in
     let same : first (live t) (λ k. eqb (domain_in e t bodies (0 + k)).handle h) ≡ place_of t h = ap (first (live t)) (λ i k. eqb (handle t (s k i)) h) in
     by_bool (eqb h 0)
-    (λ z. rw z (length-tab (domain_in e t bodies) (live t)))
+    (λ z. rw z (length_tab (domain_in e t bodies) (live t)))
     (λ z. rw z (depth_of_lem (domain_in e t bodies) h 0 (live t) ∙ rw same))
 
 -- ---- putting a changed state together
@@ -241,12 +241,12 @@ state_named e t bodies h =
 module _ (e : ℕ) (t u old new : List ℕ) (same_live : live u ≡ live t) (same_next : next_handle u ≡ next_handle t)
     (same-handles : (k : ℕ) → k < live t → handle u k ≡ handle t k) where
   -- the domain at one depth has other holdings
-  pub depth-state : (d : ℕ) → 1 ≤ d → (f : Domain → ℕ → Option Holding)
+  pub depth_state : (d : ℕ) → 1 ≤ d → (f : Domain → ℕ → Option Holding)
       → ((k c : ℕ) → k < live t → held_in e u new (suc k) c ≡ cond (eqb (suc k) d) (f (domain_in e t old k) c) (held_in e t old (suc k) c))
       → state_in e u new ≡ record { next = (state_in e t old).next; domains = on_depth d (λ x. holding (f x) x) (state_in e t old).domains }
   unfolding state_in
-  depth-state zero low f h = absurd (not-suc-le-zero low)
-  depth-state (suc d) low f h =
+  depth_state zero low f h = absurd (not-suc-le-zero low)
+  depth_state (suc d) low f h =
       let doms : tab (live u) (domain_in e u new) ≡ on_depth (suc d) (λ x. holding (f x) x) (tab (live t) (domain_in e t old)) =
       ap (λ (n : ℕ). tab n (domain_in e u new)) same_live
       ∙ tab_below (domain_in e u new) (λ k. cond (eqb (suc k) (suc d)) (holding (f (domain_in e t old k)) (domain_in e t old k)) (domain_in e t old k)) (live t)
@@ -254,15 +254,15 @@ module _ (e : ℕ) (t u old new : List ℕ) (same_live : live u ≡ live t) (sam
       by_bool (eqb (suc k) (suc d))
       (λ z. rw z (λ i. record { handle = same-handles k l i; holds = λ c. (rw z at (h k c l)) i }))
       (λ z. rw z (λ i. record { handle = same-handles k l i; holds = λ c. (rw z at (h k c l)) i })))
-      ∙ sym (on-depth (domain_in e t old) (λ x. holding (f x) x) (live t) d) in
+      ∙ sym (on_depth_lem (domain_in e t old) (λ x. holding (f x) x) (live t) d) in
       λ i. record { next = same_next i; domains = doms i }
 
   -- the innermost domain has other holdings
-  pub innermost-state : (f : Domain → ℕ → Option Holding)
+  pub innermost_state : (f : Domain → ℕ → Option Holding)
       → ((k c : ℕ) → k < live t → held_in e u new (suc k) c ≡ cond (eqb (suc k) (live t)) (f (domain_in e t old k) c) (held_in e t old (suc k) c))
       → state_in e u new ≡ record { next = (state_in e t old).next; domains = on_innermost (λ x. holding (f x) x) (state_in e t old).domains }
   unfolding state_in
-  innermost-state f h =
+  innermost_state f h =
       let doms : tab (live u) (domain_in e u new) ≡ on_innermost (λ x. holding (f x) x) (tab (live t) (domain_in e t old)) =
       ap (λ (n : ℕ). tab n (domain_in e u new)) same_live
       ∙ tab_below (domain_in e u new) (λ k. cond (eqb (suc k) (live t)) (holding (f (domain_in e t old k)) (domain_in e t old k)) (domain_in e t old k)) (live t)
@@ -270,17 +270,17 @@ module _ (e : ℕ) (t u old new : List ℕ) (same_live : live u ≡ live t) (sam
       by_bool (eqb (suc k) (live t))
       (λ z. rw z (λ i. record { handle = same-handles k l i; holds = λ c. (rw z at (h k c l)) i }))
       (λ z. rw z (λ i. record { handle = same-handles k l i; holds = λ c. (rw z at (h k c l)) i })))
-      ∙ sym (on-innermost (domain_in e t old) (λ x. holding (f x) x) (live t)) in
+      ∙ sym (on_innermost_lem (domain_in e t old) (λ x. holding (f x) x) (live t)) in
       λ i. record { next = same_next i; domains = doms i }
 
   -- the innermost domain has other holdings, and its parent, if any, has others by what the innermost one held
-  pub inner-two-state : (f : Domain → ℕ → Option Holding) (g : Domain → Domain → ℕ → Option Holding)
+  pub inner_two_state : (f : Domain → ℕ → Option Holding) (g : Domain → Domain → ℕ → Option Holding)
       → ((k c : ℕ) → k < live t → held_in e u new (suc k) c
       ≡ cond (eqb (suc k) (live t)) (f (domain_in e t old k) c)
       (cond (eqb (suc (suc k)) (live t)) (g (domain_in e t old k) (domain_in e t old (suc k)) c) (held_in e t old (suc k) c)))
       → state_in e u new ≡ record { next = (state_in e t old).next; domains = on_innermost (λ x. holding (f x) x) (on_parent (λ o i. holding (g o i) o) (state_in e t old).domains) }
   unfolding state_in
-  inner-two-state f g h =
+  inner_two_state f g h =
       let n : ℕ = live t in
       let was : ℕ → Domain = domain_in e t old in
       let outer : ℕ → Domain = λ k. cond (eqb (suc (suc k)) n) (holding (g (was k) (was (suc k))) (was k)) (was k) in
@@ -297,7 +297,7 @@ module _ (e : ℕ) (t u old new : List ℕ) (same_live : live u ≡ live t) (sam
       by_bool (eqb (suc (suc k)) n)
       (λ y. rw (z, y) (λ i. record { handle = same-handles k l i; holds = λ c. (rw (z, y) at (h k c l)) i }))
       (λ y. rw (z, y) (λ i. record { handle = same-handles k l i; holds = λ c. (rw (z, y) at (h k c l)) i }))))
-      ∙ sym (ap (on_innermost (λ x. holding (f x) x)) (on-parent was (λ o i. holding (g o i) o) n) ∙ on-innermost outer (λ x. holding (f x) x) n) in
+      ∙ sym (ap (on_innermost (λ x. holding (f x) x)) (on_parent_lem was (λ o i. holding (g o i) o) n) ∙ on_innermost_lem outer (λ x. holding (f x) x) n) in
       λ i. record { next = same_next i; domains = doms i }
 
 -- the innermost domain has left, and its parent has other holdings
@@ -315,5 +315,5 @@ commit_state e t u old new lu same_next same-handles f h =
     by_bool (eqb (suc k) (live t - 1))
     (λ z. rw z (λ i. record { handle = same-handles k l i; holds = λ c. (rw z at (h k c l)) i }))
     (λ z. rw z (λ i. record { handle = same-handles k l i; holds = λ c. (rw z at (h k c l)) i })))
-    ∙ sym (on-commit (domain_in e t old) (λ o i. holding (f o i) o) (live t)) in
+    ∙ sym (on_commit_lem (domain_in e t old) (λ o i. holding (f o i) o) (live t)) in
     λ i. record { next = same_next i; domains = doms i }

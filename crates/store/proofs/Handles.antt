@@ -10,9 +10,9 @@ use lib.Seq.{get_or-set_same, get_or-set_other, ext_get_or}
 use Rattle.words.specs.Layout.{max_live, slots_of}
 use Rattle.words.specs.Stores.{tab, tab_from}
 use Rattle.words.proofs.Scan.{by_bool}
-use Rattle.words.proofs.Plans.{map_tab_from, getD-tab}
+use Rattle.words.proofs.Plans.{map_tab_from, get_or_tab}
 use Rattle.table.specs.Entry.{live, handle}
-use Rattle.table.proofs.Head.{handle-unused}
+use Rattle.table.proofs.Head.{handle_unused}
 use Rattle.model.specs.State.{Domain, State}
 use Rattle.model.specs.Answer.{done}
 use Rattle.model.specs.Calls.{listed, list_refused}
@@ -20,8 +20,8 @@ use Rattle.store.specs.Outcome.{Buffers, buffers}
 use Rattle.store.specs.Checks.{store_check, lent, lent_of}
 use Rattle.store.specs.State.{domain_in, state_in, state_of}
 use Rattle.store.specs.Means.{or_list_refused, list_means}
-use Rattle.store.proofs.Means.{live-count}
-use Rattle.store.proofs.Raw.{live_within, raw-rule, raw-state}
+use Rattle.store.proofs.Means.{live_count}
+use Rattle.store.proofs.Raw.{live_within, raw_rule, raw_state}
 
 -- a list by a rule that gives 0 from some place on
 all_zero : (f : ℕ → ℕ) (at r : ℕ) → ((j : ℕ) → j < r → f (at + j) ≡ 0) → tab_from f at r ≡ replicate r 0
@@ -48,30 +48,30 @@ module _ (memory bodies t : List ℕ) (yes : store_check (lent (length memory) (
   few : live t ≤ max_live
   few = live_within (length memory) (length bodies) t yes
 
-  handles-of : map (λ d. d.handle) (state_of (buffers memory bodies t)).domains ≡ tab (live t) (handle t)
-  handles-of =
-      ap (λ (s : State). map (λ d. d.handle) s.domains) (raw-state memory bodies t yes)
+  handles_of : map (λ d. d.handle) (state_of (buffers memory bodies t)).domains ≡ tab (live t) (handle t)
+  handles_of =
+      ap (λ (s : State). map (λ d. d.handle) s.domains) (raw_state memory bodies t yes)
       ∙ state_handles (slots_of (length t)) t bodies
 
   unused : (j : ℕ) → j < max_live - live t → handle t (0 + live t + j) ≡ 0
   unused j l =
       let f = few in
       let z : 0 + live t + j ≡ live t + j = omega arith in
-      ap (handle t) z ∙ handle-unused t (live t + j) ((raw-rule memory bodies t yes).handles (live t + j) (omega arith)) (omega arith)
+      ap (handle t) z ∙ handle_unused t (live t + j) ((raw_rule memory bodies t yes).handles (live t + j) (omega arith)) (omega arith)
 
-  pub handles-listed : tab max_live (handle t)
+  pub handles_listed : tab max_live (handle t)
       ≡ map (λ d. d.handle) (state_of (buffers memory bodies t)).domains ++ replicate (8 - length (state_of (buffers memory bodies t)).domains) 0
-  handles-listed =
+  handles_listed =
       let f = few in
-      rw (handles-of, live-count memory bodies t yes)
+      rw (handles_of, live_count memory bodies t yes)
       (zeros_after (handle t) 0 (live t) (max_live - live t) max_live (omega arith) unused)
 
   pub list_done : (n : ℕ) (hs : List ℕ) → n ≡ live t → hs ≡ tab max_live (handle t)
       → record { report = done 0 0; count = n; handles = hs } ≡ list_means (buffers memory bodies t)
   unfolding list_means
   list_done n hs p q =
-      let count : n ≡ length (state_of (buffers memory bodies t)).domains = p ∙ sym (live-count memory bodies t yes) in
-      rw yes (λ i. record { report = done 0 0; count = count i; handles = (q ∙ handles-listed) i })
+      let count : n ≡ length (state_of (buffers memory bodies t)).domains = p ∙ sym (live_count memory bodies t yes) in
+      rw yes (λ i. record { report = done 0 0; count = count i; handles = (q ∙ handles_listed) i })
 
 pub list_refused_lem : (q : ℕ) (b : Buffers) → q ≡ store_check (lent_of b) → (q ≡ 0 → ⊥) → list_refused q ≡ list_means b
 unfolding list_means
@@ -93,4 +93,4 @@ handles_turn t hs k v l e h j b =
     (λ z. let ne = eqb-false j k z in get_or-set_other hs k j v 0 ne ∙ h j (omega arith))
 
 pub handles_end : (t hs : List ℕ) → length hs ≡ max_live → ((j : ℕ) → j < max_live → get_or hs j 0 ≡ handle t j) → hs ≡ tab max_live (handle t)
-handles_end t hs l h = ext_get_or 0 hs (tab max_live (handle t)) l (λ j b. h j (omega arith) ∙ sym (getD-tab (handle t) max_live j 0 (omega arith)))
+handles_end t hs l h = ext_get_or 0 hs (tab max_live (handle t)) l (λ j b. h j (omega arith) ∙ sym (get_or_tab (handle t) max_live j 0 (omega arith)))

@@ -18,7 +18,7 @@ use Rattle.search.proofs.Counts.{count_entries}
 use Rattle.model.specs.State.{Holding}
 use Rattle.model.specs.Holdings.{is_held, has_body, held_in_body, count_held, live_entries, copies_in_use}
 use Rattle.store.specs.State.{kind_of, held_in, domain_in, state_in}
-use Rattle.store.proofs.Domains.{held-holds}
+use Rattle.store.proofs.Domains.{held_holds}
 
 -- ---- counts
 
@@ -75,8 +75,8 @@ kind_body w v =
 
 module _ (m e b : ℕ) (t : List ℕ) (ok : Rule m e b t) (bodies : List ℕ) where
   -- no entry is deeper than the innermost domain
-  pub depth-high : (i : ℕ) → i < e → depth_of (word1 e t i) ≤ live t
-  depth-high i l =
+  pub depth_high : (i : ℕ) → i < e → depth_of (word1 e t i) ≤ live t
+  depth_high i l =
       by_bool (eqb (word1 e t i) 0)
       (λ z. let w = eqb-true (word1 e t i) 0 z in omega arith)
       (λ z. (ok.used i l (eqb-false (word1 e t i) 0 z)).high)
@@ -91,33 +91,33 @@ module _ (m e b : ℕ) (t : List ℕ) (ok : Rule m e b t) (bodies : List ℕ) wh
   -- entries whose first word passes a test, and holdings that pass one that says the same
   module _ (p : ℕ → Bool) (f : Option Holding → Bool)
       (same : (d c : ℕ) → f (held_in e t bodies d c) ≡ (holds_in e t d c && p (word1 e t (find_in e t d c)))) where
-    one-depth : (x : ℕ) → count m (λ c. f (held_in e t bodies (suc x) c)) ≡ count e (λ i. eqb (depth_of (word1 e t i)) (suc x) && p (word1 e t i))
-    one-depth x =
+    one_depth : (x : ℕ) → count m (λ c. f (held_in e t bodies (suc x) c)) ≡ count e (λ i. eqb (depth_of (word1 e t i)) (suc x) && p (word1 e t i))
+    one_depth x =
         count_ext m (λ c. f (held_in e t bodies (suc x) c)) (λ c. holds_in e t (suc x) c && p (word1 e t (find_in e t (suc x) c))) (λ c l. same (suc x) c)
         ∙ sym (count_entries m e b t ok (suc x) (omega arith) p)
 
-    from-depth : (j x : ℕ) → x + j ≡ live t
+    from_depth_lem : (j x : ℕ) → x + j ≡ live t
         → count_held m f (tab_from (domain_in e t bodies) x j) ≡ count e (λ i. ltb x (depth_of (word1 e t i)) && p (word1 e t i))
-    from-depth zero x q =
-        sym (count_none e (λ i. ltb x (depth_of (word1 e t i)) && p (word1 e t i)) (λ i l. rw (le-ltb x (depth_of (word1 e t i)) (omega (arith, depth-high i l)))))
-    from-depth (suc j) x q =
+    from_depth_lem zero x q =
+        sym (count_none e (λ i. ltb x (depth_of (word1 e t i)) && p (word1 e t i)) (λ i l. rw (le-ltb x (depth_of (word1 e t i)) (omega (arith, depth_high i l)))))
+    from_depth_lem (suc j) x q =
         let n : suc x + j ≡ live t = omega arith in
-        rw (one-depth x, from-depth j (suc x) n) (sym (count_above e x (λ i. depth_of (word1 e t i)) (λ i. p (word1 e t i))))
+        rw (one_depth x, from_depth_lem j (suc x) n) (sym (count_above e x (λ i. depth_of (word1 e t i)) (λ i. p (word1 e t i))))
 
     -- those of the domains past the first x
-    pub held-past : (x : ℕ) → x ≤ live t
+    pub held_past : (x : ℕ) → x ≤ live t
         → count_held m f (drop x (state_in e t bodies).domains) ≡ count e (λ i. ltb x (depth_of (word1 e t i)) && p (word1 e t i))
     unfolding state_in
-    held-past x l =
+    held_past x l =
         let z : 0 + x ≡ x = omega arith in
         ap (count_held m f) (drop_tab (domain_in e t bodies) 0 x (live t) ∙ ap (λ (y : ℕ). tab_from (domain_in e t bodies) y (live t - x)) z)
-        ∙ from-depth (live t - x) x (omega arith)
+        ∙ from_depth_lem (live t - x) x (omega arith)
 
     -- all of them
     held_all : count_held m f (state_in e t bodies).domains ≡ count e (λ i. not (slot_free e t i) && p (word1 e t i))
     unfolding state_in
     held_all =
-        from-depth (live t) 0 (omega arith)
+        from_depth_lem (live t) 0 (omega arith)
         ∙ count_ext e (λ i. ltb 0 (depth_of (word1 e t i)) && p (word1 e t i)) (λ i. not (slot_free e t i) && p (word1 e t i))
         (λ i l. ap (λ (a : Bool). a && p (word1 e t i)) (in_use i l))
 
@@ -126,12 +126,12 @@ module _ (m e b : ℕ) (t : List ℕ) (ok : Rule m e b t) (bodies : List ℕ) wh
   unfolding held_in
   in_body d c = by_bool (holds_in e t d c) (λ z. rw z (kind_body (word1 e t (find_in e t d c)) (word2 e t (find_in e t d c)))) (λ z. rw z)
 
-  pub entries-in-use : live_entries m (state_in e t bodies) ≡ used_slots e t
+  pub entries_in_use : live_entries m (state_in e t bodies) ≡ used_slots e t
   unfolding used_slots
-  entries-in-use =
-      held_all (λ w. true) is_held (λ d c. held-holds e t bodies d c ∙ sym (and-true (holds_in e t d c)))
+  entries_in_use =
+      held_all (λ w. true) is_held (λ d c. held_holds e t bodies d c ∙ sym (and-true (holds_in e t d c)))
       ∙ count_ext e (λ i. not (slot_free e t i) && true) (λ i. not (slot_free e t i)) (λ i l. and-true (not (slot_free e t i)))
 
-  pub copies-in-use : copies_in_use m (state_in e t bodies) ≡ copies e t
+  pub copies_in_use_lem : copies_in_use m (state_in e t bodies) ≡ copies e t
   unfolding copies
-  copies-in-use = held_all (λ w. eqb (via_of w) 0 && eqb (pattern_of w) 0) held_in_body in_body
+  copies_in_use_lem = held_all (λ w. eqb (via_of w) 0 && eqb (pattern_of w) 0) held_in_body in_body

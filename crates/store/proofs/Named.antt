@@ -25,24 +25,24 @@ module _ (t : List ℕ) (h : ℕ) where
   pub stale_handle : (rest : ℕ) → depth_named t h ≡ 0 → 5 ≡ ask_innermost_in t h rest
   stale_handle rest z = sym (ask_stop (ltb 0 (depth_named t h)) 5 _ (le-ltb 0 (depth_named t h) (omega arith)))
 
-  pub not-innermost : (rest : ℕ) → (depth_named t h ≡ 0 → ⊥) → (depth_named t h ≡ live t → ⊥) → 6 ≡ ask_innermost_in t h rest
-  not-innermost rest q ne = sym (ask_go _ 5 _ (lt-ltb 0 (depth_named t h) (omega (arith, q))) ∙ ask_stop _ 6 _ (ne_eqb _ _ ne))
+  pub not_innermost : (rest : ℕ) → (depth_named t h ≡ 0 → ⊥) → (depth_named t h ≡ live t → ⊥) → 6 ≡ ask_innermost_in t h rest
+  not_innermost rest q ne = sym (ask_go _ 5 _ (lt-ltb 0 (depth_named t h) (omega (arith, q))) ∙ ask_stop _ 6 _ (ne_eqb _ _ ne))
 
-  pub is-innermost : (rest : ℕ) → (depth_named t h ≡ 0 → ⊥) → depth_named t h ≡ live t → rest ≡ ask_innermost_in t h rest
-  is-innermost rest q e = sym (ask_go _ 5 _ (lt-ltb 0 (depth_named t h) (omega (arith, q))) ∙ ask_go _ 6 _ (eq-eqb _ _ e))
+  pub is_innermost_lem : (rest : ℕ) → (depth_named t h ≡ 0 → ⊥) → depth_named t h ≡ live t → rest ≡ ask_innermost_in t h rest
+  is_innermost_lem rest q e = sym (ask_go _ 5 _ (lt-ltb 0 (depth_named t h) (omega (arith, q))) ∙ ask_go _ 6 _ (eq-eqb _ _ e))
 
   -- the two by themselves, and then the rest
-  pub innermost-no : (r rest : ℕ) → r ≡ ask_innermost_in t h 0 → (r ≡ 0 → ⊥) → r ≡ ask_innermost_in t h rest
-  innermost-no r rest e ne =
+  pub innermost_no : (r rest : ℕ) → r ≡ ask_innermost_in t h 0 → (r ≡ 0 → ⊥) → r ≡ ask_innermost_in t h rest
+  innermost_no r rest e ne =
       e ∙ sym (or_else_stop _ rest (λ z. ne (e ∙ z))) ∙ sym (two_asked (ltb 0 (depth_named t h)) (eqb (depth_named t h) (live t)) rest)
 
-  pub innermost-then : (r rest : ℕ) → r ≡ ask_innermost_in t h 0 → r ≡ 0 → rest ≡ ask_innermost_in t h rest
-  innermost-then r rest e z =
+  pub innermost_then : (r rest : ℕ) → r ≡ ask_innermost_in t h 0 → r ≡ 0 → rest ≡ ask_innermost_in t h rest
+  innermost_then r rest e z =
       sym (or_else_go _ rest (sym e ∙ z)) ∙ sym (two_asked (ltb 0 (depth_named t h)) (eqb (depth_named t h) (live t)) rest)
 
   -- what they tell
-  pub innermost-named : (r : ℕ) → r ≡ ask_innermost_in t h 0 → r ≡ 0 → (depth_named t h ≡ live t) × (1 ≤ live t)
-  innermost-named r e z =
+  pub innermost_named : (r : ℕ) → r ≡ ask_innermost_in t h 0 → r ≡ 0 → (depth_named t h ≡ live t) × (1 ≤ live t)
+  innermost_named r e z =
       let lives = ltb-true 0 (depth_named t h) (ask_yes (ltb 0 (depth_named t h)) 5 _ (omega arith) (sym e ∙ z)) in
       let inner = eqb-true (depth_named t h) (live t) (ask_yes (eqb (depth_named t h) (live t)) 6 0 (omega arith) (ask_rest (ltb 0 (depth_named t h)) 5 _ (omega arith) (sym e ∙ z))) in
       (inner, omega (arith, lives, inner))
@@ -50,11 +50,11 @@ module _ (t : List ℕ) (h : ℕ) where
 -- ---- 8
 
 module _ (m base n : ℕ) where
-  pub range-over : m < n → false ≡ range_ok m base n
-  range-over h = by_bool (leb 1 n) (λ p. rw (p, lt-leb (base + n) m (omega arith))) (λ p. rw p)
+  pub range_over : m < n → false ≡ range_ok m base n
+  range_over h = by_bool (leb 1 n) (λ p. rw (p, lt-leb (base + n) m (omega arith))) (λ p. rw p)
 
-  pub range-within : n ≤ m → (leb 1 n && leb base (m - n)) ≡ range_ok m base n
-  range-within h =
+  pub range_within : n ≤ m → (leb 1 n && leb base (m - n)) ≡ range_ok m base n
+  range_within h =
       by_le (base + n) m
       (λ l. rw (le-leb (base + n) m l, le-leb base (m - n) (omega arith)))
       (λ l. rw (lt-leb (base + n) m l, lt-leb base (m - n) (omega arith)))

@@ -10,7 +10,7 @@ use lib.ListN.{length, get_or, take, length-map}
 use lib.Seq.{take_all}
 use Rattle.words.specs.Stores.{Store, ◌≔◌, store, stores}
 use Rattle.words.proofs.Scan.{by_le}
-use Rattle.words.proofs.Plans.{run-take-suc, take_map}
+use Rattle.words.proofs.Plans.{run_take_suc, take_map}
 use Rattle.model.specs.Answer.{Report, done, refused, ended}
 use Rattle.store.specs.Outcome.{Buffers, buffers, Step, in_table, step, steps, Call, refuse, perform, unless, leaves, outcome}
 
@@ -41,7 +41,7 @@ one_store (refuse n) k b = inl refl
 one_store (perform plan h) k b =
     by_le (length plan) k
     (λ l. inl (rw (take_all (suc k) plan (omega arith), take_all k plan l)))
-    (λ l. inr (get_or plan k (in_table (0 ≔ 0)), run-take-suc step k plan b (in_table (0 ≔ 0)) l))
+    (λ l. inr (get_or plan k (in_table (0 ≔ 0)), run_take_suc step k plan b (in_table (0 ≔ 0)) l))
 
 -- ---- plans of one buffer
 

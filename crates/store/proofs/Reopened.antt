@@ -15,11 +15,11 @@ use Rattle.words.specs.Stores.{Store, ◌≔◌, store, stores}
 use Rattle.words.specs.Journal.{pending, pairs, names_ok, open_plan, pair_plans, journal, journaled, openings}
 use Rattle.words.proofs.Scan.{by_le}
 use Rattle.words.proofs.Places.{pending_at_below}
-use Rattle.words.proofs.Plans.{length_stores, stores_none, run-take-append}
+use Rattle.words.proofs.Plans.{length_stores, stores_none, run_take_append}
 use Rattle.words.proofs.Pairs.{length_pair_plans, length_journaled, journal_some, journal_none, pairs_same, read_back}
 use Rattle.words.proofs.Journal as law
 use Rattle.table.specs.Rule.{pairs_ok}
-use Rattle.table.proofs.Pairs.{pairs-few, pairs-names}
+use Rattle.table.proofs.Pairs.{pairs_few, pairs_names}
 use Rattle.model.specs.Answer.{is_done, is_stopped, done, ended, steps_of}
 use Rattle.model.proofs.Told.{Finished}
 use Rattle.store.specs.Outcome.{Buffers, buffers, Call, perform, unless, change_plan, Outcome, outcome, leaves}
@@ -27,10 +27,10 @@ use Rattle.store.specs.Checks.{open_check, store_check, lent_of}
 use Rattle.store.specs.State.{slots}
 use Rattle.store.specs.Calls.{open_call, after_openings, opening_after}
 use Rattle.store.specs.Means.{Reopens}
-use Rattle.store.proofs.Checks.{store-idle, store-opens, open-shape, open-table, table-pairs, shape-lengths}
+use Rattle.store.proofs.Checks.{store_idle, store_opens, open_shape, open_table, table_pairs, shape_lengths}
 use Rattle.store.proofs.Outcome.{table_after}
-use Rattle.store.proofs.Cuts.{opening-opens}
-use Rattle.store.proofs.Means.{by_check, long, t-long, open_none}
+use Rattle.store.proofs.Cuts.{opening_opens}
+use Rattle.store.proofs.Means.{by_check, long, t_long, open_none}
 use Rattle.store.proofs.Standing.{Opens}
 use Rattle.store.proofs.Changes.{change_length, change_steps}
 
@@ -63,8 +63,8 @@ opened_done j b fine d =
 still_opens : (k : ℕ) (b : Buffers) → Opens b → Opens (outcome (open_call b) k b).buffers
 still_opens k b fine =
     let t : List ℕ = b.table in
-    let exact = long (length b.memory) (length b.bodies) t (shape-lengths (length b.memory) (length b.bodies) t (open-shape (length b.memory) (length b.bodies) t fine)) in
-    subst (λ (o : Outcome). Opens o.buffers) (sym (opened_at k b fine)) (opening-opens (length b.memory) (length b.bodies) t exact fine k)
+    let exact = long (length b.memory) (length b.bodies) t (shape_lengths (length b.memory) (length b.bodies) t (open_shape (length b.memory) (length b.bodies) t fine)) in
+    subst (λ (o : Outcome). Opens o.buffers) (sym (opened_at k b fine)) (opening_opens (length b.memory) (length b.bodies) t exact fine k)
 
 openings_leave : (ks : List ℕ) (b : Buffers) → Opens b
     → (after_openings ks b ≡ buffers b.memory b.bodies (openings (pairs_at (slots b)) ks b.table)) × Opens (after_openings ks b)
@@ -125,10 +125,10 @@ module _ (c : Call) (b : Buffers) (s : Shaped c b) (good : store_check (lent_of 
   first = pairs_at (slots_of (length b.table))
 
   idle : pending b.table ≡ 0
-  idle = store-idle (length b.memory) (length b.bodies) b.table good
+  idle = store_idle (length b.memory) (length b.bodies) b.table good
 
   exact : length b.table ≡ table_words (slots_of (length b.table))
-  exact = t-long b.memory b.bodies b.table good
+  exact = t_long b.memory b.bodies b.table good
 
   left_at : (k : ℕ) → (outcome c k b).buffers ≡ buffers (s.memory_at k) (s.bodies_at k) (stores (take (k - s.bytes) (journal (pairs_at (slots b)) s.ws)) b.table)
   left_at k = ap (λ (o : Outcome). o.buffers) (s.leaves_at k)
@@ -156,7 +156,7 @@ module _ (c : Call) (b : Buffers) (s : Shaped c b) (good : store_check (lent_of 
         let one : 2 * length s.ws + 1 - length (pair_plans first s.ws) ≡ 1 = rw length_pair_plans (omega arith) in
         table_at (s.bytes + (2 * length s.ws + 1))
         ∙ ap (λ (x : ℕ). stores (take x (journaled first s.ws)) b.table) z
-        ∙ run-take-append store (2 * length s.ws + 1) (pair_plans first s.ws) ((pending_at ≔ length s.ws) ∷ (s.ws ++ (pending_at ≔ 0) ∷ [])) b.table
+        ∙ run_take_append store (2 * length s.ws + 1) (pair_plans first s.ws) ((pending_at ≔ length s.ws) ∷ (s.ws ++ (pending_at ≔ 0) ∷ [])) b.table
         ∙ rw (one, take_all (2 * length s.ws + 1) (pair_plans first s.ws) (rw length_pair_plans (omega arith)))
 
     length6 : length (law.published (pairs_at (slots b)) s.ws b.table) ≡ length b.table
@@ -172,12 +172,12 @@ module _ (c : Call) (b : Buffers) (s : Shaped c b) (good : store_check (lent_of 
     right6 =
         let k : ℕ = s.bytes + (2 * length s.ws + 1) in
         let o : Buffers = (outcome c k b).buffers in
-        let found = table-pairs (length o.memory) (length o.bodies) o.table (open-table (length o.memory) (length o.bodies) o.table (every k)) in
+        let found = table_pairs (length o.memory) (length o.bodies) o.table (open_table (length o.memory) (length o.bodies) o.table (every k)) in
         subst (λ (x : ℕ). pairs_ok (slots_of x) (law.published first s.ws b.table) ≡ true) length6
         (subst (λ (u : List ℕ). pairs_ok (slots_of (length u)) u ≡ true) is6 found)
 
     few : length s.ws ≤ max_pairs (slots_of (length b.table))
-    few = let l = pairs-few (slots_of (length b.table)) at6 right6 in omega (arith, pending6)
+    few = let l = pairs_few (slots_of (length b.table)) at6 right6 in omega (arith, pending6)
 
     room : pairs_at (slots_of (length b.table)) + 2 * length s.ws ≤ length b.table
     room = omega (arith, exact, few)
@@ -192,7 +192,7 @@ module _ (c : Call) (b : Buffers) (s : Shaped c b) (good : store_check (lent_of 
         (λ i h. get_or-set_other (law.written first s.ws b.table) pending_at i (length s.ws) 0 (omega arith))
         ∙ read_back s.ws first b.table room in
         subst (λ (ws : List Store). names_ok first 0 ws ≡ true) (ap (λ (x : ℕ). pairs at6 first x) pending6 ∙ same)
-        (pairs-names (slots_of (length b.table)) at6 right6)
+        (pairs_names (slots_of (length b.table)) at6 right6)
 
     -- so a cut that leaves pairs pending came after the store of word 6
     late : (k : ℕ) → 0 < pending (outcome c k b).buffers.table → s.bytes + 2 * length s.ws < k
@@ -200,7 +200,7 @@ module _ (c : Call) (b : Buffers) (s : Shaped c b) (good : store_check (lent_of 
         by_le k (s.bytes + 2 * length s.ws)
         (λ l.
         let none : pending (outcome c k b).buffers.table ≡ 0 =
-        ap (λ (u : List ℕ). pending u) (table_at k) ∙ law.cut-idle first s.ws b.table front room idle pos names (k - s.bytes) (omega arith) in
+        ap (λ (u : List ℕ). pending u) (table_at k) ∙ law.cut_idle first s.ws b.table front room idle pos names (k - s.bytes) (omega arith) in
         absurd (omega arith))
         (λ l. l)
 
@@ -243,10 +243,10 @@ module _ (c : Call) (b : Buffers) (s : Shaped c b) (good : store_check (lent_of 
         ∙ ap (λ (x : Buffers). buffers x.memory x.bodies (stores (open_plan (pairs_at (slots x)) x.table) x.table)) now
         ∙ ap (λ (x : ℕ). buffers (s.memory_at s.bytes) (s.bodies_at s.bytes) (stores (open_plan x u) u)) long-u
         ∙ ap (λ (x : List ℕ). buffers (s.memory_at s.bytes) (s.bodies_at s.bytes) x)
-        (law.cut-openings-again first s.ws b.table front room idle pos names (k - s.bytes) ks (omega arith))
+        (law.cut_openings_again first s.ws b.table front room idle pos names (k - s.bytes) ks (omega arith))
 
-  pub shape-reopens : Reopens c b
-  shape-reopens = record {
+  pub shape_reopens : Reopens c b
+  shape_reopens = record {
     not_made = λ k j ks z. openings_none j ks (outcome c k b).buffers (every k) z;
     made = λ k full j ks waits d e.
         by_le (length s.ws) 0
@@ -260,10 +260,10 @@ module _ (c : Call) (b : Buffers) (s : Shaped c b) (good : store_check (lent_of 
 pub unless_reopens : (b : Buffers) → store_check (lent_of b) ≡ 0 → (q : ℕ) (c : Call) → (q ≡ 0 → Reopens c b) → Reopens (unless q c) b
 unfolding outcome
 unless_reopens b good q c go =
-    let idle = store-idle (length b.memory) (length b.bodies) b.table good in
+    let idle = store_idle (length b.memory) (length b.bodies) b.table good in
     by_check (λ x. (x ≡ 0 → Reopens c b) → Reopens (unless x c) b) q
     (λ n e g. record {
-      not_made = λ k j ks z. openings_none j ks b (store-opens (length b.memory) (length b.bodies) b.table good) idle;
+      not_made = λ k j ks z. openings_none j ks b (store_opens (length b.memory) (length b.bodies) b.table good) idle;
       made = λ k full j ks waits d f. absurd (omega arith);
     })
     (λ e g. g refl)

@@ -16,8 +16,8 @@ use Rattle.model.specs.State.{State}
 use Rattle.store.specs.Outcome.{Buffers, buffers}
 use Rattle.store.specs.Checks.{open_check, lent_of}
 use Rattle.store.specs.State.{StandsFor, state_in, state_of, standing, slots, effective_table}
-use Rattle.store.proofs.Checks.{open-table, table-rule}
-use Rattle.store.proofs.State.{stands, only, state-kept}
+use Rattle.store.proofs.Checks.{open_table, table_rule}
+use Rattle.store.proofs.State.{stands, only, state_kept}
 use Rattle.store.proofs.Cuts.{stands_open}
 
 -- ---- exactly one state
@@ -39,27 +39,27 @@ standing_opens b s e =
 
 module _ (b : Buffers) (opens : Opens b) where
   pub right : Rule (cells_of (length b.memory)) (slots b) (bodies_of (length b.bodies)) (effective_table b)
-  right = table-rule (length b.memory) (length b.bodies) b.table (open-table (length b.memory) (length b.bodies) b.table opens)
+  right = table_rule (length b.memory) (length b.bodies) b.table (open_table (length b.memory) (length b.bodies) b.table opens)
 
-  pub stands-for : StandsFor (slots b) (effective_table b) b.bodies (state_of b)
+  pub stands_for : StandsFor (slots b) (effective_table b) b.bodies (state_of b)
   unfolding state_of
-  stands-for = stands (cells_of (length b.memory)) (slots b) (bodies_of (length b.bodies)) (effective_table b) right b.bodies
+  stands_for = stands (cells_of (length b.memory)) (slots b) (bodies_of (length b.bodies)) (effective_table b) right b.bodies
 
-  pub only-state : (s : State) → StandsFor (slots b) (effective_table b) b.bodies s → s ≡ state_of b
+  pub only_state : (s : State) → StandsFor (slots b) (effective_table b) b.bodies s → s ≡ state_of b
   unfolding state_of
-  only-state = only (cells_of (length b.memory)) (slots b) (bodies_of (length b.bodies)) (effective_table b) right b.bodies
+  only_state = only (cells_of (length b.memory)) (slots b) (bodies_of (length b.bodies)) (effective_table b) right b.bodies
 
-  pub is-standing : standing b ≡ some (state_of b)
+  pub is_standing : standing b ≡ some (state_of b)
   unfolding state_of
-  is-standing = stands_open b.memory b.bodies b.table opens
+  is_standing = stands_open b.memory b.bodies b.table opens
 
   -- free bodies do not matter: any bodies in which the bodies in use have the same bytes stand for the same state
-  pub free-bodies : (new : List ℕ)
+  pub free_bodies : (new : List ℕ)
       → ((i : ℕ) → Copy (slots b) (effective_table b) i → cell_bytes new (word2 (slots b) (effective_table b) i) ≡ cell_bytes b.bodies (word2 (slots b) (effective_table b) i))
       → state_of (buffers b.memory new b.table) ≡ state_of b
   unfolding state_of
-  free-bodies new same =
-      state-kept (cells_of (length b.memory)) (slots b) (bodies_of (length b.bodies)) (effective_table b) (effective_table b) b.bodies new right
+  free_bodies new same =
+      state_kept (cells_of (length b.memory)) (slots b) (bodies_of (length b.bodies)) (effective_table b) (effective_table b) b.bodies new right
       (λ i l. refl) (λ i c. refl) same refl refl (λ k l. refl)
 
 -- nothing but the effective table and the bodies is read

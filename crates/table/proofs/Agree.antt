@@ -29,47 +29,47 @@ abbrev pub Same : ℕ → List ℕ → List ℕ → Type 0
 Same n s t = (k : ℕ) → k < n → (k ≡ pending_at → ⊥) → get_or s k 0 ≡ get_or t k 0
 
 module _ (m e b : ℕ) (s t : List ℕ) (h : Same (pairs_at e) s t) where
-  find-agree : (d c : ℕ) → find_in e s d c ≡ find_in e t d c
+  find_agree : (d c : ℕ) → find_in e s d c ≡ find_in e t d c
   unfolding find_in
-  find-agree d c = first_ext e _ _ (λ k l. ap (names d c) (h (first_at e k) (omega arith) (λ z. omega arith)))
+  find_agree d c = first_ext e _ _ (λ k l. ap (names d c) (h (first_at e k) (omega arith) (λ z. omega arith)))
 
-  handle-agree : (k : ℕ) → k < max_live → handle_ok s k ≡ handle_ok t k
+  handle_agree : (k : ℕ) → k < max_live → handle_ok s k ≡ handle_ok t k
   unfolding handle_ok
-  handle-agree k l = rw (h live_at (omega arith) (λ z. omega arith), h next_at (omega arith) (λ z. omega arith), h (handle_at k) (omega arith) (λ z. omega arith), h (handle_at (k - 1)) (omega arith) (λ z. omega arith))
+  handle_agree k l = rw (h live_at (omega arith) (λ z. omega arith), h next_at (omega arith) (λ z. omega arith), h (handle_at k) (omega arith) (λ z. omega arith), h (handle_at (k - 1)) (omega arith) (λ z. omega arith))
 
-  entry-agree : (i : ℕ) → i < e → entry_ok m e b s i ≡ entry_ok m e b t i
+  entry_agree : (i : ℕ) → i < e → entry_ok m e b s i ≡ entry_ok m e b t i
   unfolding entry_ok
-  entry-agree i l = rw (h live_at (omega arith) (λ z. omega arith), h (first_at e i) (omega arith) (λ z. omega arith), h (second_at e i) (omega arith) (λ z. omega arith))
+  entry_agree i l = rw (h live_at (omega arith) (λ z. omega arith), h (first_at e i) (omega arith) (λ z. omega arith), h (second_at e i) (omega arith) (λ z. omega arith))
 
-  plain-agree : (d c : ℕ) → holds_plain e s d c ≡ holds_plain e t d c
+  plain_agree : (d c : ℕ) → holds_plain e s d c ≡ holds_plain e t d c
   unfolding holds_in
-  plain-agree d c =
+  plain_agree d c =
       by_bool (ltb (find_in e t d c) e)
       (λ p.
       let l = ltb-true (find_in e t d c) e p in
-      rw (find-agree d c, p, h (first_at e (find_in e t d c)) (omega (arith, l)) (λ z. omega arith)))
-      (λ p. rw (find-agree d c, p))
+      rw (find_agree d c, p, h (first_at e (find_in e t d c)) (omega (arith, l)) (λ z. omega arith)))
+      (λ p. rw (find_agree d c, p))
 
-  parent-agree : (i : ℕ) → i < e → parent_ok e s i ≡ parent_ok e t i
+  parent_agree : (i : ℕ) → i < e → parent_ok e s i ≡ parent_ok e t i
   unfolding parent_ok
-  parent-agree i l = rw (h (first_at e i) (omega arith) (λ z. omega arith), plain-agree (parent (depth_of (word1 e t i))) (cell_of (word1 e t i)))
+  parent_agree i l = rw (h (first_at e i) (omega arith) (λ z. omega arith), plain_agree (parent (depth_of (word1 e t i))) (cell_of (word1 e t i)))
 
-  apart-agree : (i j : ℕ) → i < e → j < i → apart e s j i ≡ apart e t j i
+  apart_agree : (i j : ℕ) → i < e → j < i → apart e s j i ≡ apart e t j i
   unfolding apart
-  apart-agree i j l k =
+  apart_agree i j l k =
       rw (h (first_at e i) (omega arith) (λ z. omega arith), h (first_at e j) (omega arith) (λ z. omega arith), h (second_at e i) (omega arith) (λ z. omega arith), h (second_at e j) (omega arith) (λ z. omega arith))
 
-  pub rule-same : rule_ok m e b s ≡ rule_ok m e b t
+  pub rule_same : rule_ok m e b s ≡ rule_ok m e b t
   unfolding rule_ok head_ok
-  rule-same =
+  rule_same =
       rw (
         h live_at (omega arith) (λ z. omega arith),
         h next_at (omega arith) (λ z. omega arith),
-        all_ext max_live (handle_ok s) (handle_ok t) handle-agree,
-        all_ext e (entry_ok m e b s) (entry_ok m e b t) entry-agree,
-        all_ext e (parent_ok e s) (parent_ok e t) parent-agree,
-        all_ext e (apart_before e s) (apart_before e t) (λ i l. all_ext i (λ (j : ℕ). apart e s j i) (λ (j : ℕ). apart e t j i) (λ j k. apart-agree i j l k)),
+        all_ext max_live (handle_ok s) (handle_ok t) handle_agree,
+        all_ext e (entry_ok m e b s) (entry_ok m e b t) entry_agree,
+        all_ext e (parent_ok e s) (parent_ok e t) parent_agree,
+        all_ext e (apart_before e s) (apart_before e t) (λ i l. all_ext i (λ (j : ℕ). apart e s j i) (λ (j : ℕ). apart e t j i) (λ j k. apart_agree i j l k)),
       )
 
 pub ok_agree : (m e b : ℕ) (s t : List ℕ) → Agree (pairs_at e) s t → rule_ok m e b s ≡ rule_ok m e b t
-ok_agree m e b s t h = rule-same m e b s t (λ k l z. h k l)
+ok_agree m e b s t h = rule_same m e b s t (λ k l z. h k l)

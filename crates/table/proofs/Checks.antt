@@ -30,9 +30,9 @@ within n most len exact h =
     (leb-true 1 n b.0, leb-true n most b.1, eqb-true len exact s.1)
 
 module _ (m b t : ℕ) where
-  pub lengths-facts : lengths_ok m b t ≡ true → Lengths m b t
+  pub lengths_facts : lengths_ok m b t ≡ true → Lengths m b t
   unfolding lengths_ok
-  lengths-facts h =
+  lengths_facts h =
       let s = and_split _ _ h in
       let r = and_split _ _ s.1 in
       let x = within (cells_of m) max_cells m (cell_at (cells_of m)) s.0 in
@@ -59,13 +59,13 @@ pub record Header (m b : ℕ) (t : List ℕ) : Type 0 where
   pub zero : get_or t zero_at 0 ≡ 0
 
 module _ (m b : ℕ) (t : List ℕ) where
-  pub header-make : Header m b t → header_ok m b t ≡ true
+  pub header_make : Header m b t → header_ok m b t ≡ true
   unfolding header_ok
-  header-make h =
+  header_make h =
       and_join _ _ (eq-eqb _ _ h.magic)
       (and_join _ _ (eq-eqb _ _ h.cells) (and_join _ _ (eq-eqb _ _ h.slots) (and_join _ _ (eq-eqb _ _ h.bodies) (eq-eqb _ _ h.zero))))
 
   -- a table whose word 0 is cleared is no store
-  pub header-none : get_or t magic_at 0 ≡ 0 → header_ok m b t ≡ false
+  pub header_none : get_or t magic_at 0 ≡ 0 → header_ok m b t ≡ false
   unfolding header_ok
-  header-none z = rw z
+  header_none z = rw z

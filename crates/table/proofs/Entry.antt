@@ -35,49 +35,49 @@ read_only w =
     (λ z. let q = eqb-false (writable_of w) 1 z in rw (z, eq-eqb (writable_of w) 0 (omega (arith, q))))
 
 module _ (e : ℕ) (t : List ℕ) (d c : ℕ) where
-  pub names-both : (w : ℕ) → names d c w ≡ true → (depth_of w ≡ d) × (cell_of w ≡ c)
-  names-both w h = let s = and_split (eqb (depth_of w) d) (eqb (cell_of w) c) h in (eqb-true _ _ s.0, eqb-true _ _ s.1)
+  pub names_both : (w : ℕ) → names d c w ≡ true → (depth_of w ≡ d) × (cell_of w ≡ c)
+  names_both w h = let s = and_split (eqb (depth_of w) d) (eqb (cell_of w) c) h in (eqb-true _ _ s.0, eqb-true _ _ s.1)
 
   pub names_make : (w : ℕ) → depth_of w ≡ d → cell_of w ≡ c → names d c w ≡ true
   names_make w p q = and_join _ _ (eq-eqb _ _ p) (eq-eqb _ _ q)
 
-  pub find-hit : find_in e t d c < e → (depth_of (word1 e t (find_in e t d c)) ≡ d) × (cell_of (word1 e t (find_in e t d c)) ≡ c)
+  pub find_hit : find_in e t d c < e → (depth_of (word1 e t (find_in e t d c)) ≡ d) × (cell_of (word1 e t (find_in e t d c)) ≡ c)
   unfolding find_in
-  find-hit h = names-both _ (first_hit e (λ i. names d c (word1 e t i)) h)
+  find_hit h = names_both _ (first_hit e (λ i. names d c (word1 e t i)) h)
 
-  pub find-miss : (j : ℕ) → j < find_in e t d c → names d c (word1 e t j) ≡ false
+  pub find_miss : (j : ℕ) → j < find_in e t d c → names d c (word1 e t j) ≡ false
   unfolding find_in
-  find-miss j h = first_miss e (λ i. names d c (word1 e t i)) j h
+  find_miss j h = first_miss e (λ i. names d c (word1 e t i)) j h
 
-  pub find-some : (j : ℕ) → j < e → depth_of (word1 e t j) ≡ d → cell_of (word1 e t j) ≡ c → find_in e t d c ≤ j
-  find-some j l p q = not_above (find_in e t d c) j (λ h. true≢ (names_make _ p q) (find-miss j h))
+  pub find_some : (j : ℕ) → j < e → depth_of (word1 e t j) ≡ d → cell_of (word1 e t j) ≡ c → find_in e t d c ≤ j
+  find_some j l p q = not_above (find_in e t d c) j (λ h. true≢ (names_make _ p q) (find_miss j h))
 
   pub find_none : ((j : ℕ) → j < e → depth_of (word1 e t j) ≡ d → cell_of (word1 e t j) ≡ c → ⊥) → find_in e t d c ≡ e
   unfolding find_in
   find_none h =
       first_at_lem e (λ i. names d c (word1 e t i)) e (omega arith)
-      (λ j l. is_false (names d c (word1 e t j)) (λ p. let n = names-both _ p in h j l n.0 n.1))
+      (λ j l. is_false (names d c (word1 e t j)) (λ p. let n = names_both _ p in h j l n.0 n.1))
       (λ l. absurd (not_lt e e l (omega arith)))
 
   pub find_at : (i : ℕ) → i ≤ e → ((j : ℕ) → j < i → names d c (word1 e t j) ≡ false) → (i < e → names d c (word1 e t i) ≡ true) → find_in e t d c ≡ i
   unfolding find_in
   find_at i l h k = first_at_lem e (λ i. names d c (word1 e t i)) i l h k
 
-  pub holds-true : find_in e t d c < e → holds_in e t d c ≡ true
+  pub holds_true : find_in e t d c < e → holds_in e t d c ≡ true
   unfolding holds_in
-  holds-true h = lt-ltb _ _ h
+  holds_true h = lt-ltb _ _ h
 
-  pub holds-false : e ≤ find_in e t d c → holds_in e t d c ≡ false
+  pub holds_false : e ≤ find_in e t d c → holds_in e t d c ≡ false
   unfolding holds_in
-  holds-false h = le-ltb _ _ h
+  holds_false h = le-ltb _ _ h
 
-  pub holds-found : holds_in e t d c ≡ true → find_in e t d c < e
+  pub holds_found : holds_in e t d c ≡ true → find_in e t d c < e
   unfolding holds_in
-  holds-found h = ltb-true _ _ h
+  holds_found h = ltb-true _ _ h
 
-  pub holds-none : holds_in e t d c ≡ false → e ≤ find_in e t d c
+  pub holds_none : holds_in e t d c ≡ false → e ≤ find_in e t d c
   unfolding holds_in
-  holds-none h = ltb-false _ _ h
+  holds_none h = ltb-false _ _ h
 
 -- the search reads the first words alone
 pub find_ext : (e : ℕ) (t u : List ℕ) (d c : ℕ) → ((k : ℕ) → k < e → names d c (word1 e u k) ≡ names d c (word1 e t k)) → find_in e u d c ≡ find_in e t d c

@@ -32,18 +32,18 @@ entry_made d (suc (suc k)) l c label small = record { depth = omega arith; label
 
 module _ (w : ℕ) where
   -- as it is
-  pub same-made : Made w (depth_of w) (writable_of w) (via_of w) (pattern_of w) (unused_of w) (cell_of w)
-  same-made = record { depth = refl; label = refl; kind = refl; rule = refl; rest = refl; cell = refl }
+  pub same_made : Made w (depth_of w) (writable_of w) (via_of w) (pattern_of w) (unused_of w) (cell_of w)
+  same_made = record { depth = refl; label = refl; kind = refl; rule = refl; rest = refl; cell = refl }
 
-  pub writable-made : writable_of w ≡ 0 → Made (writable w) (depth_of w) 1 (via_of w) (pattern_of w) (unused_of w) (cell_of w)
-  writable-made low = record { depth = omega arith; label = omega arith; kind = omega arith; rule = omega arith; rest = omega arith; cell = omega arith }
+  pub writable_made : writable_of w ≡ 0 → Made (writable w) (depth_of w) 1 (via_of w) (pattern_of w) (unused_of w) (cell_of w)
+  writable_made low = record { depth = omega arith; label = omega arith; kind = omega arith; rule = omega arith; rest = omega arith; cell = omega arith }
 
-  pub outward-made : 1 ≤ depth_of w → Made (outward w) (parent (depth_of w)) (writable_of w) (via_of w) (pattern_of w) (unused_of w) (cell_of w)
-  outward-made deep = record { depth = omega arith; label = omega arith; kind = omega arith; rule = omega arith; rest = omega arith; cell = omega arith }
+  pub outward_made : 1 ≤ depth_of w → Made (outward w) (parent (depth_of w)) (writable_of w) (via_of w) (pattern_of w) (unused_of w) (cell_of w)
+  outward_made deep = record { depth = omega arith; label = omega arith; kind = omega arith; rule = omega arith; rest = omega arith; cell = omega arith }
 
-  copy-above : as_copy w / 134_217_728 ≡ w / 134_217_728
-  copy-above = omega arith
+  copy_above : as_copy w / 134_217_728 ≡ w / 134_217_728
+  copy_above = omega arith
 
-  pub copy-made : Made (as_copy w) (depth_of w) (writable_of w) 0 0 (unused_of w) (cell_of w)
-  copy-made =
-      record { depth = omega arith; label = ap (λ (x : ℕ). x % 2) copy-above; kind = omega arith; rule = omega arith; rest = omega arith; cell = omega arith }
+  pub copy_made : Made (as_copy w) (depth_of w) (writable_of w) 0 0 (unused_of w) (cell_of w)
+  copy_made =
+      record { depth = omega arith; label = ap (λ (x : ℕ). x % 2) copy_above; kind = omega arith; rule = omega arith; rest = omega arith; cell = omega arith }

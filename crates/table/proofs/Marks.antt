@@ -19,25 +19,25 @@ use Rattle.marks.specs.Blocks.{mark_of, with_depth, block_at, Enough, OneMark}
 use Rattle.table.specs.Marks.{Reached, RoomForMarks, Marks, Distinct, zeros, has, cell_in, mark_at, MarkedAmong, OnceAmong, PlainBelow, Marked, CellsOnce, ViaInner, parent_told, IsCopy, mark_body, body_fits}
 use Rattle.marks.proofs.Digits.{has_here, has_other}
 use Rattle.marks.proofs.Blocks.{zeros_length, blank_zeros}
-use Rattle.table.proofs.Entry.{find-some, find-hit, holds-true, holds-found}
+use Rattle.table.proofs.Entry.{find_some, find_hit, holds_true, holds_found}
 
 pub split : {C : Type 0} (n j : ℕ) → j < n + 1 → (j ≡ n → C) → (j < n → C) → C
 split n j l f g = ⊎_elim f g (eq-or-lt_of_le (le_of_suc-le-suc (subst (λ (m : ℕ). j < m) (add-one n) l)))
 
 -- ---- any marks
 module _ (Wanted : ℕ → Type 0) (key : ℕ → ℕ) (tag : ℕ) where
-  pub marks-none : (s : List ℕ) → ((k : ℕ) → get_or s k 0 ≡ tag → ⊥) → Marks Wanted key tag 0 s
-  marks-none s z = record { clear = λ k e j l. absurd (not-suc-le-zero l); found = λ k h. absurd (z k h) }
+  pub marks_none : (s : List ℕ) → ((k : ℕ) → get_or s k 0 ≡ tag → ⊥) → Marks Wanted key tag 0 s
+  marks_none s z = record { clear = λ k e j l. absurd (not-suc-le-zero l); found = λ k h. absurd (z k h) }
 
-  pub marks-skip : (n : ℕ) (s : List ℕ) → (Wanted n → ⊥) → Marks Wanted key tag n s → Marks Wanted key tag (n + 1) s
-  marks-skip n s other m =
+  pub marks_skip : (n : ℕ) (s : List ℕ) → (Wanted n → ⊥) → Marks Wanted key tag n s → Marks Wanted key tag (n + 1) s
+  marks_skip n s other m =
       record {
         clear = λ k e j l u q. split n j l (λ p. other (subst Wanted p u)) (λ p. m.clear k e j p u q);
         found = λ k h. let f = m.found k h in (f.0, omega arith, f.2, f.3);
       }
 
-  pub marks-more : (n : ℕ) (s : List ℕ) → Wanted n → key n < length s → Marks Wanted key tag n s → Marks Wanted key tag (n + 1) (set s (key n) tag)
-  marks-more n s un fits m =
+  pub marks_more : (n : ℕ) (s : List ℕ) → Wanted n → key n < length s → Marks Wanted key tag n s → Marks Wanted key tag (n + 1) (set s (key n) tag)
+  marks_more n s un fits m =
       record {
         clear = λ k e j l u q.
             by_bool (eqb k (key n))
@@ -70,33 +70,33 @@ pub marked_holds : (e : ℕ) (t seen : List ℕ) → Marked e t e seen → (d c 
 unfolding holds_in
 marked_holds e t seen m d c low =
     by_bool (has d (mark_of seen c))
-    (λ h. let f = m.found d c h in h ∙ sym (lt-ltb (find_in e t d c) e (omega (arith, find-some e t d c f.0 f.1 f.2 f.3, f.1))))
+    (λ h. let f = m.found d c h in h ∙ sym (lt-ltb (find_in e t d c) e (omega (arith, find_some e t d c f.0 f.1 f.2 f.3, f.1))))
     (λ h.
     h
     ∙ sym (is_false (ltb (find_in e t d c) e) (λ y.
     let f = ltb-true (find_in e t d c) e y in
-    let q = find-hit e t d c f in
+    let q = find_hit e t d c f in
     m.clear d c low h (find_in e t d c) f q.0 q.1)))
 
 -- ---- the marks of some entries' cells
 module _ (e : ℕ) (t : List ℕ) where
   -- the same entries, named otherwise
   module _ (Among Others : ℕ → Type 0) (to : (j : ℕ) → Among j → Others j) (from : (j : ℕ) → Others j → Among j) where
-    pub marked-same : (s : List ℕ) → MarkedAmong e t Among s → MarkedAmong e t Others s
-    marked-same s m =
+    pub marked_same : (s : List ℕ) → MarkedAmong e t Among s → MarkedAmong e t Others s
+    marked_same s m =
         record {
           clear = λ d k low h j l q r. m.clear d k low h j (from j l) q r;
           found = λ d k h. let f = m.found d k h in (f.0, to f.0 f.1, f.2, f.3);
         }
 
-    pub once-same : OnceAmong e t Among → OnceAmong e t Others
-    once-same once i l j k = once i (from i l) j (from j k)
+    pub once_same : OnceAmong e t Among → OnceAmong e t Others
+    once_same once i l j k = once i (from i l) j (from j k)
 
   -- one entry more
   module _ (Among More : ℕ → Type 0) (n : ℕ) (s : List ℕ) (m : MarkedAmong e t Among s) where
     -- it does not fit
-    pub once-not : (Among n → ⊥) → ((j : ℕ) → Among j → j < e) → n < e → 1 ≤ depth_of (word1 e t n) → has (depth_of (word1 e t n)) (mark_at s (word1 e t n)) ≡ true → CellsOnce e t e → ⊥
-    once-not other low l deep h once =
+    pub once_not : (Among n → ⊥) → ((j : ℕ) → Among j → j < e) → n < e → 1 ≤ depth_of (word1 e t n) → has (depth_of (word1 e t n)) (mark_at s (word1 e t n)) ≡ true → CellsOnce e t e → ⊥
+    once_not other low l deep h once =
         let f = m.found (depth_of (word1 e t n)) (cell_in e t n) h in
         by_le n f.0
         (λ far.
@@ -112,25 +112,25 @@ module _ (e : ℕ) (t : List ℕ) where
       apart_from j k low q r = m.clear (depth_of (word1 e t n)) (cell_in e t n) low free j k q r
 
       -- of two entries, each this one or one of the others
-      once-pair : OnceAmong e t Among → (i j : ℕ) → (i ≡ n) ⊎ Among i → (j ≡ n) ⊎ Among j → j < i → 1 ≤ depth_of (word1 e t i)
+      once_pair : OnceAmong e t Among → (i j : ℕ) → (i ≡ n) ⊎ Among i → (j ≡ n) ⊎ Among j → j < i → 1 ≤ depth_of (word1 e t i)
           → depth_of (word1 e t j) ≡ depth_of (word1 e t i) → cell_in e t j ≡ cell_in e t i → ⊥
-      once-pair once i j (inl p) (inl p') less low q r = omega (arith, p, p', less)
-      once-pair once i j (inl p) (inr k) less low q r =
+      once_pair once i j (inl p) (inl p') less low q r = omega (arith, p, p', less)
+      once_pair once i j (inl p) (inr k) less low q r =
           apart_from j k (rw p at low) (q ∙ ap (λ (x : ℕ). depth_of (word1 e t x)) p) (r ∙ ap (cell_in e t) p)
-      once-pair once i j (inr l) (inl p) less low q r =
+      once_pair once i j (inr l) (inl p) less low q r =
           let same : depth_of (word1 e t i) ≡ depth_of (word1 e t n) = sym q ∙ ap (λ (x : ℕ). depth_of (word1 e t x)) p in
           apart_from i l (rw same at low) same (sym r ∙ ap (cell_in e t) p)
-      once-pair once i j (inr l) (inr k) less low q r = once i l j k less low q r
+      once_pair once i j (inr l) (inr k) less low q r = once i l j k less low q r
 
       pub once_more : OnceAmong e t Among → OnceAmong e t More
-      once_more once i l j k = once-pair once i j (grow i l) (grow j k)
+      once_more once i l j k = once_pair once i j (grow i l) (grow j k)
 
       module _ (after : List ℕ) (one : OneMark s (cell_in e t n) (with_depth (depth_of (word1 e t n)) (mark_at s (word1 e t n))) after) where
-        mark-here : 1 ≤ depth_of (word1 e t n) → has (depth_of (word1 e t n)) (mark_of after (cell_in e t n)) ≡ true
-        mark-here low = rw (one (cell_in e t n), eq-eqb (cell_in e t n) (cell_in e t n) refl) (has_here _ _ low free)
+        mark_here : 1 ≤ depth_of (word1 e t n) → has (depth_of (word1 e t n)) (mark_of after (cell_in e t n)) ≡ true
+        mark_here low = rw (one (cell_in e t n), eq-eqb (cell_in e t n) (cell_in e t n) refl) (has_here _ _ low free)
 
-        mark-other : (d k : ℕ) → (d ≡ depth_of (word1 e t n) → k ≡ cell_in e t n → ⊥) → has d (mark_of after k) ≡ has d (mark_of s k)
-        mark-other d k other =
+        mark_other : (d k : ℕ) → (d ≡ depth_of (word1 e t n) → k ≡ cell_in e t n → ⊥) → has d (mark_of after k) ≡ has d (mark_of s k)
+        mark_other d k other =
             by_bool (eqb k (cell_in e t n))
             (λ b.
             let q = eqb-true k (cell_in e t n) b in
@@ -140,8 +140,8 @@ module _ (e : ℕ) (t : List ℕ) where
             (λ b. rw (one k, b))
 
         -- is a depth and a cell this entry's?
-        here-or : {C : Type 0} (d k : ℕ) → (d ≡ depth_of (word1 e t n) → k ≡ cell_in e t n → C) → ((d ≡ depth_of (word1 e t n) → k ≡ cell_in e t n → ⊥) → C) → C
-        here-or d k f g =
+        here_or : {C : Type 0} (d k : ℕ) → (d ≡ depth_of (word1 e t n) → k ≡ cell_in e t n → C) → ((d ≡ depth_of (word1 e t n) → k ≡ cell_in e t n → ⊥) → C) → C
+        here_or d k f g =
             by_bool (eqb d (depth_of (word1 e t n)))
             (λ a. by_bool (eqb k (cell_in e t n)) (λ b. f (eqb-true _ _ a) (eqb-true _ _ b)) (λ b. g (λ p q. eqb-false _ _ b q)))
             (λ a. g (λ p q. eqb-false _ _ a p))
@@ -150,48 +150,48 @@ module _ (e : ℕ) (t : List ℕ) where
         marked_more =
             record {
               clear = λ d k low h j l q r.
-                  here-or d k
-                  (λ a b. true≢ (rw (a, b) (mark-here (rw a at low))) h)
+                  here_or d k
+                  (λ a b. true≢ (rw (a, b) (mark_here (rw a at low))) h)
                   (λ other.
                   ⊎_elim
                   (λ p. other (sym q ∙ ap (λ (x : ℕ). depth_of (word1 e t x)) p) (sym r ∙ ap (cell_in e t) p))
-                  (λ p. m.clear d k low (sym (mark-other d k other) ∙ h) j p q r) (grow j l));
+                  (λ p. m.clear d k low (sym (mark_other d k other) ∙ h) j p q r) (grow j l));
               found = λ d k h.
-                  here-or d k
+                  here_or d k
                   (λ a b. (n, here, sym a, sym b))
-                  (λ other. let f = m.found d k (sym (mark-other d k other) ∙ h) in (f.0, kept f.0 f.1, f.2, f.3));
+                  (λ other. let f = m.found d k (sym (mark_other d k other) ∙ h) in (f.0, kept f.0 f.1, f.2, f.3));
             }
 
   -- the entries that follow no rule are marked: the parent's mark tells whether it holds the cell by copy or via parent
   module _ (s : List ℕ) (m : MarkedAmong e t (PlainBelow e t e) s) (once : CellsOnce e t e) where
-    plain-there : (d c : ℕ) → 1 ≤ d → has d (mark_of s c) ≡ true → holds_plain e t d c ≡ true
-    plain-there d c low h =
+    plain_there : (d c : ℕ) → 1 ≤ d → has d (mark_of s c) ≡ true → holds_plain e t d c ≡ true
+    plain_there d c low h =
         let f = m.found d c h in
         let i = f.0 in
-        let le = find-some e t d c i f.1.0 f.2 f.3 in
-        let hit = find-hit e t d c (omega (arith, le, f.1.0)) in
+        let le = find_some e t d c i f.1.0 f.2 f.3 in
+        let hit = find_hit e t d c (omega (arith, le, f.1.0)) in
         let q : find_in e t d c ≡ i =
         by_bool (eqb (find_in e t d c) i) (λ z. eqb-true _ _ z)
         (λ z. absurd (once i f.1.0 (find_in e t d c) (omega (arith, le, eqb-false (find_in e t d c) i z)) (rw f.2 low) (hit.0 ∙ sym f.2) (hit.1 ∙ sym f.3))) in
-        and_join _ _ (holds-true e t d c (omega (arith, le, f.1.0))) (rw q (eq-eqb _ _ f.1.1))
+        and_join _ _ (holds_true e t d c (omega (arith, le, f.1.0))) (rw q (eq-eqb _ _ f.1.1))
 
-    plain-missing : (d c : ℕ) → 1 ≤ d → has d (mark_of s c) ≡ false → holds_plain e t d c ≡ false
-    plain-missing d c low h =
+    plain_missing : (d c : ℕ) → 1 ≤ d → has d (mark_of s c) ≡ false → holds_plain e t d c ≡ false
+    plain_missing d c low h =
         is_false (holds_plain e t d c) (λ ok.
         let both = and_split (holds_in e t d c) _ ok in
-        let f = holds-found e t d c both.0 in
-        let q = find-hit e t d c f in
+        let f = holds_found e t d c both.0 in
+        let q = find_hit e t d c f in
         m.clear d c low h (find_in e t d c) (f, eqb-true _ _ both.1) q.0 q.1)
 
-    pub plain-told : (d c : ℕ) → 1 ≤ d → has d (mark_of s c) ≡ holds_plain e t d c
-    plain-told d c low = by_bool (has d (mark_of s c)) (λ h. h ∙ sym (plain-there d c low h)) (λ h. h ∙ sym (plain-missing d c low h))
+    pub plain_told : (d c : ℕ) → 1 ≤ d → has d (mark_of s c) ≡ holds_plain e t d c
+    plain_told d c low = by_bool (has d (mark_of s c)) (λ h. h ∙ sym (plain_there d c low h)) (λ h. h ∙ sym (plain_missing d c low h))
 
     pub parent_told_lem : ViaInner e t → (i : ℕ) → i < e → parent_told (word1 e t i) s ≡ parent_ok e t i
     unfolding parent_ok
     parent_told_lem inner i l =
         by_bool (eqb (via_of (word1 e t i)) 0)
         (λ b. rw b)
-        (λ b. let two = inner i l (eqb-false _ _ b) in rw b (plain-told (parent (depth_of (word1 e t i))) (cell_in e t i) (omega arith)))
+        (λ b. let two = inner i l (eqb-false _ _ b) in rw b (plain_told (parent (depth_of (word1 e t i))) (cell_in e t i) (omega arith)))
 
 -- ---- the pass over the bodies
 
@@ -209,20 +209,20 @@ pub owns_not : (w : ℕ) → is_pattern w ≡ true → owns_body w ≡ false
 owns_not w p = let q = eqb-true (pattern_of w) 1 p in is_false (owns_body w) (λ h. omega (arith, q, (owns_facts w h).2))
 
 module _ (e : ℕ) (t : List ℕ) (n : ℕ) (s : List ℕ) (m : Marks (IsCopy e t) (word2 e t) 1 n s) where
-  pub bodies-more : (IsCopy e t n → word2 e t n < length s) → Marks (IsCopy e t) (word2 e t) 1 (n + 1) (mark_body (word1 e t n) (word2 e t n) s)
+  pub bodies_more : (IsCopy e t n → word2 e t n < length s) → Marks (IsCopy e t) (word2 e t) 1 (n + 1) (mark_body (word1 e t n) (word2 e t n) s)
   unfolding mark_body
-  bodies-more fits =
+  bodies_more fits =
       by_bool (owns_body (word1 e t n))
-      (λ b. rw b (marks-more (IsCopy e t) (word2 e t) 1 n s b (fits b) m))
-      (λ b. rw b (marks-skip (IsCopy e t) (word2 e t) 1 n s (λ u. true≢ u b) m))
+      (λ b. rw b (marks_more (IsCopy e t) (word2 e t) 1 n s b (fits b) m))
+      (λ b. rw b (marks_skip (IsCopy e t) (word2 e t) 1 n s (λ u. true≢ u b) m))
 
-  body-fresh : IsCopy e t n → body_fits (word1 e t n) (word2 e t n) s ≡ true → get_or s (word2 e t n) 0 ≡ 1 → ⊥
+  body_fresh : IsCopy e t n → body_fits (word1 e t n) (word2 e t n) s ≡ true → get_or s (word2 e t n) 0 ≡ 1 → ⊥
   unfolding body_fits
-  body-fresh u h = eqb-false _ _ (not-true _ (rw u at h))
+  body_fresh u h = eqb-false _ _ (not-true _ (rw u at h))
 
-  body-taken : body_fits (word1 e t n) (word2 e t n) s ≡ false → IsCopy e t n × (get_or s (word2 e t n) 0 ≡ 1)
+  body_taken : body_fits (word1 e t n) (word2 e t n) s ≡ false → IsCopy e t n × (get_or s (word2 e t n) 0 ≡ 1)
   unfolding body_fits
-  body-taken h =
+  body_taken h =
       by_bool (owns_body (word1 e t n))
       (λ b. (b, eqb-true _ _ (not-false _ (rw b at h))))
       (λ b. absurd (true≢ refl (rw b at h)))
@@ -234,12 +234,12 @@ module _ (e : ℕ) (t : List ℕ) (n : ℕ) (s : List ℕ) (m : Marks (IsCopy e 
   single_more x l yes-so-far not-so-far = (
     (λ h.
         let b = and_split (body_fits (word1 e t n) (word2 e t n) s) x h in
-        distinct_more (IsCopy e t) (word2 e t) n (yes-so-far b.1) (λ j k un uj q. m.clear (word2 e t n) (body-fresh un b.0) j k uj q)),
+        distinct_more (IsCopy e t) (word2 e t) n (yes-so-far b.1) (λ j k un uj q. m.clear (word2 e t n) (body_fresh un b.0) j k uj q)),
     (λ h d.
         by_bool (body_fits (word1 e t n) (word2 e t n) s)
         (λ b. not-so-far (ap (λ (y : Bool). y && x) (sym b) ∙ h) d)
         (λ b.
-        let u = body-taken b in
+        let u = body_taken b in
         let f = m.found (word2 e t n) u.1 in
         d n l f.0 f.1 u.0 f.2 f.3)),
   )
@@ -256,12 +256,12 @@ module _ (t : List ℕ) (m n : ℕ) (reach : Reached t n) where
         reached = reach;
       }
 
-  pub room-few : Enough 64 n m → RoomForMarks t m n (zeros 6272) (zeros 4096)
-  room-few few = room_in 64 few 6272 (omega arith)
+  pub room_few : Enough 64 n m → RoomForMarks t m n (zeros 6272) (zeros 4096)
+  room_few few = room_in 64 few 6272 (omega arith)
 
-  pub room-some : Enough 256 n m → RoomForMarks t m n (zeros 18560) (zeros 4096)
-  room-some few = room_in 256 few 18560 (omega arith)
+  pub room_some : Enough 256 n m → RoomForMarks t m n (zeros 18560) (zeros 4096)
+  room_some few = room_in 256 few 18560 (omega arith)
 
   -- no memory has more groups
-  pub room-many : RoomForMarks t m n (zeros 67712) (zeros 4096)
-  room-many = room_in 1024 (omega arith) 67712 (omega arith)
+  pub room_many : RoomForMarks t m n (zeros 67712) (zeros 4096)
+  room_many = room_in 1024 (omega arith) 67712 (omega arith)

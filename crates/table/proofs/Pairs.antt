@@ -12,11 +12,11 @@ use Rattle.words.specs.Layout.{pending_at, pairs_at, max_pairs}
 use Rattle.words.specs.Stores.{Store, ◌≔◌, store, stores}
 use Rattle.words.specs.Journal.{pair_at, pairs, pending, name_ok, names_ok, effective}
 use Rattle.words.proofs.Scan.{and_split, and_join}
-use Rattle.words.proofs.Plans.{getD-tab, take-tab, each_at, length_stores, run-take-tab}
+use Rattle.words.proofs.Plans.{get_or_tab, take_tab, each_at, length_stores, run_take_tab}
 use Rattle.words.proofs.Names.{name_fine, names_each}
 use Rattle.words.proofs.Pairs.{length_pairs}
 use Rattle.table.specs.Rule.{pairs_ok, rule_ok, table_ok}
-use Rattle.table.proofs.Agree.{Agree, agree_set, Same, rule-same}
+use Rattle.table.proofs.Agree.{Agree, agree_set, Same, rule_same}
 
 pub and_yes : (a b : Bool) → a ≡ true → (a && b) ≡ b
 and_yes a b e = rw e
@@ -34,17 +34,17 @@ module _ (e : ℕ) (t : List ℕ) (ok : pairs_ok e t ≡ true) where
   unfolding pairs_ok
   halves = let s = and_split (leb (pending t) (max_pairs e)) _ ok in (leb-true _ _ s.0, s.1)
 
-  pub pairs-few : pending t ≤ max_pairs e
-  pairs-few = halves.0
+  pub pairs_few : pending t ≤ max_pairs e
+  pairs_few = halves.0
 
-  pub pairs-names : names_ok (pairs_at e) 0 (pairs t (pairs_at e) (pending t)) ≡ true
-  pairs-names = halves.1
+  pub pairs_names : names_ok (pairs_at e) 0 (pairs t (pairs_at e) (pending t)) ≡ true
+  pairs_names = halves.1
 
-  pub pairs-fine : (j : ℕ) → j < pending t → (get_or t (pairs_at e + 2 * j) 0 < pairs_at e) × (get_or t (pairs_at e + 2 * j) 0 ≡ pending_at → ⊥)
+  pub pairs_fine : (j : ℕ) → j < pending t → (get_or t (pairs_at e + 2 * j) 0 < pairs_at e) × (get_or t (pairs_at e + 2 * j) 0 ≡ pending_at → ⊥)
   unfolding pairs
-  pairs-fine j h =
+  pairs_fine j h =
       name_fine (pairs_at e) (get_or t (pairs_at e + 2 * j) 0) (omega arith)
-      (subst (λ (s : Store). name_ok (pairs_at e) s.at ≡ true) (getD-tab (pair_at t (pairs_at e)) (pending t) j (0 ≔ 0) h)
+      (subst (λ (s : Store). name_ok (pairs_at e) s.at ≡ true) (get_or_tab (pair_at t (pairs_at e)) (pending t) j (0 ≔ 0) h)
       (each_at (λ s. name_ok (pairs_at e) s.at ≡ true) (pairs t (pairs_at e) (pending t)) j (0 ≔ 0) (names_each (pairs_at e) 0 (pairs t (pairs_at e) (pending t)) halves.1) (rw length_pairs h)))
 
 -- ---- putting the pairs in place, one by one
@@ -53,21 +53,21 @@ module _ (t : List ℕ) (first : ℕ) where
   unfolding pairs
   put_none l = refl
 
-  put-more : (j : ℕ) (l : List ℕ) → stores (pairs t first (j + 1)) l ≡ store (pair_at t first j) (stores (pairs t first j) l)
+  put_more : (j : ℕ) (l : List ℕ) → stores (pairs t first (j + 1)) l ≡ store (pair_at t first j) (stores (pairs t first j) l)
   unfolding pairs
-  put-more j l =
+  put_more j l =
       let whole : take (j + 1) (pairs t first (j + 1)) ≡ pairs t first (j + 1) = take_all (j + 1) (pairs t first (j + 1)) (rw length_pairs (omega arith)) in
-      let part : take j (pairs t first (j + 1)) ≡ pairs t first j = take-tab (pair_at t first) (j + 1) j (omega arith) in
+      let part : take j (pairs t first (j + 1)) ≡ pairs t first j = take_tab (pair_at t first) (j + 1) j (omega arith) in
       ap (λ (ps : List Store). stores ps l) (sym whole)
-      ∙ sym (run-take-tab store j (j + 1) (pair_at t first) l (omega arith))
+      ∙ sym (run_take_tab store j (j + 1) (pair_at t first) l (omega arith))
       ∙ ap (λ (ps : List Store). store (pair_at t first j) (stores ps l)) part
 
   -- a copy of the words in front of the pairs, after one pair more
-  pub put-agree : (j : ℕ) (s : List ℕ) → get_or t (first + 2 * j) 0 < first → first ≤ length s → first ≤ length t
+  pub put_agree : (j : ℕ) (s : List ℕ) → get_or t (first + 2 * j) 0 < first → first ≤ length s → first ≤ length t
       → Agree first s (stores (pairs t first j) t) → Agree first (set s (get_or t (first + 2 * j) 0) (get_or t (first + 2 * j + 1) 0)) (stores (pairs t first (j + 1)) t)
-  put-agree j s below ls lt h k l =
+  put_agree j s below ls lt h k l =
       agree_set first (get_or t (first + 2 * j) 0) (get_or t (first + 2 * j + 1) 0) s (stores (pairs t first j) t) (omega arith) (omega (arith, length_stores (pairs t first j) t)) h k l
-      ∙ ap (λ (x : List ℕ). get_or x k 0) (sym (put-more j t))
+      ∙ ap (λ (x : List ℕ). get_or x k 0) (sym (put_more j t))
 
 -- ---- the effective table
 pub effective_same : (first : ℕ) (t : List ℕ) → Same first (effective first t) (stores (pairs t first (pending t)) t)
@@ -87,4 +87,4 @@ idle_pairs e t h = pairs_make e t (omega (arith, h)) (rw h)
 
 pub idle_rule : (m e b : ℕ) (t : List ℕ) → pending t ≡ 0 → table_ok m e b t ≡ rule_ok m e b t
 unfolding table_ok
-idle_rule m e b t h = and_yes _ _ (idle_pairs e t h) ∙ rule-same m e b (effective (pairs_at e) t) t (idle_same (pairs_at e) t h)
+idle_rule m e b t h = and_yes _ _ (idle_pairs e t h) ∙ rule_same m e b (effective (pairs_at e) t) t (idle_same (pairs_at e) t h)

@@ -23,18 +23,18 @@ and_false false = refl
 
 -- ---- is it right?
 module _ (b w v : ℕ) where
-  pub kind-via : pattern_of w ≡ 0 → (via_of w ≡ 0 → ⊥) → kind_ok b w v ≡ (eqb v 0 && leb 2 (depth_of w))
-  kind-via p z = rw (ne_eqb _ _ z, eq-eqb _ _ p, and_true (leb 2 (depth_of w)))
+  pub kind_via : pattern_of w ≡ 0 → (via_of w ≡ 0 → ⊥) → kind_ok b w v ≡ (eqb v 0 && leb 2 (depth_of w))
+  kind_via p z = rw (ne_eqb _ _ z, eq-eqb _ _ p, and_true (leb 2 (depth_of w)))
 
-  pub kind-copy : pattern_of w ≡ 0 → via_of w ≡ 0 → kind_ok b w v ≡ ltb v b
-  kind-copy p z = rw (eq-eqb _ _ z, pattern_none w p)
+  pub kind_copy : pattern_of w ≡ 0 → via_of w ≡ 0 → kind_ok b w v ≡ ltb v b
+  kind_copy p z = rw (eq-eqb _ _ z, pattern_none w p)
 
-  pub kind-rule : is_pattern w ≡ true → via_of w ≡ 0 → kind_ok b w v ≡ leb v max_rule
-  kind-rule p z = rw (eq-eqb _ _ z, p)
+  pub kind_rule : is_pattern w ≡ true → via_of w ≡ 0 → kind_ok b w v ≡ leb v max_rule
+  kind_rule p z = rw (eq-eqb _ _ z, p)
 
   -- both bits of the kind
-  pub kind-both : is_pattern w ≡ true → (via_of w ≡ 0 → ⊥) → kind_ok b w v ≡ false
-  kind-both p z =
+  pub kind_both : is_pattern w ≡ true → (via_of w ≡ 0 → ⊥) → kind_ok b w v ≡ false
+  kind_both p z =
       let q = pattern_one w p in
       rw (ne_eqb _ _ z, ne_eqb (pattern_of w) 0 (λ y. omega (arith, q, y)), and_false (leb 2 (depth_of w)), and_false (eqb v 0))
 

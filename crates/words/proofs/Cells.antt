@@ -14,7 +14,7 @@ use Rattle.words.specs.Layout.{cell_at}
 use Rattle.words.specs.Stores.{tab, Store, ◌≔◌, stores}
 use Rattle.words.specs.Cells.{cell_bytes, same_cell, copy_plan, cell_plan}
 use Rattle.words.proofs.Scan.{all_at}
-use Rattle.words.proofs.Plans.{shift, stores_part, each_take, each-tab, take_map, map_tab_from, tab_below, Each, each_map, length_stores, get_or_stores}
+use Rattle.words.proofs.Plans.{shift, stores_part, each_take, each_tab, take_map, map_tab_from, tab_below, Each, each_map, length_stores, get_or_stores}
 
 -- a cell that lies in its buffer has 64 bytes
 pub cell_bytes_length : (s : List ℕ) (c : ℕ) → cell_at c + 64 ≤ length s → length (cell_bytes s c) ≡ 64
@@ -68,5 +68,5 @@ copy_part s d y from to k e =
     map_tab_from (shift a) plan 0 64
     ∙ tab_below (λ j. shift a (plan j)) (λ j. 64 * to + j ≔ get_or s (64 * from + j) 0) 64 (λ j l. rw (get_or-take (64 * from + 64 - 64 * from) (drop (64 * from) s) j 0 (omega arith), get_or-drop)) in
     ap (put_mid a n d) e
-    ∙ stores_part a n d (take k (tab 64 plan)) (each_take (λ s. s.at < n) k (tab 64 plan) (each-tab (λ s. s.at < n) plan 64 (λ j l. omega arith)))
+    ∙ stores_part a n d (take k (tab 64 plan)) (each_take (λ s. s.at < n) k (tab 64 plan) (each_tab (λ s. s.at < n) plan 64 (λ j l. omega arith)))
     ∙ rw (← take_map, same)

@@ -15,8 +15,8 @@ use Rattle.words.specs.Scan.{count}
 use Rattle.words.specs.Stores.{Store, ◌≔◌, store, stores, tab, gather}
 use Rattle.words.specs.Cells.{cell_bytes, cell_plan}
 use Rattle.words.proofs.Scan.{by_bool, by_le}
-use Rattle.words.proofs.Plans.{Each, each-tab, tab-last, length_stores, length_cell_plan, run-append}
-use Rattle.words.proofs.Gather.{each-gather}
+use Rattle.words.proofs.Plans.{Each, each_tab, tab_last, length_stores, length_cell_plan, run_append}
+use Rattle.words.proofs.Gather.{each_gather}
 use Rattle.words.proofs.Cells.{cell_bytes_length, Outside, cell_kept}
 
 -- ---- one cell
@@ -27,8 +27,8 @@ tab_written a zero g d i l h = absurd (not-suc-le-zero l)
 tab_written a (suc n) g d i l h =
     let u : List ℕ = stores (tab n (λ j. a + j ≔ g j)) d in
     let long : length u ≡ length d = length_stores (tab n (λ j. a + j ≔ g j)) d in
-    ap (λ (ps : List Store). get_or (stores ps d) (a + i) 0) (tab-last (λ j. a + j ≔ g j) n)
-    ∙ ap (λ (x : List ℕ). get_or x (a + i) 0) (run-append store (tab n (λ j. a + j ≔ g j)) ((a + n ≔ g n) ∷ []) d)
+    ap (λ (ps : List Store). get_or (stores ps d) (a + i) 0) (tab_last (λ j. a + j ≔ g j) n)
+    ∙ ap (λ (x : List ℕ). get_or x (a + i) 0) (run_append store (tab n (λ j. a + j ≔ g j)) ((a + n ≔ g n) ∷ []) d)
     ∙ by_bool (eqb i n)
     (λ q. subst (λ (x : ℕ). get_or (store (a + n ≔ g n) u) (a + x) 0 ≡ g x) (sym (eqb-true i n q)) (get_or-set_same u (a + n) (g n) 0 (omega arith)))
     (λ q.
@@ -56,7 +56,7 @@ cell_copied s d from to ls ld =
 plan_outside : (s : List ℕ) (from to x : ℕ) → (x ≡ to → ⊥) → Each (Outside x) (cell_plan s from to)
 unfolding cell_plan
 plan_outside s from to x ne =
-    each-tab (Outside x) (λ j. cell_at to + j ≔ get_or s (cell_at from + j) 0) 64
+    each_tab (Outside x) (λ j. cell_at to + j ≔ get_or s (cell_at from + j) 0) 64
     (λ j l. by_le x to (λ h. inr (omega (arith, ne))) (λ h. inl (omega arith)))
 
 -- ---- many cells: of each number that `wants` one, the cell `from` of it into the body `to` of it
@@ -77,15 +77,15 @@ module _ (s : List ℕ) (wants : ℕ → Bool) (from to : ℕ → ℕ) where
   one_outside j x h = by_bool (wants j) (λ z. rw z (plan_outside s (from j) (to j) x (h z))) (λ z. rw z tt)
 
   -- a body that none gets is not written to
-  pub copies-outside : (n x : ℕ) → ((j : ℕ) → j < n → wants j ≡ true → x ≡ to j → ⊥) → Each (Outside x) (gather n copy_of)
-  copies-outside n x h = each-gather copy_of (Outside x) n (λ j l. one_outside j x (h j l))
+  pub copies_outside : (n x : ℕ) → ((j : ℕ) → j < n → wants j ≡ true → x ≡ to j → ⊥) → Each (Outside x) (gather n copy_of)
+  copies_outside n x h = each_gather copy_of (Outside x) n (λ j l. one_outside j x (h j l))
 
   -- and the body that one gets has its cell's bytes, where they get different bodies
   pub copies_stored : (n j : ℕ) (d : List ℕ) → j < n → wants j ≡ true → cell_at (from j) + 64 ≤ length s → cell_at (to j) + 64 ≤ length d
       → ((i : ℕ) → i < n → wants i ≡ true → to j ≡ to i → j ≡ i) → cell_bytes (stores (gather n copy_of) d) (to j) ≡ cell_bytes s (from j)
   copies_stored zero j d l here a b apart = absurd (not-suc-le-zero l)
   copies_stored (suc n) j d l here a b apart =
-      ap (λ (x : List ℕ). cell_bytes x (to j)) (run-append store (gather n copy_of) (copy_of n) d)
+      ap (λ (x : List ℕ). cell_bytes x (to j)) (run_append store (gather n copy_of) (copy_of n) d)
       ∙ by_bool (eqb j n)
       (λ z.
       let q = eqb-true j n z in

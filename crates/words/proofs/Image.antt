@@ -15,22 +15,22 @@ module _ (counted : ℕ → Bool) (key : ℕ → ℕ) where
   unfoldable pub meets : ℕ → ℕ → Bool
   meets n c = ltb (first n (λ i. counted i && eqb (key i) c)) n
 
-  pub meets-make : (n c i : ℕ) → i < n → counted i ≡ true → key i ≡ c → meets n c ≡ true
+  pub meets_make : (n c i : ℕ) → i < n → counted i ≡ true → key i ≡ c → meets n c ≡ true
   unfolding meets
-  meets-make n c i l u k =
+  meets_make n c i l u k =
       by_le n (first n (λ i. counted i && eqb (key i) c))
       (λ h. absurd (true≢ (and_join (counted i) (eqb (key i) c) u (eq-eqb (key i) c k)) (first_miss n (λ i. counted i && eqb (key i) c) i (omega arith))))
       (λ h. lt-ltb _ _ h)
 
-  pub meets-some : (n c : ℕ) → meets n c ≡ true → (i : ℕ) × (i < n) × (counted i ≡ true) × (key i ≡ c)
+  pub meets_some : (n c : ℕ) → meets n c ≡ true → (i : ℕ) × (i < n) × (counted i ≡ true) × (key i ≡ c)
   unfolding meets
-  meets-some n c h =
+  meets_some n c h =
       let l = ltb-true (first n (λ i. counted i && eqb (key i) c)) n h in
       let s = and_split (counted (first n (λ i. counted i && eqb (key i) c))) (eqb (key (first n (λ i. counted i && eqb (key i) c))) c) (first_hit n (λ i. counted i && eqb (key i) c) l) in
       (first n (λ i. counted i && eqb (key i) c), l, s.0, eqb-true _ _ s.1)
 
-  pub meets-none : (n c : ℕ) → ((i : ℕ) → i < n → counted i ≡ true → key i ≡ c → ⊥) → meets n c ≡ false
-  meets-none n c h = is_false (meets n c) (λ p. let s = meets-some n c p in h s.0 s.1 s.2 s.3)
+  pub meets_none : (n c : ℕ) → ((i : ℕ) → i < n → counted i ≡ true → key i ≡ c → ⊥) → meets n c ≡ false
+  meets_none n c h = is_false (meets n c) (λ p. let s = meets_some n c p in h s.0 s.1 s.2 s.3)
 
   module _ (m : ℕ) where
     -- the keys of the counted numbers below n differ and are below m
@@ -42,33 +42,33 @@ module _ (counted : ℕ → Bool) (key : ℕ → ℕ) where
     fewer n d = record { below = λ i l. d.below i (omega arith); apart = λ i j l. d.apart i j (omega arith) }
 
     -- one number more
-    same-without : (n c : ℕ) → counted n ≡ false → meets (suc n) c ≡ meets n c
-    same-without n c z =
+    same_without : (n c : ℕ) → counted n ≡ false → meets (suc n) c ≡ meets n c
+    same_without n c z =
         by_bool (meets n c)
-        (λ p. let s = meets-some n c p in meets-make (suc n) c s.0 (omega arith) s.2 s.3 ∙ sym p)
-        (λ p. meets-none (suc n) c (λ i l u k.
+        (λ p. let s = meets_some n c p in meets_make (suc n) c s.0 (omega arith) s.2 s.3 ∙ sym p)
+        (λ p. meets_none (suc n) c (λ i l u k.
         by_le n i
         (λ h. let q : i ≡ n = omega arith in true≢ u (ap counted q ∙ z))
-        (λ h. true≢ (meets-make n c i h u k) p)) ∙ sym p)
+        (λ h. true≢ (meets_make n c i h u k) p)) ∙ sym p)
 
-    same-other : (n c : ℕ) → (c ≡ key n → ⊥) → meets (suc n) c ≡ meets n c
-    same-other n c ne =
+    same_other : (n c : ℕ) → (c ≡ key n → ⊥) → meets (suc n) c ≡ meets n c
+    same_other n c ne =
         by_bool (meets n c)
-        (λ p. let s = meets-some n c p in meets-make (suc n) c s.0 (omega arith) s.2 s.3 ∙ sym p)
-        (λ p. meets-none (suc n) c (λ i l u k.
+        (λ p. let s = meets_some n c p in meets_make (suc n) c s.0 (omega arith) s.2 s.3 ∙ sym p)
+        (λ p. meets_none (suc n) c (λ i l u k.
         by_le n i
         (λ h. let q : i ≡ n = omega arith in ne (sym k ∙ ap key q))
-        (λ h. true≢ (meets-make n c i h u k) p)) ∙ sym p)
+        (λ h. true≢ (meets_make n c i h u k) p)) ∙ sym p)
 
-    pub count-image : (n : ℕ) → Distinctly n → count n counted ≡ count m (meets n)
+    pub count_image : (n : ℕ) → Distinctly n → count n counted ≡ count m (meets n)
     unfolding count
-    count-image zero d = sym (count_none m (meets 0) (λ k l. meets-none 0 k (λ i b. absurd (not-suc-le-zero b))))
-    count-image (suc n) d =
+    count_image zero d = sym (count_none m (meets 0) (λ k l. meets_none 0 k (λ i b. absurd (not-suc-le-zero b))))
+    count_image (suc n) d =
         by_bool (counted n)
         (λ u.
-        rw (u, count-image n (fewer n d))
+        rw (u, count_image n (fewer n d))
         (sym (count_flip m (meets n) (meets (suc n)) (key n) (d.below n (omega arith) u)
-        (meets-none n (key n) (λ i l ui k. d.apart n i (omega arith) l u ui k))
-        (meets-make (suc n) (key n) n (omega arith) u refl)
-        (λ j l ne. same-other n j ne))))
-        (λ z. rw (z, count-image n (fewer n d)) (count_ext m (meets n) (meets (suc n)) (λ k l. sym (same-without n k z))))
+        (meets_none n (key n) (λ i l ui k. d.apart n i (omega arith) l u ui k))
+        (meets_make (suc n) (key n) n (omega arith) u refl)
+        (λ j l ne. same_other n j ne))))
+        (λ z. rw (z, count_image n (fewer n d)) (count_ext m (meets n) (meets (suc n)) (λ k l. sym (same_without n k z))))

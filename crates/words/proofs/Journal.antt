@@ -12,13 +12,13 @@ use Rattle.words.specs.Layout.{pending_at}
 use Rattle.words.specs.Stores.{Store, ◌≔◌, store, stores}
 use Rattle.words.specs.Journal.{pairs, pending, names_ok, effective, apply_plan, open_plan, pair_plans, journaled, openings}
 use Rattle.words.proofs.Scan.{by_le}
-use Rattle.words.proofs.Plans.{Each, each_take, each_append, each_map, length_stores, get_or_stores, get_d_front, take_front, stores_set, take_stores, run-append, run-take-append}
+use Rattle.words.proofs.Plans.{Each, each_take, each_append, each_map, length_stores, get_or_stores, get_d_front, take_front, stores_set, take_stores, run_append, run_take_append}
 use Rattle.words.proofs.Pairs.{pairs_same, pair_plans_from, read_back}
 use Rattle.words.proofs.Phases.{journal_cut}
 -- what a call cites beside the laws below
 pub use Rattle.words.proofs.Pairs.{length_pair_plans, open_pending}
 pub use Rattle.words.proofs.Names.{names_fine, names_below, names_none}
-pub use Rattle.words.proofs.Opening.{effective_open, effective_idle, opening, opening-effective, opening-again, opening-names, opening-count, opening-stopped, opening-done, opening-kept, opening-length, openings_length, openings_again}
+pub use Rattle.words.proofs.Opening.{effective_open, effective_idle, opening, opening_effective, opening_again, opening_names, opening_count, opening_stopped, opening_done, opening_kept, opening_length, openings_length, openings_again}
 
 -- ---- the journal of some changes over an idle table
 
@@ -36,81 +36,81 @@ module _ (first : ℕ) (ws : List Store) (t : List ℕ) (front : pending_at < fi
   abbrev pub cut : ℕ → List ℕ
   cut k = stores (take k (journaled first ws)) t
 
-  pub cut-length : (k : ℕ) → length (cut k) ≡ length t
-  cut-length k = length_stores (take k (journaled first ws)) t
+  pub cut_length : (k : ℕ) → length (cut k) ≡ length t
+  cut_length k = length_stores (take k (journaled first ws)) t
 
   -- ---- up to the store of word 6: nothing is pending
 
-  pub cut-idle : (k : ℕ) → k ≤ 2 * length ws → pending (cut k) ≡ 0
-  cut-idle k h =
+  pub cut_idle : (k : ℕ) → k ≤ 2 * length ws → pending (cut k) ≡ 0
+  cut_idle k h =
       rw (← journal_cut first ws t k h)
       (get_d_front (take k (pair_plans first ws)) t first pending_at (each_take (λ s. first ≤ s.at) k (pair_plans first ws) (pair_plans_from first ws)) front
       ∙ idle)
 
-  pub cut-old : (k : ℕ) → k ≤ 2 * length ws → effective first (cut k) ≡ take first t
-  cut-old k h =
-      effective_idle first (cut k) (cut-idle k h)
+  pub cut_old : (k : ℕ) → k ≤ 2 * length ws → effective first (cut k) ≡ take first t
+  cut_old k h =
+      effective_idle first (cut k) (cut_idle k h)
       ∙ rw (← journal_cut first ws t k h)
       (take_front (take k (pair_plans first ws)) t first (each_take (λ s. first ≤ s.at) k (pair_plans first ws) (pair_plans_from first ws)))
 
   -- ---- from then on: a table whose pairs are pending, and its opening
 
-  written-length : length (written first ws t) ≡ length t
-  written-length = length_stores (pair_plans first ws) t
+  written_length : length (written first ws t) ≡ length t
+  written_length = length_stores (pair_plans first ws) t
 
-  published-length : length (published first ws t) ≡ length t
-  published-length = length-set (written first ws t) pending_at (length ws) ∙ written-length
+  published_length : length (published first ws t) ≡ length t
+  published_length = length-set (written first ws t) pending_at (length ws) ∙ written_length
 
-  published-pending : pending (published first ws t) ≡ length ws
-  published-pending = get_or-set_same (written first ws t) pending_at (length ws) 0 (rw written-length (omega arith))
+  published_pending : pending (published first ws t) ≡ length ws
+  published_pending = get_or-set_same (written first ws t) pending_at (length ws) 0 (rw written_length (omega arith))
 
-  published-pairs : pairs (published first ws t) first (length ws) ≡ ws
-  published-pairs =
+  published_pairs : pairs (published first ws t) first (length ws) ≡ ws
+  published_pairs =
       pairs_same (published first ws t) (written first ws t) first (length ws)
       (λ i h. get_or-set_other (written first ws t) pending_at i (length ws) 0 (omega arith))
       ∙ read_back ws first t room
 
-  published-room : first + 2 * pending (published first ws t) ≤ length (published first ws t)
-  published-room = rw (published-pending, published-length) room
+  published_room : first + 2 * pending (published first ws t) ≤ length (published first ws t)
+  published_room = rw (published_pending, published_length) room
 
-  published-names : names_ok first 0 (pairs (published first ws t) first (pending (published first ws t))) ≡ true
-  published-names = rw (published-pending, published-pairs) names
+  published_names : names_ok first 0 (pairs (published first ws t) first (pending (published first ws t))) ≡ true
+  published_names = rw (published_pending, published_pairs) names
 
-  published-plan : open_plan first (published first ws t) ≡ ws ++ (pending_at ≔ 0) ∷ []
+  published_plan : open_plan first (published first ws t) ≡ ws ++ (pending_at ≔ 0) ∷ []
   unfolding apply_plan
-  published-plan = open_pending first (length ws) (published first ws t) published-pending some ∙ rw published-pairs
+  published_plan = open_pending first (length ws) (published first ws t) published_pending some ∙ rw published_pairs
 
-  cut-late : (k : ℕ) → 2 * length ws < k
+  cut_late : (k : ℕ) → 2 * length ws < k
       → cut k ≡ stores (take (k - (2 * length ws + 1)) (open_plan first (published first ws t))) (published first ws t)
   unfolding journaled
-  cut-late k h =
+  cut_late k h =
       let m : ℕ = k - (2 * length ws + 1) in
       let z : k - length (pair_plans first ws) ≡ suc m = rw length_pair_plans (omega arith) in
-      run-take-append store k (pair_plans first ws) ((pending_at ≔ length ws) ∷ (ws ++ (pending_at ≔ 0) ∷ [])) t
-      ∙ rw (z, take_all k (pair_plans first ws) (rw length_pair_plans (omega arith)), published-plan)
+      run_take_append store k (pair_plans first ws) ((pending_at ≔ length ws) ∷ (ws ++ (pending_at ≔ 0) ∷ [])) t
+      ∙ rw (z, take_all k (pair_plans first ws) (rw length_pair_plans (omega arith)), published_plan)
 
   -- the whole journal is the pairs' opening
   whole_open : stores (open_plan first (published first ws t)) (published first ws t) ≡ stores (journaled first ws) t
   unfolding journaled
   whole_open =
-      ap (λ (l : List Store). stores l (published first ws t)) published-plan
-      ∙ sym (run-append store (pair_plans first ws) ((pending_at ≔ length ws) ∷ (ws ++ (pending_at ≔ 0) ∷ [])) t)
+      ap (λ (l : List Store). stores l (published first ws t)) published_plan
+      ∙ sym (run_append store (pair_plans first ws) ((pending_at ≔ length ws) ∷ (ws ++ (pending_at ≔ 0) ∷ [])) t)
 
-  pub cut-pending : (k : ℕ) → 2 * length ws < k → k ≤ 3 * length ws + 1 → pending (cut k) ≡ length ws
-  cut-pending k h l =
-      let m : k - (2 * length ws + 1) ≤ pending (published first ws t) = rw published-pending (omega arith) in
-      ap (λ (u : List ℕ). pending u) (cut-late k h)
-      ∙ opening-stopped first (published first ws t) front published-room published-names (k - (2 * length ws + 1)) m
-      ∙ published-pending
+  pub cut_pending : (k : ℕ) → 2 * length ws < k → k ≤ 3 * length ws + 1 → pending (cut k) ≡ length ws
+  cut_pending k h l =
+      let m : k - (2 * length ws + 1) ≤ pending (published first ws t) = rw published_pending (omega arith) in
+      ap (λ (u : List ℕ). pending u) (cut_late k h)
+      ∙ opening_stopped first (published first ws t) front published_room published_names (k - (2 * length ws + 1)) m
+      ∙ published_pending
 
   -- opening the cut table gives, word for word, the uncut call's table
-  pub cut-reopen : (k : ℕ) → 2 * length ws < k → stores (open_plan first (cut k)) (cut k) ≡ stores (journaled first ws) t
-  cut-reopen k h =
-      rw (cut-late k h) (opening-again first (published first ws t) front published-room published-names (k - (2 * length ws + 1)))
+  pub cut_reopen : (k : ℕ) → 2 * length ws < k → stores (open_plan first (cut k)) (cut k) ≡ stores (journaled first ws) t
+  cut_reopen k h =
+      rw (cut_late k h) (opening_again first (published first ws t) front published_room published_names (k - (2 * length ws + 1)))
       ∙ whole_open
 
-  pub cut-whole : pending (stores (journaled first ws) t) ≡ 0
-  cut-whole = rw (← whole_open) (opening-done first (published first ws t) front published-room published-names)
+  pub cut_whole : pending (stores (journaled first ws) t) ≡ 0
+  cut_whole = rw (← whole_open) (opening_done first (published first ws t) front published_room published_names)
 
   -- the whole journal leaves the pairs and the changes
   pub whole : stores (journaled first ws) t ≡ stores ws (written first ws t)
@@ -120,44 +120,44 @@ module _ (first : ℕ) (ws : List Store) (t : List ℕ) (front : pending_at < fi
       let w : List ℕ = written first ws t in
       let zero-then : pending w ≡ 0 = get_d_front (pair_plans first ws) t first pending_at (pair_plans_from first ws) front ∙ idle in
       sym whole_open
-      ∙ ap (λ (l : List Store). stores l (published first ws t)) published-plan
-      ∙ run-append store ws ((pending_at ≔ 0) ∷ []) (published first ws t)
+      ∙ ap (λ (l : List Store). stores l (published first ws t)) published_plan
+      ∙ run_append store ws ((pending_at ≔ 0) ∷ []) (published first ws t)
       ∙ ap (λ (l : List ℕ). set l pending_at 0) (stores_set ws w pending_at (length ws) others)
       ∙ set-set (stores ws w) pending_at (length ws) 0
       ∙ ap (set (stores ws w) pending_at) (sym (get_or_stores ws w pending_at (each_map (λ s. s.at ≡ pending_at → ⊥) (λ s. pending_at ≡ s.at → ⊥) ws (λ s f e. f (sym e)) others) ∙ zero-then))
       ∙ set-get_or (stores ws w) pending_at 0
 
   -- so it means the changed table
-  pub whole-new : take first (stores (journaled first ws) t) ≡ stores ws (take first t)
-  whole-new =
+  pub whole_new : take first (stores (journaled first ws) t) ≡ stores ws (take first t)
+  whole_new =
       ap (take first) whole
       ∙ take_stores ws (written first ws t) first (names_below first 0 ws front names)
       ∙ ap (stores ws) (take_front (pair_plans first ws) t first (pair_plans_from first ws))
 
-  pub cut-new : (k : ℕ) → 2 * length ws < k → effective first (cut k) ≡ stores ws (take first t)
-  cut-new k h = effective_open first (cut k) ∙ ap (take first) (cut-reopen k h) ∙ whole-new
+  pub cut_new : (k : ℕ) → 2 * length ws < k → effective first (cut k) ≡ stores ws (take first t)
+  cut_new k h = effective_open first (cut k) ∙ ap (take first) (cut_reopen k h) ∙ whole_new
 
   -- ---- at every cut
 
-  pub cut-names : (k : ℕ) → names_ok first 0 (pairs (cut k) first (pending (cut k))) ≡ true
-  cut-names k =
+  pub cut_names : (k : ℕ) → names_ok first 0 (pairs (cut k) first (pending (cut k))) ≡ true
+  cut_names k =
       by_le k (2 * length ws)
-      (λ h. names_none first (cut k) (cut-idle k h))
-      (λ h. rw (cut-late k h) (opening-names first (published first ws t) front published-room published-names (k - (2 * length ws + 1))))
+      (λ h. names_none first (cut k) (cut_idle k h))
+      (λ h. rw (cut_late k h) (opening_names first (published first ws t) front published_room published_names (k - (2 * length ws + 1))))
 
-  pub cut-count : (k : ℕ) → pending (cut k) ≤ length ws
-  cut-count k =
+  pub cut_count : (k : ℕ) → pending (cut k) ≤ length ws
+  cut_count k =
       by_le k (2 * length ws)
-      (λ h. rw (cut-idle k h) (omega arith))
+      (λ h. rw (cut_idle k h) (omega arith))
       (λ h.
-      rw (cut-late k h)
-      (subst (λ (n : ℕ). pending (stores (take (k - (2 * length ws + 1)) (open_plan first (published first ws t))) (published first ws t)) ≤ n) published-pending
-      (opening-count first (published first ws t) front published-room published-names (k - (2 * length ws + 1)))))
+      rw (cut_late k h)
+      (subst (λ (n : ℕ). pending (stores (take (k - (2 * length ws + 1)) (open_plan first (published first ws t))) (published first ws t)) ≤ n) published_pending
+      (opening_count first (published first ws t) front published_room published_names (k - (2 * length ws + 1)))))
 
   -- a word in front of the pairs, other than word 6, that no change names keeps its value
-  pub cut-kept : (k i : ℕ) → i < first → (i ≡ pending_at → ⊥) → Each (λ s. i ≡ s.at → ⊥) ws → get_or (cut k) i 0 ≡ get_or t i 0
+  pub cut_kept : (k i : ℕ) → i < first → (i ≡ pending_at → ⊥) → Each (λ s. i ≡ s.at → ⊥) ws → get_or (cut k) i 0 ≡ get_or t i 0
   unfolding journaled
-  cut-kept k i l n h =
+  cut_kept k i l n h =
       get_or_stores (take k (journaled first ws)) t i
       (each_take (λ s. i ≡ s.at → ⊥) k (journaled first ws)
       (each_append (λ s. i ≡ s.at → ⊥) (pair_plans first ws) ((pending_at ≔ length ws) ∷ (ws ++ (pending_at ≔ 0) ∷ []))
@@ -166,11 +166,11 @@ module _ (first : ℕ) (ws : List Store) (t : List ℕ) (front : pending_at < fi
 
   -- ---- after any number of stopped openings
 
-  pub cut-openings-again : (k : ℕ) (ks : List ℕ) → 2 * length ws < k
+  pub cut_openings_again : (k : ℕ) (ks : List ℕ) → 2 * length ws < k
       → stores (open_plan first (openings first ks (cut k))) (openings first ks (cut k)) ≡ stores (journaled first ws) t
-  cut-openings-again k ks h =
-      rw (cut-late k h) (openings_again first (published first ws t) front published-room published-names ((k - (2 * length ws + 1)) ∷ ks))
+  cut_openings_again k ks h =
+      rw (cut_late k h) (openings_again first (published first ws t) front published_room published_names ((k - (2 * length ws + 1)) ∷ ks))
       ∙ whole_open
 
-  pub cut-openings : (k : ℕ) (ks : List ℕ) → 2 * length ws < k → effective first (openings first ks (cut k)) ≡ stores ws (take first t)
-  cut-openings k ks h = effective_open first (openings first ks (cut k)) ∙ ap (take first) (cut-openings-again k ks h) ∙ whole-new
+  pub cut_openings : (k : ℕ) (ks : List ℕ) → 2 * length ws < k → effective first (openings first ks (cut k)) ≡ stores ws (take first t)
+  cut_openings k ks h = effective_open first (openings first ks (cut k)) ∙ ap (take first) (cut_openings_again k ks h) ∙ whole_new

@@ -13,7 +13,7 @@ use Rattle.words.specs.Layout.{pending_at, live_at, next_at, handle_at}
 use Rattle.words.specs.Stores.{Store, ◌≔◌}
 use Rattle.words.specs.Journal.{pairs, pair_at, pending, name_ok, names_ok}
 use Rattle.words.proofs.Scan.{by_bool, and_split, and_join}
-use Rattle.words.proofs.Plans.{Each, Rising, each_map, getD-tab}
+use Rattle.words.proofs.Plans.{Each, Rising, each_map, get_or_tab}
 use Rattle.words.proofs.Pairs.{length_pairs}
 
 -- ---- one name
@@ -106,7 +106,7 @@ pub names_step : (t : List ℕ) (first p j last : ℕ) → j < p
     ≡ (name_ok first (get_or t (first + 2 * j) 0) && (ltb last (get_or t (first + 2 * j) 0) && names_ok first (get_or t (first + 2 * j) 0) (drop (j + 1) (pairs t first p))))
 unfolding names_ok pairs
 names_step t first p j last h =
-    rw (add-one, drop-cons (pairs t first p) j (0 ≔ 0) (rw length_pairs h), getD-tab (pair_at t first) p j (0 ≔ 0) h)
+    rw (add-one, drop-cons (pairs t first p) j (0 ≔ 0) (rw length_pairs h), get_or_tab (pair_at t first) p j (0 ≔ 0) h)
 
 pub names_end : (t : List ℕ) (first p last : ℕ) → names_ok first last (drop p (pairs t first p)) ≡ true
 unfolding names_ok

@@ -11,13 +11,13 @@ use Rattle.words.specs.Layout.{pending_at}
 use Rattle.words.specs.Stores.{tab_from, Store, ◌≔◌, stores}
 use Rattle.words.specs.Journal.{pair_at, pairs, pending, apply_plan, open_plan, pair_plan, pair_plans, journaled, journal}
 use Rattle.words.proofs.Scan.{by_le}
-use Rattle.words.proofs.Plans.{length-tab, tab_shift, tab_same, Each, get_d_front}
+use Rattle.words.proofs.Plans.{length_tab, tab_shift, tab_same, Each, get_d_front}
 
 -- ---- lengths
 
 pub length_pairs : (t : List ℕ) (first p : ℕ) → length (pairs t first p) ≡ p
 unfolding pairs
-length_pairs t first p = length-tab (pair_at t first) p
+length_pairs t first p = length_tab (pair_at t first) p
 
 pub length_apply_plan : (t : List ℕ) (first p : ℕ) → length (apply_plan t first p) ≡ p + 1
 unfolding apply_plan

@@ -10,11 +10,11 @@ use Rattle.words.proofs.Scan.{by_le}
 
 -- the entries' words
 module _ (e i : ℕ) where
-  pub firstAt-below : i < e → first_at e i < pairs_at e
-  firstAt-below h = omega arith
+  pub first_at_below : i < e → first_at e i < pairs_at e
+  first_at_below h = omega arith
 
-  pub secondAt-below : i < e → second_at e i < pairs_at e
-  secondAt-below h = omega arith
+  pub second_at_below : i < e → second_at e i < pairs_at e
+  second_at_below h = omega arith
 
 -- and the count of pending pairs
 pub pending_at_below : (e : ℕ) → pending_at < pairs_at e

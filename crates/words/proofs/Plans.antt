@@ -19,39 +19,39 @@ use Rattle.words.proofs.Scan.{by_bool, by_le}
 -- ---- lists made by a rule
 
 module _ {A : Type 0} (f : ℕ → A) where
-  pub length-tabFrom : (at n : ℕ) → length (tab_from f at n) ≡ n
-  length-tabFrom at zero = refl
-  length-tabFrom at (suc n) = ap suc (length-tabFrom (suc at) n)
+  pub length_tab_from : (at n : ℕ) → length (tab_from f at n) ≡ n
+  length_tab_from at zero = refl
+  length_tab_from at (suc n) = ap suc (length_tab_from (suc at) n)
 
-  pub getD-tabFrom : (at n i : ℕ) (d : A) → i < n → get_or (tab_from f at n) i d ≡ f (at + i)
-  getD-tabFrom at zero i d h = absurd (not-suc-le-zero h)
-  getD-tabFrom at (suc n) zero d h = ap f (sym (add-zero at))
-  getD-tabFrom at (suc n) (suc i) d h = getD-tabFrom (suc at) n i d (le_of_suc-le-suc h) ∙ ap f (omega arith)
+  pub get_or_tab_from : (at n i : ℕ) (d : A) → i < n → get_or (tab_from f at n) i d ≡ f (at + i)
+  get_or_tab_from at zero i d h = absurd (not-suc-le-zero h)
+  get_or_tab_from at (suc n) zero d h = ap f (sym (add-zero at))
+  get_or_tab_from at (suc n) (suc i) d h = get_or_tab_from (suc at) n i d (le_of_suc-le-suc h) ∙ ap f (omega arith)
 
-  pub length-tab : (n : ℕ) → length (tab n f) ≡ n
-  length-tab n = length-tabFrom 0 n
+  pub length_tab : (n : ℕ) → length (tab n f) ≡ n
+  length_tab n = length_tab_from 0 n
 
-  pub getD-tab : (n i : ℕ) (d : A) → i < n → get_or (tab n f) i d ≡ f i
-  getD-tab n i d h = getD-tabFrom 0 n i d h ∙ ap f (zero-add i)
+  pub get_or_tab : (n i : ℕ) (d : A) → i < n → get_or (tab n f) i d ≡ f i
+  get_or_tab n i d h = get_or_tab_from 0 n i d h ∙ ap f (zero-add i)
 
 -- a part of such a list, and one with an element more
 module _ {A : Type 0} (f : ℕ → A) where
-  take-tabFrom : (at n k : ℕ) → k ≤ n → take k (tab_from f at n) ≡ tab_from f at k
-  take-tabFrom at n zero h = refl
-  take-tabFrom at zero (suc k) h = absurd (not-suc-le-zero h)
-  take-tabFrom at (suc n) (suc k) h = ap {B = List A} (λ l. f at ∷ l) (take-tabFrom (suc at) n k (le_of_suc-le-suc h))
+  take_tab_from : (at n k : ℕ) → k ≤ n → take k (tab_from f at n) ≡ tab_from f at k
+  take_tab_from at n zero h = refl
+  take_tab_from at zero (suc k) h = absurd (not-suc-le-zero h)
+  take_tab_from at (suc n) (suc k) h = ap {B = List A} (λ l. f at ∷ l) (take_tab_from (suc at) n k (le_of_suc-le-suc h))
 
-  pub take-tab : (n k : ℕ) → k ≤ n → take k (tab n f) ≡ tab k f
-  take-tab n k h = take-tabFrom 0 n k h
+  pub take_tab : (n k : ℕ) → k ≤ n → take k (tab n f) ≡ tab k f
+  take_tab n k h = take_tab_from 0 n k h
 
-  tabFrom-last : (at n : ℕ) → tab_from f at (suc n) ≡ tab_from f at n ++ f (at + n) ∷ []
-  tabFrom-last at zero = let z : at ≡ at + 0 = omega arith in ap (λ (i : ℕ). f i ∷ []) z
-  tabFrom-last at (suc n) =
+  tab_from_last : (at n : ℕ) → tab_from f at (suc n) ≡ tab_from f at n ++ f (at + n) ∷ []
+  tab_from_last at zero = let z : at ≡ at + 0 = omega arith in ap (λ (i : ℕ). f i ∷ []) z
+  tab_from_last at (suc n) =
       let z : suc at + n ≡ at + suc n = omega arith in
-      ap {B = List A} (λ l. f at ∷ l) (tabFrom-last (suc at) n ∙ ap (λ (i : ℕ). tab_from f (suc at) n ++ f i ∷ []) z)
+      ap {B = List A} (λ l. f at ∷ l) (tab_from_last (suc at) n ∙ ap (λ (i : ℕ). tab_from f (suc at) n ++ f i ∷ []) z)
 
-  pub tab-last : (n : ℕ) → tab (suc n) f ≡ tab n f ++ f n ∷ []
-  tab-last n = tabFrom-last 0 n ∙ ap (λ (i : ℕ). tab n f ++ f i ∷ []) (zero-add n)
+  pub tab_last : (n : ℕ) → tab (suc n) f ≡ tab n f ++ f n ∷ []
+  tab_last n = tab_from_last 0 n ∙ ap (λ (i : ℕ). tab n f ++ f i ∷ []) (zero-add n)
 
 pub tab_shift : {A : Type 0} (f : ℕ → A) (at n : ℕ) → tab_from f (suc at) n ≡ tab_from (λ i. f (suc i)) at n
 tab_shift f at zero = refl
@@ -86,11 +86,11 @@ take_map f (suc k) [] = refl
 take_map {A} {B} f (suc k) (x ∷ xs) = ap {B = List B} (λ l. f x ∷ l) (take_map f k xs)
 
 module _ {A : Type 0} where
-  pub take-append : (k : ℕ) (xs ys : List A) → take k (xs ++ ys) ≡ take k xs ++ take (k - length xs) ys
-  take-append k [] ys = ap (λ (n : ℕ). take n ys) (sym (sub-zero k)) ∙ ap (λ (l : List A). l ++ take (k - 0) ys) (sym (take-nil k))
-  take-append zero (x ∷ xs) ys = ap (λ (n : ℕ). take n ys) (sym (zero-sub (suc (length xs))))
-  take-append (suc k) (x ∷ xs) ys =
-      ap {B = List A} (λ l. x ∷ l) (take-append k xs ys ∙ ap (λ (n : ℕ). take k xs ++ take n ys) (sym (suc-sub-suc k (length xs))))
+  pub take_append : (k : ℕ) (xs ys : List A) → take k (xs ++ ys) ≡ take k xs ++ take (k - length xs) ys
+  take_append k [] ys = ap (λ (n : ℕ). take n ys) (sym (sub-zero k)) ∙ ap (λ (l : List A). l ++ take (k - 0) ys) (sym (take-nil k))
+  take_append zero (x ∷ xs) ys = ap (λ (n : ℕ). take n ys) (sym (zero-sub (suc (length xs))))
+  take_append (suc k) (x ∷ xs) ys =
+      ap {B = List A} (λ l. x ∷ l) (take_append k xs ys ∙ ap (λ (n : ℕ). take k xs ++ take n ys) (sym (suc-sub-suc k (length xs))))
 
   -- a budget above the length is as good as the length
   pub take_min : (k n : ℕ) (xs : List A) → length xs ≡ n → take (min k n) xs ≡ take k xs
@@ -120,15 +120,15 @@ module _ {A : Type 0} where
   each_append P [] ys h k = k
   each_append P (x ∷ xs) ys h k = (h.0, each_append P xs ys h.1 k)
 
-  pub each-tabFrom : (P : A → Type 0) (f : ℕ → A) (at n : ℕ) → ((i : ℕ) → i < n → P (f (at + i))) → Each P (tab_from f at n)
-  each-tabFrom P f at zero h = tt
-  each-tabFrom P f at (suc n) h = (
+  pub each_tab_from : (P : A → Type 0) (f : ℕ → A) (at n : ℕ) → ((i : ℕ) → i < n → P (f (at + i))) → Each P (tab_from f at n)
+  each_tab_from P f at zero h = tt
+  each_tab_from P f at (suc n) h = (
     subst (λ (i : ℕ). P (f i)) (add-zero at) (h 0 (omega arith)),
-    each-tabFrom P f (suc at) n (λ i l. subst (λ (m : ℕ). P (f m)) (omega arith) (h (suc i) (omega arith))),
+    each_tab_from P f (suc at) n (λ i l. subst (λ (m : ℕ). P (f m)) (omega arith) (h (suc i) (omega arith))),
   )
 
-  pub each-tab : (P : A → Type 0) (f : ℕ → A) (n : ℕ) → ((i : ℕ) → i < n → P (f i)) → Each P (tab n f)
-  each-tab P f n h = each-tabFrom P f 0 n (λ i l. subst (λ (m : ℕ). P (f m)) (sym (zero-add i)) (h i l))
+  pub each_tab : (P : A → Type 0) (f : ℕ → A) (n : ℕ) → ((i : ℕ) → i < n → P (f i)) → Each P (tab n f)
+  each_tab P f n h = each_tab_from P f 0 n (λ i l. subst (λ (m : ℕ). P (f m)) (sym (zero-add i)) (h i l))
 
   pub each_map : (P Q : A → Type 0) (xs : List A) → ((x : A) → P x → Q x) → Each P xs → Each Q xs
   each_map P Q [] f h = tt
@@ -142,29 +142,29 @@ module _ {A : Type 0} where
 -- ---- carrying out
 
 module _ {A S : Type 0} (f : A → S → S) where
-  pub run-append : (xs ys : List A) (s : S) → run f (xs ++ ys) s ≡ run f ys (run f xs s)
-  run-append [] ys s = refl
-  run-append (x ∷ xs) ys s = run-append xs ys (f x s)
+  pub run_append : (xs ys : List A) (s : S) → run f (xs ++ ys) s ≡ run f ys (run f xs s)
+  run_append [] ys s = refl
+  run_append (x ∷ xs) ys s = run_append xs ys (f x s)
 
   -- a budget for two plans in a row: what the first leaves of it is the second's
-  pub run-take-append : (k : ℕ) (xs ys : List A) (s : S)
+  pub run_take_append : (k : ℕ) (xs ys : List A) (s : S)
       → run f (take k (xs ++ ys)) s ≡ run f (take (k - length xs) ys) (run f (take k xs) s)
-  run-take-append k xs ys s =
-      ap (λ (l : List A). run f l s) (take-append k xs ys) ∙ run-append (take k xs) (take (k - length xs) ys) s
+  run_take_append k xs ys s =
+      ap (λ (l : List A). run f l s) (take_append k xs ys) ∙ run_append (take k xs) (take (k - length xs) ys) s
 
   -- one step more
-  pub run-take-suc : (j : ℕ) (xs : List A) (s : S) (d : A) → j < length xs
+  pub run_take_suc : (j : ℕ) (xs : List A) (s : S) (d : A) → j < length xs
       → run f (take (suc j) xs) s ≡ f (get_or xs j d) (run f (take j xs) s)
-  run-take-suc j [] s d h = absurd (not-suc-le-zero h)
-  run-take-suc zero (x ∷ xs) s d h = refl
-  run-take-suc (suc j) (x ∷ xs) s d h = run-take-suc j xs (f x s) d (le_of_suc-le-suc h)
+  run_take_suc j [] s d h = absurd (not-suc-le-zero h)
+  run_take_suc zero (x ∷ xs) s d h = refl
+  run_take_suc (suc j) (x ∷ xs) s d h = run_take_suc j xs (f x s) d (le_of_suc-le-suc h)
 
   -- the turn of a loop over a plan that is given by a rule
-  pub run-take-tab : (j n : ℕ) (g : ℕ → A) (s : S) → j < n
+  pub run_take_tab : (j n : ℕ) (g : ℕ → A) (s : S) → j < n
       → f (g j) (run f (take j (tab n g)) s) ≡ run f (take (j + 1) (tab n g)) s
-  run-take-tab j n g s h =
-      ap (λ (x : A). f x (run f (take j (tab n g)) s)) (sym (getD-tab g n j (g j) h))
-      ∙ sym (run-take-suc j (tab n g) s (g j) (subst (λ (m : ℕ). j < m) (sym (length-tab g n)) h))
+  run_take_tab j n g s h =
+      ap (λ (x : A). f x (run f (take j (tab n g)) s)) (sym (get_or_tab g n j (g j) h))
+      ∙ sym (run_take_suc j (tab n g) s (g j) (subst (λ (m : ℕ). j < m) (sym (length_tab g n)) h))
       ∙ ap (λ (m : ℕ). run f (take m (tab n g)) s) (sym (add-one j))
 
 -- ---- stores of a list
@@ -240,17 +240,17 @@ stores_part a k xs (p ∷ ps) h =
 
 pub length_copy_plan : (s : List ℕ) → length (copy_plan s) ≡ 64
 unfolding copy_plan
-length_copy_plan s = length-tab (λ j. j ≔ get_or s j 0) 64
+length_copy_plan s = length_tab (λ j. j ≔ get_or s j 0) 64
 
 pub length_cell_plan : (s : List ℕ) (from to : ℕ) → length (cell_plan s from to) ≡ 64
 unfolding cell_plan
-length_cell_plan s from to = length-tab (λ j. 64 * to + j ≔ get_or s (64 * from + j) 0) 64
+length_cell_plan s from to = length_tab (λ j. 64 * to + j ≔ get_or s (64 * from + j) 0) 64
 
 -- a turn of the loop that copies
 pub copy_turn : (s d₀ d : List ℕ) (j : ℕ) → j < 64 → d ≡ stores (take j (copy_plan s)) d₀
     → set d j (get_or s j 0) ≡ stores (take (j + 1) (copy_plan s)) d₀
 unfolding copy_plan
-copy_turn s d₀ d j h e = rw e (run-take-tab store j 64 (λ i. i ≔ get_or s i 0) d₀ h)
+copy_turn s d₀ d j h e = rw e (run_take_tab store j 64 (λ i. i ≔ get_or s i 0) d₀ h)
 
 -- and of one that stores a quarter of the bytes, from `at` on, which was read before
 pub quarter_turn : (s d₀ quarter d : List ℕ) (at j : ℕ) → at + 16 ≤ 64 → j < 16 → (j < 16 → get_or quarter j 0 ≡ get_or s (at + j) 0) → Copied s d₀ (at + j) d
@@ -267,7 +267,7 @@ run_stored base zero h l j fits = rw (le-ltb j 0 (omega arith))
 run_stored base (suc n) h l j fits =
     let f : ℕ → Store = λ i. base + i ≔ h i in
     let whole : stores (tab (suc n) f) l ≡ set (stores (tab n f) l) (base + n) (h n) =
-    ap (λ (ps : List Store). stores ps l) (tab-last f n) ∙ run-append store (tab n f) (f n ∷ []) l in
+    ap (λ (ps : List Store). stores ps l) (tab_last f n) ∙ run_append store (tab n f) (f n ∷ []) l in
     ap (λ (x : List ℕ). get_or x (base + j) 0) whole
     ∙ by_bool (eqb j n)
     (λ z.

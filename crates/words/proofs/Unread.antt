@@ -13,7 +13,7 @@ use Rattle.words.specs.Layout.{pending_at}
 use Rattle.words.specs.Stores.{Store, ◌≔◌, store, stores}
 use Rattle.words.specs.Journal.{pair_at, pairs, pending, names_ok, effective}
 use Rattle.words.proofs.Scan.{by_bool}
-use Rattle.words.proofs.Plans.{Each, each_map, stores_set, tab_below, getD-tab}
+use Rattle.words.proofs.Plans.{Each, each_map, stores_set, tab_below, get_or_tab}
 use Rattle.words.proofs.Pairs.{pairs_same, length_pairs}
 use Rattle.words.proofs.Names.{names_below}
 
@@ -36,9 +36,9 @@ stores_over (p ∷ ps) t w v (suc j) l e =
 
 module _ (first : ℕ) (t : List ℕ) (front : pending_at < first) where
   -- a store past the pending pairs
-  pub unused-pair : (i v : ℕ) → first + 2 * pending t ≤ i → names_ok first 0 (pairs t first (pending t)) ≡ true → effective first (set t i v) ≡ effective first t
+  pub unused_pair : (i v : ℕ) → first + 2 * pending t ≤ i → names_ok first 0 (pairs t first (pending t)) ≡ true → effective first (set t i v) ≡ effective first t
   unfolding effective pairs
-  unused-pair i v far names =
+  unused_pair i v far names =
       let p : ℕ = pending t in
       let count : pending (set t i v) ≡ pending t = get_or-set_other t i pending_at v 0 (λ q. omega arith) in
       let same : pairs (set t i v) first p ≡ pairs t first p =
@@ -53,13 +53,13 @@ module _ (first : ℕ) (t : List ℕ) (front : pending_at < first) where
       ∙ take-set-le first (set (stores (pairs t first p) t) pending_at 0) i v (omega arith))
 
   -- a store into a word that pending pair j replaces
-  pub replaced-word : (j v : ℕ) → j < pending t → get_or t (first + 2 * j) 0 < first → (get_or t (first + 2 * j) 0 ≡ pending_at → ⊥)
+  pub replaced_word : (j v : ℕ) → j < pending t → get_or t (first + 2 * j) 0 < first → (get_or t (first + 2 * j) 0 ≡ pending_at → ⊥)
       → effective first (set t (get_or t (first + 2 * j) 0) v) ≡ effective first t
   unfolding effective pairs
-  replaced-word j v l low other =
+  replaced_word j v l low other =
       let p : ℕ = pending t in
       let w : ℕ = get_or t (first + 2 * j) 0 in
       let count : pending (set t w v) ≡ pending t = get_or-set_other t w pending_at v 0 (λ q. other (sym q)) in
       let same : pairs (set t w v) first p ≡ pairs t first p = pairs_same (set t w v) t first p (λ i h. get_or-set_other t w i v 0 (λ q. omega arith)) in
-      let named : (get_or (pairs t first p) j (0 ≔ 0)).at ≡ w = ap (λ (s : Store). s.at) (getD-tab (pair_at t first) p j (0 ≔ 0) l) in
+      let named : (get_or (pairs t first p) j (0 ≔ 0)).at ≡ w = ap (λ (s : Store). s.at) (get_or_tab (pair_at t first) p j (0 ≔ 0) l) in
       rw (count, same, stores_over (pairs t first p) t w v j (rw (length_pairs t first p) l) named)

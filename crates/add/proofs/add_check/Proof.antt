@@ -3,10 +3,10 @@ use mathlib.Core.Path.{sym, ◌∙◌}
 use native.Mathlib.Omega.{arith}
 use Rattle.ranges.specs.Batch.{ranges_in}
 use Rattle.marks.proofs.Blocks.{kept_cells}
-use Rattle.store.proofs.Raw.{raw-rule}
-use Rattle.store.proofs.Checks.{store-lengths}
-use Rattle.store.proofs.Checked.{checked-ends}
-use Rattle.add.proofs.Listing.{inner_live, list_refused_lem, list-taken, check-store, check-inner, check-20, check-list}
+use Rattle.store.proofs.Raw.{raw_rule}
+use Rattle.store.proofs.Checks.{store_lengths}
+use Rattle.store.proofs.Checked.{checked_ends}
+use Rattle.add.proofs.Listing.{inner_live, list_refused_lem, list_taken, check_store, check_inner, check_20, check_list}
 use borrow.Author.Rules.{rules}
 use Rattle.add.proofs.add_check.Statement.{statement}
 use Rattle.add.proofs.add_check.Tie as tie
@@ -27,7 +27,7 @@ returns : tie.Need-returns
 returns c =
     let a = c.before.before.before.before.before.before.before.before.before.before.before.before.before.before.before.args in (
       c.refused.ensures
-          ∙ check-store a.memory.now a.bodies.now a.table.now a.handle (ranges_in a.n a.list.now) c.before.before.before.before.before.before.store-check.result c.before.before.before.before.before.before.store-check.ensures.0 c.before.if1.taken,
+          ∙ check_store a.memory.now a.bodies.now a.table.now a.handle (ranges_in a.n a.list.now) c.before.before.before.before.before.before.store-check.result c.before.before.before.before.before.before.store-check.ensures.0 c.before.if1.taken,
       (λ z. absurd (c.before.if1.taken (sym c.refused.ensures ∙ z)), λ z. absurd (c.before.if1.taken (sym c.refused.ensures ∙ z))),
     )
 
@@ -35,8 +35,8 @@ innermost-check-requires : tie.Need-innermost-check-requires
 innermost-check-requires c κs =
     let a = c.before.before.before.before.before.before.before.before.before.before.before.before.before.before.args in
     let good = sym c.before.before.before.before.before.store-check.ensures.0 ∙ c.if1.left in
-    let f = store-lengths _ _ a.table.now good in
-    (omega (arith, f.table_exact), (raw-rule a.memory.now a.bodies.now a.table.now good).live)
+    let f = store_lengths _ _ a.table.now good in
+    (omega (arith, f.table_exact), (raw_rule a.memory.now a.bodies.now a.table.now good).live)
 
 refused-requires-2 : tie.Need-refused-requires-2
 refused-requires-2 c κs = search rules
@@ -52,7 +52,7 @@ returns-2 c =
     let a = c.before.before.before.before.before.before.before.before.before.before.before.before.before.before.before.before.before.args in
     let good = sym c.before.before.before.before.before.before.before.before.store-check.ensures.0 ∙ c.before.before.before.if1.left in (
       c.refused2.ensures
-          ∙ check-inner a.memory.now a.bodies.now a.table.now a.handle (ranges_in a.n a.list.now) good c.before.before.innermost-check.result c.before.before.innermost-check.ensures c.before.if2.taken,
+          ∙ check_inner a.memory.now a.bodies.now a.table.now a.handle (ranges_in a.n a.list.now) good c.before.before.innermost-check.result c.before.before.innermost-check.ensures c.before.if2.taken,
       (λ z. absurd (c.before.if2.taken (sym c.refused2.ensures ∙ z)), λ z. absurd (c.before.if2.taken (sym c.refused2.ensures ∙ z))),
     )
 
@@ -71,7 +71,7 @@ returns-3 c =
     let good = sym c.before.before.before.before.before.before.before.before.before.store-check.ensures.0 ∙ c.before.before.before.before.if1.left in
     let in-it = sym c.before.before.before.innermost-check.ensures ∙ c.before.before.if2.left in (
       c.refused3.ensures
-          ∙ check-20 a.memory.now a.bodies.now a.table.now a.handle (ranges_in a.n a.list.now) good in-it (list_refused_lem a.list.now a.n c.before.if3.taken),
+          ∙ check_20 a.memory.now a.bodies.now a.table.now a.handle (ranges_in a.n a.list.now) good in-it (list_refused_lem a.list.now a.n c.before.if3.taken),
       (λ z. absurd (omega (arith, c.refused3.ensures, z)), λ z. absurd (omega (arith, c.refused3.ensures, z))),
     )
 
@@ -80,11 +80,11 @@ list-check-requires c κs =
     let a = c.before.before.before.before.before.before.before.before.before.before.before.before.before.before.before.before.before.before.args in
     let good = sym c.before.before.before.before.before.before.before.before.before.store-check.ensures.0 ∙ c.before.before.before.before.if1.left in
     let marks = c.before.before.before.before.before.before.before.before.before.store-check.ensures.1 c.before.before.before.before.if1.left in
-    let few = (list-taken a.list.now a.n c.before.if3.left).0 in
+    let few = (list_taken a.list.now a.n c.before.if3.left).0 in
     record {
       store = good;
       inner = inner_live a.table.now a.handle (sym c.before.before.before.innermost-check.ensures ∙ c.before.before.if2.left);
-      ends = checked-ends _ _ a.table.now good a.top c.before.before.before.before.before.before.before.before.before.before.before.before.before.before.before.before.before.before.pre.0.reached;
+      ends = checked_ends _ _ a.table.now good a.top c.before.before.before.before.before.before.before.before.before.before.before.before.before.before.before.before.before.before.pre.0.reached;
       cells = omega (arith, kept_cells _ marks.kept);
       marks = marks.cells;
       few = few;
@@ -102,7 +102,7 @@ returns-4 c =
     let a = c.before.before.before.before.before.before.before.before.before.before.before.before.before.before.before.before.before.before.before.args in
     let good = sym c.before.before.before.before.before.before.before.before.before.before.store-check.ensures.0 ∙ c.before.before.before.before.before.if1.left in
     let in-it = sym c.before.before.before.before.innermost-check.ensures ∙ c.before.before.before.if2.left in (
-      check-list a.memory.now a.bodies.now a.table.now a.handle (ranges_in a.n a.list.now) good in-it (list-taken a.list.now a.n c.before.before.if3.left).1 c.list-check.result.no c.list-check.ensures.0,
+      check_list a.memory.now a.bodies.now a.table.now a.handle (ranges_in a.n a.list.now) good in-it (list_taken a.list.now a.n c.before.before.if3.left).1 c.list-check.result.no c.list-check.ensures.0,
       (λ z. c.before.before.before.before.before.before.before.before.before.before.store-check.ensures.1 c.before.before.before.before.before.if1.left, c.list-check.ensures.1),
     )
 

@@ -1,5 +1,5 @@
 -- `add::add_many` meets its contract. Assumes nothing.
-use Rattle.table.proofs.Marks.{room-many}
+use Rattle.table.proofs.Marks.{room_many}
 use borrow.Author.Rules.{rules}
 use Rattle.add.proofs.add_many.Statement.{statement}
 use Rattle.add.proofs.add_many.Tie as tie
@@ -20,7 +20,7 @@ slice-aggregate-add-marked-2 : tie.Need-slice-aggregate-add-marked-2
 slice-aggregate-add-marked-2 c = search rules
 
 add-marked-requires : tie.Need-add-marked-requires
-add-marked-requires c κs = (rw (c.before.before.before.before.before.many-marks.ensures, c.before.before.before.before.no_bodies.ensures) (room-many _ _ _ c.before.before.before.before.before.before.before.before.before.before.requires.0), c.before.before.before.before.before.before.before.before.before.before.requires.1)
+add-marked-requires c κs = (rw (c.before.before.before.before.before.many-marks.ensures, c.before.before.before.before.no_bodies.ensures) (room_many _ _ _ c.before.before.before.before.before.before.before.before.before.before.requires.0), c.before.before.before.before.before.before.before.before.before.before.requires.1)
 
 same_length : tie.Need-same-length
 same_length c = search rules

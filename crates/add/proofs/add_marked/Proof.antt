@@ -3,10 +3,10 @@ use mathlib.Core.Path.{sym, ◌∙◌}
 use native.Mathlib.Omega.{arith}
 use Rattle.ranges.specs.Batch.{ranges_in}
 use Rattle.marks.proofs.Blocks.{kept_cells}
-use Rattle.store.proofs.Checked.{checked-ends}
-use Rattle.add.proofs.Readied.{add-ready}
-use Rattle.add.proofs.Listing.{list-facts}
-use Rattle.add.proofs.Added.{add-refused, add-performed}
+use Rattle.store.proofs.Checked.{checked_ends}
+use Rattle.add.proofs.Readied.{add_ready}
+use Rattle.add.proofs.Listing.{list_facts}
+use Rattle.add.proofs.Added.{add_refused, add_performed}
 use borrow.Author.Rules.{rules}
 use Rattle.add.proofs.add_marked.Statement.{statement}
 use Rattle.add.proofs.add_marked.Tie as tie
@@ -32,20 +32,20 @@ same-length-4 c = search rules
 returns : tie.Need-returns
 returns c =
     let a = c.before.before.before.before.before.before.before.before.before.before.before.before.before.before.before.before.before.args in
-    add-refused a.memory.now a.bodies.now a.table.now a.handle (ranges_in a.n a.list.now) a.budget _ c.before.before.before.before.before.before.add-check.ensures.0 c.if1.taken
+    add_refused a.memory.now a.bodies.now a.table.now a.handle (ranges_in a.n a.list.now) a.budget _ c.before.before.before.before.before.before.add-check.ensures.0 c.if1.taken
 
 add-stores-requires : tie.Need-add-stores-requires
 add-stores-requires c κs =
     let a = c.before.before.before.before.before.before.before.before.before.before.before.before.before.before.before.before.before.before.before.before.before.args in
     let p = c.before.before.before.before.before.before.before.before.before.before.before.before.before.before.before.before.before.before.before.before.before.pre in
     let good = sym c.before.before.before.before.before.before.before.before.before.before.add-check.ensures.0 ∙ c.before.before.before.before.if1.left in
-    let ready = add-ready a.memory.now a.bodies.now a.table.now a.handle (ranges_in a.n a.list.now) good in
+    let ready = add_ready a.memory.now a.bodies.now a.table.now a.handle (ranges_in a.n a.list.now) good in
     let marks = c.before.before.before.before.before.before.before.before.before.before.add-check.ensures.1.0 c.before.before.before.before.if1.left in
-    let f = list-facts a.memory.now a.bodies.now a.table.now a.handle a.n a.list.now good in (
+    let f = list_facts a.memory.now a.bodies.now a.table.now a.handle a.n a.list.now good in (
       record { ready = ready; marks = marks; cells = omega (arith, kept_cells _ marks.kept); places = c.before.before.before.before.before.before.before.before.before.before.add-check.kept.1.1.1.1.1.0 ∙ p.0.bodies },
       (
         ((f.1, p.1 f.1), f.2, f.3),
-        (checked-ends _ _ a.table.now ready.store a.top p.0.reached, (c.before.before.before.before.before.before.before.before.before.before.add-check.ensures.1.1 c.before.before.before.before.if1.left).cells),
+        (checked_ends _ _ a.table.now ready.store a.top p.0.reached, (c.before.before.before.before.before.before.before.before.before.before.add-check.ensures.1.1 c.before.before.before.before.if1.left).cells),
       ),
     )
 
@@ -68,7 +68,7 @@ returns-2 : tie.Need-returns-2
 returns-2 c =
     let a = c.before.before.before.before.before.before.before.before.before.before.before.before.before.before.before.before.before.before.before.before.before.before.before.before.before.before.before.args in
     let s = c.before.before.before.before.before.add-stores.ensures in
-    add-performed a.memory.now a.bodies.now a.table.now a.handle (ranges_in a.n a.list.now) a.budget c.before.before.before.before.before.add-stores.result _ _ _ (sym c.before.before.before.before.before.before.before.before.before.before.before.before.before.before.before.before.add-check.ensures.0 ∙ c.before.before.before.before.before.before.before.before.before.before.if1.left) s.0 s.1.0 s.1.1 c.answer-of.ensures
+    add_performed a.memory.now a.bodies.now a.table.now a.handle (ranges_in a.n a.list.now) a.budget c.before.before.before.before.before.add-stores.result _ _ _ (sym c.before.before.before.before.before.before.before.before.before.before.before.before.before.before.before.before.add-check.ensures.0 ∙ c.before.before.before.before.before.before.before.before.before.before.if1.left) s.0 s.1.0 s.1.1 c.answer-of.ensures
 
 pub add-marked-spec : {M : Type 1} → statement M
 add-marked-spec =

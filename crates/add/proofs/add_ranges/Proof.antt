@@ -48,7 +48,7 @@ use Rattle.store.specs.Outcome.{Buffers, buffers, report, Makes}
 use Rattle.store.specs.Means.{Shows}
 use Rattle.add.specs.Add.{add_call, add_means}
 use Rattle.add.proofs.Both.{says_both}
-use Rattle.add.proofs.Lists.{made-over, shown-over}
+use Rattle.add.proofs.Lists.{made_over, shown_over}
 use Rattle.ranges.specs.contracts.Range as T
 use Rattle.ranges.specs.contracts.Batch as B
 use Rattle.ranges.proofs.Batch.TheLaws as B'
@@ -194,17 +194,17 @@ module _ {Mod : Type 1} {𝓤 : Ura Mod} (𝓛 : Logic 𝓤) (mem : Memory → S
 
   -- ---- what each callee's triple binds outside, that it is given what it asks, and what it says
 
-  abbrev to-gather : (Gather 𝓛 mem run).Ghost
-  to-gather = (((κ₃, tt), (q₃, tt), tt, (ra, tt), (sr ∷ [], tt)), tt)
+  abbrev to_gather : (Gather 𝓛 mem run).Ghost
+  to_gather = (((κ₃, tt), (q₃, tt), tt, (ra, tt), (sr ∷ [], tt)), tt)
 
-  goes-gather : ent 𝓤 (sep 𝓤 (A.lft κ₃ q₃) (sem 𝓛 OwnR)) ((Gather 𝓛 mem run).pre to-gather)
-  goes-gather = qed 𝓛 (‵ (flft κ₃ q₃) ∷ ‵ OwnR ∷ []) ∵ nothing ! $ move ! (1 ∷ 0 ∷ []) $ join ! $ nothing ! $ move ! (2 ∷ 0 ∷ []) $ fjoin ! $ move ! (1 ∷ 0 ∷ []) $ join ! $ frame ! $ done !
+  goes_gather : ent 𝓤 (sep 𝓤 (A.lft κ₃ q₃) (sem 𝓛 OwnR)) ((Gather 𝓛 mem run).pre to_gather)
+  goes_gather = qed 𝓛 (‵ (flft κ₃ q₃) ∷ ‵ OwnR ∷ []) ∵ nothing ! $ move ! (1 ∷ 0 ∷ []) $ join ! $ nothing ! $ move ! (2 ∷ 0 ∷ []) $ fjoin ! $ move ! (1 ∷ 0 ∷ []) $ join ! $ frame ! $ done !
 
-  said-gather : (z : Batch) → ent 𝓤 (ensured 𝓛 ga.ended (ga.clauses 𝓛 mem run) (κ₃, tt) (ra, tt) tt z) (fact 𝓤 (z ≡ gathered no_batch ra.now))
-  said-gather z = ex_e 𝓤 _ (λ ws. snd∗ 𝓤 (sem 𝓛 (lasts ga.ended (κ₃, tt) (ra, tt) ws)) (fact 𝓤 (z ≡ gathered no_batch ra.now)))
+  said_gather : (z : Batch) → ent 𝓤 (ensured 𝓛 ga.ended (ga.clauses 𝓛 mem run) (κ₃, tt) (ra, tt) tt z) (fact 𝓤 (z ≡ gathered no_batch ra.now))
+  said_gather z = ex_e 𝓤 _ (λ ws. snd∗ 𝓤 (sem 𝓛 (lasts ga.ended (κ₃, tt) (ra, tt) ws)) (fact 𝓤 (z ≡ gathered no_batch ra.now)))
 
-  abbrev to-add : Batch → (AddBatch 𝓛 mem run).Ghost
-  to-add z = (
+  abbrev to_add : Batch → (AddBatch 𝓛 mem run).Ghost
+  to_add z = (
     (
       (κ₀, (κ₁, (κ₂, tt))),
       (q₀, (q₁, (q₂, tt))),
@@ -219,7 +219,7 @@ module _ {Mod : Type 1} {𝓤 : Ura Mod} (𝓛 : Logic 𝓤) (mem : Memory → S
   Passed z = owns (ShrSlice (named 0) κ₀ u8 ∷ MutSlice (named 1) κ₁ u8 ∷ MutSlice (named 2) κ₂ u32 ∷ u32 ∷ B.the_row ∷ usize ∷ []) (m, (bo, (ta, (h, (z, (k, tt))))))
       (sm ∷ [], (sb ∷ [], (st ∷ [], (vint w32 h ∷ [], (mach_b z ∷ [], (vint w64 k ∷ [], tt))))))
 
-  asked : (z : Batch) → ent 𝓤 (⋆ 𝓛 (Tokens ∷ ‵ (Passed z) ∷ [])) ((AddBatch 𝓛 mem run).pre (to-add z))
+  asked : (z : Batch) → ent 𝓤 (⋆ 𝓛 (Tokens ∷ ‵ (Passed z) ∷ [])) ((AddBatch 𝓛 mem run).pre (to_add z))
   asked z = qed 𝓛 (Tokens ∷ ‵ (Passed z) ∷ []) ∵ join ! $ frame ! $ done !
 
   -- ---- the body. l₀ to lB: the places of the twelve locals
@@ -243,11 +243,11 @@ module _ {Mod : Type 1} {𝓤 : Ura Mod} (𝓛 : Logic 𝓤) (mem : Memory → S
     body =
         qed 𝓛 Start ∵ exec ! 𝓣.C 𝓣.Λ En M.t-1 (at_ret En Post) $
         -- ---- let batch = gather(ranges);
-        move ! (0 ∷ 5 ∷ []) $ use2 𝓛 (raw ((Gather 𝓛 mem run).pre to-gather)) goes-gather $
+        move ! (0 ∷ 5 ∷ []) $ use2 𝓛 (raw ((Gather 𝓛 mem run).pre to_gather)) goes_gather $
         -- [what `gather` asks; true; the other tokens; the ranges; the table; the bodies; the memory, twice; _11 at 10; …]
-        calls_at ! fm (Gather 𝓛 mem run) known-gather to-gather (and_then ! (load ! (from ! (stop !)) (look ! 22 refl)) (no_more !)) (λ v.
+        calls_at ! fm (Gather 𝓛 mem run) known-gather to_gather (and_then ! (load ! (from ! (stop !)) (look ! 22 refl)) (no_more !)) (λ v.
         use1 𝓛 (later (some (λ (z : Batch). ((‵ (flft κ₃ q₃) ⊛ ‵ ftrue) ⊛ ‵ ((B.the_row).own_val z (v ∷ []))) ⊛ raw (ensured 𝓛 ga.ended (ga.clauses 𝓛 mem run) (κ₃, tt) (ra, tt) tt z)))) (id⊢ 𝓤 _) $ await ! tt $ pick ! (λ z.
-        split ! $ move ! (1 ∷ []) $ use1 𝓛 (raw (fact 𝓤 (z ≡ gathered no_batch ra.now))) (said-gather z) $ heard ! (z ≡ gathered no_batch ra.now) (λ ez. split ! $ move ! (1 ∷ []) $
+        split ! $ move ! (1 ∷ []) $ use1 𝓛 (raw (fact 𝓤 (z ≡ gathered no_batch ra.now))) (said_gather z) $ heard ! (z ≡ gathered no_batch ra.now) (λ ez. split ! $ move ! (1 ∷ []) $
         peeks ! B.the_row (Is B.the_row) (shows 𝓛 B.the_row) z (v ∷ []) (λ has.
         -- [the batch; the ranges' token; true; κ₂'s, κ₁'s, κ₀'s token; the ranges; the table; the bodies; the memory, twice; _11 at 11; …; _0 at 33]
         land ! (from ! (stop !)) (init ! 19 refl ((LL.lawful B.the_type B'.the_laws 𝓛).typed z _ has).0) $
@@ -261,13 +261,13 @@ module _ {Mod : Type 1} {𝓤 : Ura Mod} (𝓛 : Logic 𝓤) (mem : Memory → S
         -- ---- add_batch(memory, bodies, table, handle, batch, budget): what it asks is put together, its parameters from the last to the first and then the tokens
         nothing ! $ owned ! usize (Is usize) (uint_Makes 𝓛 w64) k _ (refl, k-fits) $ fjoin ! $ move ! (1 ∷ 0 ∷ []) $ fjoin ! $ owned ! u32 (Is u32) (uint_Makes 𝓛 w32) h _ (refl, h_fits) $ fjoin ! $
         move ! (7 ∷ 0 ∷ []) $ fjoin ! $ move ! (7 ∷ 0 ∷ []) $ fjoin ! $ move ! (7 ∷ 0 ∷ []) $ fjoin ! $
-        move ! (3 ∷ 2 ∷ []) $ join ! $ move ! (3 ∷ 0 ∷ []) $ join ! $ move ! (3 ∷ 0 ∷ []) $ join ! $ use2 𝓛 (raw ((AddBatch 𝓛 mem run).pre (to-add z))) (asked z) $
+        move ! (3 ∷ 2 ∷ []) $ join ! $ move ! (3 ∷ 0 ∷ []) $ join ! $ move ! (3 ∷ 0 ∷ []) $ join ! $ use2 𝓛 (raw ((AddBatch 𝓛 mem run).pre (to_add z))) (asked z) $
         -- [what `add_batch` asks; the ranges' token; the ranges; the memory; _11 at 4; …; _0 at 26]
-        calls_at ! fm (AddBatch 𝓛 mem run) known-add (to-add z) (and_then ! (load ! (from ! (stop !)) (look ! 24 refl)) (and_then ! (load ! (from ! (stop !)) (look ! 8 refl)) (and_then ! (load ! (from ! (stop !)) (look ! 4 refl))
+        calls_at ! fm (AddBatch 𝓛 mem run) known-add (to_add z) (and_then ! (load ! (from ! (stop !)) (look ! 24 refl)) (and_then ! (load ! (from ! (stop !)) (look ! 8 refl)) (and_then ! (load ! (from ! (stop !)) (look ! 4 refl))
         (and_then ! (load ! (from ! (stop !)) (look ! 18 refl)) (and_then ! (load ! (from ! (stop !)) (look ! 12 refl)) (and_then ! (load ! (from ! (stop !)) (look ! 14 refl)) (no_more !))))))) (λ u.
-        use1 𝓛 (later (some (λ (r : Answer). (Tokens ⊛ ‵ ((S.the_row).own_val r (u ∷ []))) ⊛ raw (ensured 𝓛 ab.ended (ab.clauses 𝓛 mem run) (κ₀, (κ₁, (κ₂, tt))) (to-add z).0.3 tt r)))) (id⊢ 𝓤 _) $ await ! tt $ pick ! (λ r.
+        use1 𝓛 (later (some (λ (r : Answer). (Tokens ⊛ ‵ ((S.the_row).own_val r (u ∷ []))) ⊛ raw (ensured 𝓛 ab.ended (ab.clauses 𝓛 mem run) (κ₀, (κ₁, (κ₂, tt))) (to_add z).0.3 tt r)))) (id⊢ 𝓤 _) $ await ! tt $ pick ! (λ r.
         -- what `add_batch` ensures, at some last lists
-        split ! $ move ! (1 ∷ []) $ use1 𝓛 (some (λ (zs : Last). ‵ (lasts ab.ended (κ₀, (κ₁, (κ₂, tt))) (to-add z).0.3 zs)
+        split ! $ move ! (1 ∷ []) $ use1 𝓛 (some (λ (zs : Last). ‵ (lasts ab.ended (κ₀, (κ₁, (κ₂, tt))) (to_add z).0.3 zs)
         ⊛ (raw (fact 𝓤 (Made h k before (after zs.1.0 zs.1.1.0) r (batch_ranges z))) ⊛ raw (fact 𝓤 (Shown h k before (after zs.1.0 zs.1.1.0) r (batch_ranges z)))))) (id⊢ 𝓤 _) $ pick ! (λ zs.
         split ! $ move ! (1 ∷ []) $ split ! $ heard ! (Made h k before (after zs.1.0 zs.1.1.0) r (batch_ranges z)) (λ made.
         heard ! (Shown h k before (after zs.1.0 zs.1.1.0) r (batch_ranges z)) (λ shown.
@@ -280,7 +280,7 @@ module _ {Mod : Type 1} {𝓤 : Ura Mod} (𝓛 : Logic 𝓤) (mem : Memory → S
         move ! (30 ∷ 31 ∷ []) $ free1 ! $ move ! (28 ∷ 29 ∷ []) $ free1 ! $ move ! (26 ∷ 27 ∷ []) $ free1 ! $ move ! (24 ∷ 25 ∷ []) $ free1 ! $ move ! (22 ∷ 23 ∷ []) $ free1 ! $ move ! (20 ∷ 21 ∷ []) $ free1 ! $ move ! (18 ∷ 19 ∷ []) $ free1 ! $
         move ! (16 ∷ 17 ∷ []) $ free1 ! $ move ! (14 ∷ 15 ∷ []) $ free1 ! $ move ! (12 ∷ 13 ∷ []) $ free1 ! $ move ! (10 ∷ 11 ∷ []) $ free1 ! $ move ! (8 ∷ 9 ∷ []) $ free1 ! $ free0 ! $
         keep ! (0 ∷ 1 ∷ 2 ∷ 4 ∷ 5 ∷ 6 ∷ 7 ∷ []) $
-        by ! (exits r u zs.1.0 zs.1.1.0 lb lt (made-over h k ra.now z ez before (after zs.1.0 zs.1.1.0) (report r) made) (shown-over h k ra.now z ez before (after zs.1.0 zs.1.1.0) (report r) shown))))))))))))))
+        by ! (exits r u zs.1.0 zs.1.1.0 lb lt (made_over h k ra.now z ez before (after zs.1.0 zs.1.1.0) (report r) made) (shown_over h k ra.now z ez before (after zs.1.0 zs.1.1.0) (report r) shown))))))))))))))
 
   -- the MIR, up to its body
   walk : (𝓣 : Tables 𝓤 H) → FmC 𝓤 H 𝓛.laws 𝓣.C → Triple 𝓤 (𝓣.C #gather) (Gather 𝓛 mem run) → Triple 𝓤 (𝓣.C #add-batch) (AddBatch 𝓛 mem run)
@@ -305,8 +305,8 @@ module _ {Mod : Type 1} {𝓤 : Ura Mod} (𝓛 : Logic 𝓤) (mem : Memory → S
     (known-gather : Triple 𝓤 (𝓣.C #gather) (Gather 𝓛 mem run)) (known-add : Triple 𝓤 (𝓣.C #add-batch) (AddBatch 𝓛 mem run)) where
   open 𝓛 use {H}
 
-  add-ranges-walks : Walks 𝓛 f.ended stayed (WpFn 𝓤 H 𝓣.C 𝓣.Λ code.function) (f.clauses 𝓛 mem run)
-  add-ranges-walks = walked 𝓛 f.ended stayed (f.clauses 𝓛 mem run) (WpFn 𝓤 H 𝓣.C 𝓣.Λ code.function)
+  add_ranges_walks : Walks 𝓛 f.ended stayed (WpFn 𝓤 H 𝓣.C 𝓣.Λ code.function) (f.clauses 𝓛 mem run)
+  add_ranges_walks = walked 𝓛 f.ended stayed (f.clauses 𝓛 mem run) (WpFn 𝓤 H 𝓣.C 𝓣.Λ code.function)
       (λ κs. (shr_slice_vals, (shr_slice_vals, (shr_slice_vals, (uint_vals w32, (shr_slice_vals, (uint_vals w64, tt)))))))
       (λ κs. (
         shr_slice_Tells (named 0) κs.0 u8,
@@ -317,8 +317,8 @@ module _ {Mod : Type 1} {𝓤 : Ura Mod} (𝓛 : Logic 𝓤) (mem : Memory → S
       a.0 a.1.0 a.1.1.0 a.1.1.1.0 a.1.1.1.1.0 a.1.1.1.1.1.0 are.1.1.1.0.1 are.1.1.1.1.1.0.1
       𝓣 (fm_of 𝓤 H 𝓛.laws 𝓣) known-gather known-add are.0.0.1 are.1.0.0.1 are.1.1.0.0.1 are.1.1.1.1.0.0.1))
 
-  add-ranges-meets : Meets 𝓛 f.signature (WpFn 𝓤 H 𝓣.C 𝓣.Λ code.function) (f.spec 𝓛 mem run)
-  add-ranges-meets = walk_Meets 𝓛 f.ended stayed (
+  add_ranges_meets : Meets 𝓛 f.signature (WpFn 𝓤 H 𝓣.C 𝓣.Λ code.function) (f.spec 𝓛 mem run)
+  add_ranges_meets = walk_Meets 𝓛 f.ended stayed (
     Goes-none_slice 𝓛 4 (0 ∷ []) tt (plain (λ _. u8)) yes,
     (
       Goes-gave_slice 𝓛 4 1 tt (plain (λ _. u8)),
@@ -331,13 +331,13 @@ module _ {Mod : Type 1} {𝓤 : Ura Mod} (𝓛 : Logic 𝓤) (mem : Memory → S
       ),
     ),
   )
-      (f.clauses 𝓛 mem run) (WpFn 𝓤 H 𝓣.C 𝓣.Λ code.function) (WpFn-mono 𝓤 H 𝓛.laws 𝓣 code.function) add-ranges-walks
+      (f.clauses 𝓛 mem run) (WpFn 𝓤 H 𝓣.C 𝓣.Λ code.function) (WpFn-mono 𝓤 H 𝓛.laws 𝓣 code.function) add_ranges_walks
 
 pub add-ranges-spec : {Mod : Type 1} → stated.statement Mod
 unfolding code.routine tables_of
 add-ranges-spec 𝓤 𝓛 𝓜 𝓡 =
     entered 𝓤 𝓛.H (triple_of 𝓛 f.signature (f.spec 𝓛 𝓜.mem 𝓡.run))
     (tables 𝓤 𝓛.H 𝓜 𝓡 code.env).C (tables 𝓤 𝓛.H 𝓜 𝓡 code.env).Λ #add-ranges code.function (code.unfolded 𝓤 𝓛.H 𝓜 𝓡)
-    (add-ranges-meets 𝓛 𝓜.mem 𝓡.run (tables_of 𝓤 𝓛.H 𝓜 (tables 𝓤 𝓛.H 𝓜 𝓡 code.env))
+    (add_ranges_meets 𝓛 𝓜.mem 𝓡.run (tables_of 𝓤 𝓛.H 𝓜 (tables 𝓤 𝓛.H 𝓜 𝓡 code.env))
     (cited 𝓤 𝓛.H (Gather 𝓛 𝓜.mem 𝓡.run) 𝓜 𝓡 code.env #gather ga_def.routine code.calls-ranges::gather (ga_thm.met 𝓤 𝓛 𝓜 𝓡))
     (cited 𝓤 𝓛.H (AddBatch 𝓛 𝓜.mem 𝓡.run) 𝓜 𝓡 code.env #add-batch ab_def.routine code.calls-add::add-batch (ab_thm.met 𝓤 𝓛 𝓜 𝓡)))

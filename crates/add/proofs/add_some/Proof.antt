@@ -1,5 +1,5 @@
 -- `add::add_some` meets its contract. Assumes nothing.
-use Rattle.table.proofs.Marks.{room-some}
+use Rattle.table.proofs.Marks.{room_some}
 use borrow.Author.Rules.{rules}
 use Rattle.add.proofs.add_some.Statement.{statement}
 use Rattle.add.proofs.add_some.Tie as tie
@@ -20,7 +20,7 @@ slice-aggregate-add-marked-2 : tie.Need-slice-aggregate-add-marked-2
 slice-aggregate-add-marked-2 c = search rules
 
 add-marked-requires : tie.Need-add-marked-requires
-add-marked-requires c κs = (rw (c.before.before.before.before.before.some-marks.ensures, c.before.before.before.before.no_bodies.ensures) (room-some _ _ _ c.before.before.before.before.before.before.before.before.before.before.requires.1 c.before.before.before.before.before.before.before.before.before.before.requires.0), c.before.before.before.before.before.before.before.before.before.before.requires.2)
+add-marked-requires c κs = (rw (c.before.before.before.before.before.some-marks.ensures, c.before.before.before.before.no_bodies.ensures) (room_some _ _ _ c.before.before.before.before.before.before.before.before.before.before.requires.1 c.before.before.before.before.before.before.before.before.before.before.requires.0), c.before.before.before.before.before.before.before.before.before.before.requires.2)
 
 same_length : tie.Need-same-length
 same_length c = search rules

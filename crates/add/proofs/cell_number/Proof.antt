@@ -4,7 +4,7 @@ use native.Mathlib.Omega.{arith}
 use borrow.Author.Tests.{not-true, not-false}
 use Rattle.ranges.specs.Batch.{ranges_in}
 use Rattle.add.specs.Walking.{fresh_to}
-use Rattle.add.proofs.Asking.{number-held, number-new}
+use Rattle.add.proofs.Asking.{number_held, number_new}
 use borrow.Author.Rules.{rules}
 use Rattle.add.proofs.cell_number.Statement.{statement}
 use Rattle.add.proofs.cell_number.Tie as tie
@@ -15,7 +15,7 @@ is-new-requires c κs = search rules
 returns : tie.Need-returns
 returns c =
     let a = c.before.before.before.before.before.before.before.before.before.args in
-    number-held a.memory.now a.bodies.now a.slots a.table.now a.depth (fresh_to a.held.now a.depth (ranges_in a.seen a.list.now)) a.cell
+    number_held a.memory.now a.bodies.now a.slots a.table.now a.depth (fresh_to a.held.now a.depth (ranges_in a.seen a.list.now)) a.cell
     (sym c.before.is-new.ensures ∙ not-true _ c.if1.taken)
 
 parent-of-requires : tie.Need-parent-of-requires
@@ -31,7 +31,7 @@ value-number-requires c κs =
 returns-2 : tie.Need-returns-2
 returns-2 c =
     let a = c.before.before.before.before.before.before.before.before.before.before.before.args in
-    number-new a.memory.now a.bodies.now a.slots a.table.now a.depth (fresh_to a.held.now a.depth (ranges_in a.seen a.list.now)) a.cell
+    number_new a.memory.now a.bodies.now a.slots a.table.now a.depth (fresh_to a.held.now a.depth (ranges_in a.seen a.list.now)) a.cell
     (sym c.before.before.before.is-new.ensures ∙ not-false _ c.before.before.if1.left) _ (rw c.before.parent_of.ensures at c.value-number.ensures)
 
 pub cell-number-spec : {M : Type 1} → statement M

@@ -10,7 +10,7 @@ use Rattle.words.specs.Scan.{all}
 use Rattle.words.proofs.Scan.{by_bool, true≢, and_split, all_at}
 use Rattle.ranges.specs.Ranges.{covers, label_for}
 use Rattle.ranges.specs.Batch.{range_at, ranges_in}
-use Rattle.ranges.proofs.Ranges.{covers-bounds, raises, label-none}
+use Rattle.ranges.proofs.Ranges.{covers_bounds, raises, label_none}
 use mathlib.Core.List.{List}
 use Rattle.words.proofs.Scan.{is_false}
 use Rattle.add.specs.Walking.{lacks}
@@ -30,9 +30,9 @@ none : (held ws : List ℕ) (depth n : ℕ) → ((i : ℕ) → i < n → Still h
 none held ws depth n still c one =
     by_bool (lacks held depth c) (λ p. p)
     (λ p.
-    absurd (never one (label-none ws c n (λ i l. is_false (raises ws c i) (λ y.
+    absurd (never one (label_none ws c n (λ i l. is_false (raises ws c i) (λ y.
     let s = and_split (covers (range_at ws i) c) (eqb (range_at ws i).label 1) y in
-    let b = covers-bounds (range_at ws i) c s.0 in
+    let b = covers_bounds (range_at ws i) c s.0 in
     let low = b.0 in
     let high = b.1 in
     let at : (range_at ws i).first + (c - (range_at ws i).first) ≡ c = omega arith in

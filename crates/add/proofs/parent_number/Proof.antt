@@ -5,7 +5,7 @@ use mathlib.Core.Path.{◌≡◌, subst}
 use native.Mathlib.Omega.{arith}
 use Rattle.ranges.specs.Batch.{ranges_in}
 use Rattle.add.specs.Walking.{fresh_to}
-use Rattle.add.proofs.Asking.{Numbered, numbered-none, numbered-stop, numbered_more, numbered-all}
+use Rattle.add.proofs.Asking.{Numbered, numbered_none, numbered_stop, numbered_more, numbered_all}
 use borrow.Author.Rules.{rules}
 use Rattle.add.proofs.parent_number.Statement.{statement}
 use Rattle.add.proofs.parent_number.Tie as tie
@@ -17,7 +17,7 @@ abbrev decreases-loop : tie.decreases-loop
 decreases-loop memory bodies table slots top last before held depth list part ruled₀ j₀ ruled j = part.count - j
 
 loop-holds : tie.Need-loop-init invariant-loop decreases-loop
-loop-holds c = (search rules, numbered-none _ _ _ _ _ _ _ _)
+loop-holds c = (search rules, numbered_none _ _ _ _ _ _ _ _)
 
 add-cell-number : tie.Need-overflow-add-cell-number invariant-loop decreases-loop
 add-cell-number c = search rules
@@ -30,7 +30,7 @@ cell-number-requires c κs =
     )
 
 returns : tie.Need-returns invariant-loop decreases-loop
-returns c = numbered-stop _ _ _ _ _ _ _ _ _ _ _ c.before.before.before.before.before.loop.invariant.1 c.before.cell-number.ensures c.if2.true c.before.before.before.if1.true
+returns c = numbered_stop _ _ _ _ _ _ _ _ _ _ _ c.before.before.before.before.before.loop.invariant.1 c.before.cell-number.ensures c.if2.true c.before.before.before.if1.true
 
 first-no-requires : tie.Need-first-no-requires invariant-loop decreases-loop
 first-no-requires c κs = search rules
@@ -49,7 +49,7 @@ returns-2 c =
     let a = c.before.before.before.before.before.before.before.before.before.before.args in
     let last : c.before.before.loop.j ≡ a.part.count = omega arith in
     let new : ℕ → Bool = fresh_to a.held.now a.depth (ranges_in a.part.seen a.list.now) in
-    numbered-all a.memory.now a.bodies.now a.slots a.table.now a.depth new a.part.first a.part.count c.before.before.loop.ruled
+    numbered_all a.memory.now a.bodies.now a.slots a.table.now a.depth new a.part.first a.part.count c.before.before.loop.ruled
     (subst (λ (k : ℕ). Numbered a.memory.now a.bodies.now a.slots a.table.now a.depth new a.part.first a.part.count k c.before.before.loop.ruled) last c.before.before.loop.invariant.1)
 
 pub parent-number-spec : {M : Type 1} → statement M

@@ -10,7 +10,7 @@ use Rattle.words.proofs.Scan.{and_split}
 use Rattle.ranges.specs.Batch.{ranges_in}
 use Rattle.table.specs.Entry.{live}
 use Rattle.add.specs.Walking.{fresh_to}
-use Rattle.add.proofs.Asking.{part-7, part-8, part_then}
+use Rattle.add.proofs.Asking.{part_7, part_8, part_then}
 use borrow.Author.Rules.{rules}
 use Rattle.add.proofs.part_check.Statement.{statement}
 use Rattle.add.proofs.part_check.Tie as tie
@@ -19,7 +19,7 @@ returns : tie.Need-returns
 returns c =
     let a = c.before.before.before.before.before.before.before.before.args in
     let new : ℕ → Bool = fresh_to a.held.now (live a.table.now) (ranges_in a.part.seen a.list.now) in
-    part-7 a.memory.now a.bodies.now (slots_of (length a.table.now)) a.table.now new a.part.first a.part.count a.part.kind a.part.rule a.part.label
+    part_7 a.memory.now a.bodies.now (slots_of (length a.table.now)) a.table.now new a.part.first a.part.count a.part.kind a.part.rule a.part.label
     (not-true _ c.if1.taken)
 
 cells-of-requires : tie.Need-cells-of-requires
@@ -32,7 +32,7 @@ returns-2 : tie.Need-returns-2
 returns-2 c =
     let a = c.before.before.before.before.before.before.before.before.before.before.before.args in
     let new : ℕ → Bool = fresh_to a.held.now (live a.table.now) (ranges_in a.part.seen a.list.now) in
-    part-8 a.memory.now a.bodies.now (slots_of (length a.table.now)) a.table.now new a.part.first a.part.count a.part.kind a.part.rule a.part.label
+    part_8 a.memory.now a.bodies.now (slots_of (length a.table.now)) a.table.now new a.part.first a.part.count a.part.kind a.part.rule a.part.label
     (not-false _ c.before.before.before.if1.left) (sym (rw c.before.before.Cells-of.ensures at c.before.range-ok.ensures) ∙ not-true _ c.if2.taken)
 
 value-check-requires : tie.Need-value-check-requires

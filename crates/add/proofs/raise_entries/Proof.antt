@@ -6,7 +6,7 @@ use lib.ListN.{length}
 use Rattle.ranges.specs.Batch.{ranges_in}
 use Rattle.changes.specs.Staged.{Stages}
 use Rattle.add.specs.Walking.{list_change}
-use Rattle.add.proofs.Storing.{raise-turn, raise-end, raise-none}
+use Rattle.add.proofs.Storing.{raise_turn, raise_end, raise_none}
 use borrow.Author.Rules.{rules}
 use Rattle.add.proofs.raise_entries.Statement.{statement}
 use Rattle.add.proofs.raise_entries.Tie as tie
@@ -30,7 +30,7 @@ returns : tie.Need-returns invariant-loop decreases-loop
 returns c =
     let a = c.before.before.before.before.before.before.before.before.args in
     let p = c.before.before.before.before.before.before.before.before.requires in
-    record { of = λ m b s. raise-none a.slots a.table.now (ranges_in a.n a.list.now) p.0.2 m b a.held.now _ _ p.1.0.1 (c.before.none-rises.ensures c.if1.true) s }
+    record { of = λ m b s. raise_none a.slots a.table.now (ranges_in a.n a.list.now) p.0.2 m b a.held.now _ _ p.1.0.1 (c.before.none-rises.ensures c.if1.true) s }
 
 loop-holds : tie.Need-loop-init invariant-loop decreases-loop
 loop-holds c = (search rules, refl, refl, λ m b s. s)
@@ -53,7 +53,7 @@ loop-again c =
     let a = c.before.before.before.before.before.before.before.before.before.before.before.before.before.before.before.before.before.args in
     let p = c.before.before.before.before.before.before.before.before.before.before.before.before.before.before.before.before.before.requires in
     let i = c.before.before.before.before.before.before.before.before.loop.invariant in
-    (search rules, search rules, search rules, λ m b s. raise-turn a.slots a.table.now (ranges_in a.n a.list.now) p.0.2 m b c.before.before.before.before.before.before.before.before.loop.i _ _ _ _ (omega (arith, c.before.before.before.before.before.before.before.loop-test.true, p.0.4.0)) c.before.before.before.before.raise-entry.ensures (i.3 m b s))
+    (search rules, search rules, search rules, λ m b s. raise_turn a.slots a.table.now (ranges_in a.n a.list.now) p.0.2 m b c.before.before.before.before.before.before.before.before.loop.i _ _ _ _ (omega (arith, c.before.before.before.before.before.before.before.loop-test.true, p.0.4.0)) c.before.before.before.before.raise-entry.ensures (i.3 m b s))
 
 same_length : tie.Need-same-length invariant-loop decreases-loop
 same_length c = search rules
@@ -67,7 +67,7 @@ returns-2 c =
     let p = c.before.before.before.before.before.before.before.before.before.before.requires in
     let i = c.before.loop.invariant in
     let last : c.before.loop.i ≡ a.top = omega (arith, i.0, c.loop-test.false) in
-    record { of = λ m b s. raise-end a.slots a.table.now (ranges_in a.n a.list.now) p.0.2 m b a.top _ _ p.0.4 (rw last at (i.3 m b s)) }
+    record { of = λ m b s. raise_end a.slots a.table.now (ranges_in a.n a.list.now) p.0.2 m b a.top _ _ p.0.4 (rw last at (i.3 m b s)) }
 
 pub raise-entries-spec : {M : Type 1} → statement M
 raise-entries-spec =

@@ -5,11 +5,11 @@ use native.Mathlib.Omega.{arith}
 use lib.ListN.{length}
 use Rattle.words.specs.Layout.{cells_of}
 use Rattle.ranges.specs.Batch.{ranges_in, Passed}
-use Rattle.store.proofs.Checks.{store-lengths}
+use Rattle.store.proofs.Checks.{store_lengths}
 use Rattle.add.specs.declared.Cursors.{Cursors}
 use Rattle.add.specs.Walking.{Standing, Copied}
-use Rattle.add.proofs.Taken.{same_able, same_room, same-stands, start-stands, copied_none, copied-join, copied-length}
-use Rattle.add.proofs.Storing.{taken-all, bytes-made, bytes-stored}
+use Rattle.add.proofs.Taken.{same_able, same_room, same_stands, start_stands, copied_none, copied_join, copied_length}
+use Rattle.add.proofs.Storing.{taken_all, bytes_made, bytes_stored}
 use borrow.Author.Rules.{rules}
 use Rattle.add.proofs.take_cells.Statement.{statement}
 use Rattle.add.proofs.take_cells.Tie as tie
@@ -34,7 +34,7 @@ order-of-requires : tie.Need-order-of-requires invariant-loop decreases-loop
 order-of-requires c κs =
     let a = c.before.before.before.before.before.before.before.before.args in
     let l = c.before.before.before.before.before.before.before.before.requires.1.1.0 in
-    (l.1, λ i b. omega (arith, l.2 i b, (store-lengths _ _ a.table.now c.before.before.before.before.before.before.before.before.requires.0.ready.store).cells_high))
+    (l.1, λ i b. omega (arith, l.2 i b, (store_lengths _ _ a.table.now c.before.before.before.before.before.before.before.before.requires.0.ready.store).cells_high))
 
 slice-aggregate-is-rising : tie.Need-slice-aggregate-is-rising invariant-loop decreases-loop
 slice-aggregate-is-rising c = search rules
@@ -49,7 +49,7 @@ loop-holds : tie.Need-loop-init invariant-loop decreases-loop
 loop-holds c =
     let a = c.before.before.before.before.before.before.before.before.before.before.before.before.args in
     let p = c.before.before.before.before.before.before.before.before.before.before.before.before.requires in (
-      start-stands a.memory.now a.bodies.now a.table.now (ranges_in a.n a.list.now) a.words.now a.changed.now p.1.1.1,
+      start_stands a.memory.now a.bodies.now a.table.now (ranges_in a.n a.list.now) a.words.now a.changed.now p.1.1.1,
       copied_none a.memory.now a.table.now (ranges_in a.n a.list.now) a.budget begins begins a.bodies.now (omega arith) refl (λ y lo hi. absurd (omega arith)),
       refl,
       refl,
@@ -84,9 +84,9 @@ loop-again c =
     let a = c.before.before.before.before.before.before.before.before.before.before.before.before.before.before.before.before.before.before.before.before.before.before.before.before.before.before.args in
     let i = c.before.before.before.before.before.before.before.before.before.before.before.before.before.loop.invariant in
     let y = c.before.before.before.before.before.before.take_part.ensures in
-    let long = copied-length a.memory.now a.table.now (ranges_in a.n a.list.now) a.budget c.before.before.before.before.before.before.before.before.before.before.before.before.before.loop.walk c.before.before.before.before.before.before.take_part.result c.before.before.before.before.before.before.before.before.before.before.before.before.before.loop.bodies _ y.1.0 in (
-      same-stands a.memory.now c.before.before.before.before.before.before.before.before.before.before.before.before.before.loop.bodies a.table.now (ranges_in a.n a.list.now) _ long c.before.before.before.before.before.before.take_part.result _ _ y.0,
-      copied-join a.memory.now a.table.now (ranges_in a.n a.list.now) a.budget begins c.before.before.before.before.before.before.before.before.before.before.before.before.before.loop.walk c.before.before.before.before.before.before.take_part.result a.bodies.now c.before.before.before.before.before.before.before.before.before.before.before.before.before.loop.bodies _ i.1 y.1.0,
+    let long = copied_length a.memory.now a.table.now (ranges_in a.n a.list.now) a.budget c.before.before.before.before.before.before.before.before.before.before.before.before.before.loop.walk c.before.before.before.before.before.before.take_part.result c.before.before.before.before.before.before.before.before.before.before.before.before.before.loop.bodies _ y.1.0 in (
+      same_stands a.memory.now c.before.before.before.before.before.before.before.before.before.before.before.before.before.loop.bodies a.table.now (ranges_in a.n a.list.now) _ long c.before.before.before.before.before.before.take_part.result _ _ y.0,
+      copied_join a.memory.now a.table.now (ranges_in a.n a.list.now) a.budget begins c.before.before.before.before.before.before.before.before.before.before.before.before.before.loop.walk c.before.before.before.before.before.before.take_part.result a.bodies.now c.before.before.before.before.before.before.before.before.before.before.before.before.before.loop.bodies _ i.1 y.1.0,
       long ∙ i.2,
       search rules,
       search rules,
@@ -106,12 +106,12 @@ returns : tie.Need-returns invariant-loop decreases-loop
 returns c =
     let a = c.before.before.before.before.before.before.before.before.before.before.before.before.before.before.before.args in
     let i = c.before.before.loop.invariant in
-    let st = same-stands a.memory.now c.before.before.loop.bodies a.table.now (ranges_in a.n a.list.now) a.bodies.now (sym i.2) c.before.before.loop.walk c.before.before.loop.words c.before.before.loop.changed i.0 in
+    let st = same_stands a.memory.now c.before.before.loop.bodies a.table.now (ranges_in a.n a.list.now) a.bodies.now (sym i.2) c.before.before.loop.walk c.before.before.loop.words c.before.before.loop.changed i.0 in
     let whole : c.before.before.loop.walk.at ≡ cells_of (length a.memory.now) = omega (arith, c.if1.false, c.before.before.before.Cells-of.ensures, st.cell) in
-    let made = bytes-made a.memory.now a.table.now (ranges_in a.n a.list.now) a.budget c.before.before.loop.walk a.bodies.now c.before.before.loop.bodies i.1 whole in (
-      rw c.before.before.before.before.before.before.before.before.before.before.before.before.before.before.before.requires.1.1.0.0 (taken-all a.memory.now a.bodies.now a.table.now (ranges_in a.n a.list.now) c.before.before.loop.walk c.before.before.loop.words c.before.before.loop.changed st whole),
+    let made = bytes_made a.memory.now a.table.now (ranges_in a.n a.list.now) a.budget c.before.before.loop.walk a.bodies.now c.before.before.loop.bodies i.1 whole in (
+      rw c.before.before.before.before.before.before.before.before.before.before.before.before.before.before.before.requires.1.1.0.0 (taken_all a.memory.now a.bodies.now a.table.now (ranges_in a.n a.list.now) c.before.before.loop.walk c.before.before.loop.words c.before.before.loop.changed st whole),
       (
-        bytes-stored a.memory.now a.table.now (ranges_in a.n a.list.now) a.budget c.before.before.loop.walk a.bodies.now c.before.before.loop.bodies i.1 whole,
+        bytes_stored a.memory.now a.table.now (ranges_in a.n a.list.now) a.budget c.before.before.loop.walk a.bodies.now c.before.before.loop.bodies i.1 whole,
         (made, omega (arith, st.made, whole)),
       ),
     )

@@ -5,7 +5,7 @@ use native.Mathlib.Omega.{arith}
 use lib.ListN.{length}
 use Rattle.words.specs.Layout.{bodies_of}
 use Rattle.table.specs.Changes.{put}
-use Rattle.add.proofs.Taken.{body_small, took-body, took-bytes, took-is}
+use Rattle.add.proofs.Taken.{body_small, took_body, took_bytes, took_is}
 use borrow.Author.Rules.{rules}
 use Rattle.add.proofs.take_new.Statement.{statement}
 use Rattle.add.proofs.take_new.Tie as tie
@@ -35,7 +35,7 @@ copy-taken-requires : tie.Need-copy-taken-requires
 copy-taken-requires c κs =
     let a = c.before.before.before.before.before.before.before.before.before.before.before.args in
     let q = rw c.before.before.before.bodies_of.ensures at c.before.before.take-body.ensures in
-    (c.before.before.before.before.before.before.before.before.before.before.before.requires.1.0.1, λ z. omega (arith, took-body a.slots (bodies_of (length a.bodies.now)) a.table.now a.used.now a.asked.kind a.walk c.before.before.take-body.result q z, c.before.before.before.before.before.before.before.before.before.before.before.requires.1.1.1.body z))
+    (c.before.before.before.before.before.before.before.before.before.before.before.requires.1.0.1, λ z. omega (arith, took_body a.slots (bodies_of (length a.bodies.now)) a.table.now a.used.now a.asked.kind a.walk c.before.before.take-body.result q z, c.before.before.before.before.before.before.before.before.before.before.before.requires.1.1.1.body z))
 
 shared-slice-read-entry-word : tie.Need-shared-slice-read-entry-word
 shared-slice-read-entry-word c = search rules
@@ -78,9 +78,9 @@ returns c =
     let a = c.before.before.before.before.before.before.before.before.before.before.before.before.before.before.before.before.before.before.before.before.before.before.before.before.before.before.args in
     let q = rw c.before.before.before.before.before.before.before.before.before.before.before.before.before.before.before.before.before.before.bodies_of.ensures at c.before.before.before.before.before.before.before.before.before.before.before.before.before.before.before.before.before.take-body.ensures in
     let b = c.beyond.ensures in (
-      took-is a.slots (bodies_of (length a.bodies.now)) a.table.now a.used.now a.asked.kind a.walk c.before.before.before.before.before.before.before.before.before.before.before.before.before.before.before.before.before.take-body.result q c.before.before.before.before.before.before.before.before.before.before.before.before.before.before.before.before.before.before.before.next-free-slot.result c.before.before.before.before.before.before.before.before.before.before.before.before.before.before.before.before.before.before.before.next-free-slot.ensures _ b.0 b.1 b.2 b.3 b.4,
+      took_is a.slots (bodies_of (length a.bodies.now)) a.table.now a.used.now a.asked.kind a.walk c.before.before.before.before.before.before.before.before.before.before.before.before.before.before.before.before.before.take-body.result q c.before.before.before.before.before.before.before.before.before.before.before.before.before.before.before.before.before.before.before.next-free-slot.result c.before.before.before.before.before.before.before.before.before.before.before.before.before.before.before.before.before.before.before.next-free-slot.ensures _ b.0 b.1 b.2 b.3 b.4,
       (
-        c.before.before.before.before.before.before.before.before.before.before.before.before.before.before.copy-taken.ensures ∙ rw (c.before.before.before.before.before.before.before.before.before.before.before.before.before.before.before.remaining.ensures, took-bytes a.slots (bodies_of (length a.bodies.now)) a.table.now a.used.now a.asked.kind a.walk c.before.before.before.before.before.before.before.before.before.before.before.before.before.before.before.before.before.take-body.result q a.memory.now),
+        c.before.before.before.before.before.before.before.before.before.before.before.before.before.before.copy-taken.ensures ∙ rw (c.before.before.before.before.before.before.before.before.before.before.before.before.before.before.before.remaining.ensures, took_bytes a.slots (bodies_of (length a.bodies.now)) a.table.now a.used.now a.asked.kind a.walk c.before.before.before.before.before.before.before.before.before.before.before.before.before.before.before.before.before.take-body.result q a.memory.now),
         record {
           put = λ _. rw (c.before.before.before.before.before.before.before.before.before.before.before.before.before.before.before.before.before.before.before.next-free-slot.ensures, c.before.before.before.before.before.before.before.before.before.entry-word.ensures, c.before.before.before.before.before.before.before.before.second-of.ensures, q) at c.before.before.before.before.before.stage-entry.ensures;
           kept = λ z. absurd (let x : ◌≡◌ {A = ℕ} 0 1 = cc in omega arith);

@@ -5,12 +5,12 @@ use native.Mathlib.Omega.{arith}
 use lib.ListN.{length}
 use Rattle.words.specs.Layout.{cells_of}
 use Rattle.ranges.specs.Batch.{ranges_in}
-use Rattle.ranges.proofs.Ranges.{label-low}
-use Rattle.store.proofs.Checks.{store-lengths}
-use Rattle.store.proofs.Raw.{raw-rule}
+use Rattle.ranges.proofs.Ranges.{label_low}
+use Rattle.store.proofs.Checks.{store_lengths}
+use Rattle.store.proofs.Raw.{raw_rule}
 use Rattle.words.proofs.Scan.{by_le}
 use Rattle.add.specs.Walking.{Standing, Copied}
-use Rattle.add.proofs.Taken.{cell_room, cell-turn, same_able, same_room, same-stands, skip-stands, copied_none, copied-join, copied-length}
+use Rattle.add.proofs.Taken.{cell_room, cell_turn, same_able, same_room, same_stands, skip_stands, copied_none, copied_join, copied_length}
 use borrow.Author.Rules.{rules}
 use Rattle.add.proofs.take_part.Statement.{statement}
 use Rattle.add.proofs.take_part.Tie as tie
@@ -42,7 +42,7 @@ loop-holds c =
       omega arith,
       λ h. omega (arith, (x.some h).0),
       refl,
-      skip-stands a.memory.now a.bodies.now a.table.now (ranges_in a.n a.list.now) a.walk a.words.now a.changed.now p.1.1.0 _ _ x.low x.high (λ c lo hi. x.none c lo hi),
+      skip_stands a.memory.now a.bodies.now a.table.now (ranges_in a.n a.list.now) a.walk a.words.now a.changed.now p.1.1.0 _ _ x.low x.high (λ c lo hi. x.none c lo hi),
       copied_none a.memory.now a.table.now (ranges_in a.n a.list.now) a.budget _ _ a.bodies.now (omega arith) refl (λ y lo hi. absurd (omega arith)),
       refl,
       refl,
@@ -56,12 +56,12 @@ take-cell-requires c κs =
     let i = c.before.before.before.before.before.before.loop.invariant in
     let x = rw c.before.before.before.before.before.before.before.before.Cells-of.ensures at c.before.before.before.before.before.before.before.next-segment.ensures in
     let asks = x.asks c.before.before.before.before.before.before.loop.w.at i.0 c.before.before.before.if1.true in
-    let f = store-lengths _ _ a.table.now p.0.ready.store in
+    let f = store_lengths _ _ a.table.now p.0.ready.store in
     let able = same_able a.memory.now a.bodies.now c.before.before.before.before.before.before.loop.bodies a.table.now a.held.now a.used.now (ranges_in a.n a.list.now) i.5 p.0 in
     let low = p.0.ready.within c.before.before.before.before.before.before.loop.w.at asks.named in
     let slots = p.1.1.1.0 in
-    let lab = label-low c.before.before.before.before.before.before.loop.w.at (ranges_in a.n a.list.now) in (
-      (omega (arith, slots, f.slots_high), omega (arith, slots, f.table_exact), (raw-rule a.memory.now a.bodies.now a.table.now p.0.ready.store).live, omega (arith, asks.label, lab)),
+    let lab = label_low c.before.before.before.before.before.before.loop.w.at (ranges_in a.n a.list.now) in (
+      (omega (arith, slots, f.slots_high), omega (arith, slots, f.table_exact), (raw_rule a.memory.now a.bodies.now a.table.now p.0.ready.store).live, omega (arith, asks.label, lab)),
       (
         (omega (arith, low, f.cells_high), omega (arith, low, f.memory_exact), i.3.made),
         (
@@ -85,7 +85,7 @@ loop-less c =
     let able = same_able a.memory.now a.bodies.now c.before.before.before.before.before.before.before.before.before.before.before.before.before.loop.bodies a.table.now a.held.now a.used.now (ranges_in a.n a.list.now) i.5 p.0 in
     let slots = p.1.1.1.0 in
     let y = rw slots at c.before.before.before.before.before.before.take-cell.ensures in
-    let turn = cell-turn a.memory.now c.before.before.before.before.before.before.before.before.before.before.before.before.before.loop.bodies a.table.now a.held.now a.used.now (ranges_in a.n a.list.now) able c.before.before.before.before.before.before.before.before.before.before.before.before.before.loop.w c.before.before.before.before.before.before.before.before.before.before.before.before.before.loop.words c.before.before.before.before.before.before.before.before.before.before.before.before.before.loop.changed i.3 c.before.before.before.before.before.before.before.before.before.before.before.before.before.before.next-segment.result asks a.budget c.before.before.before.before.before.before.take-cell.result _ _ _ y.0 y.1.0 y.1.1 in
+    let turn = cell_turn a.memory.now c.before.before.before.before.before.before.before.before.before.before.before.before.before.loop.bodies a.table.now a.held.now a.used.now (ranges_in a.n a.list.now) able c.before.before.before.before.before.before.before.before.before.before.before.before.before.loop.w c.before.before.before.before.before.before.before.before.before.before.before.before.before.loop.words c.before.before.before.before.before.before.before.before.before.before.before.before.before.loop.changed i.3 c.before.before.before.before.before.before.before.before.before.before.before.before.before.before.next-segment.result asks a.budget c.before.before.before.before.before.before.take-cell.result _ _ _ y.0 y.1.0 y.1.1 in
     omega (arith, turn.2, c.before.before.before.before.before.before.before.before.before.before.if1.true)
 
 loop-again : tie.Need-loop-preserved invariant-loop decreases-loop
@@ -98,13 +98,13 @@ loop-again c =
     let able = same_able a.memory.now a.bodies.now c.before.before.before.before.before.before.before.before.before.before.before.before.before.loop.bodies a.table.now a.held.now a.used.now (ranges_in a.n a.list.now) i.5 p.0 in
     let slots = p.1.1.1.0 in
     let y = rw slots at c.before.before.before.before.before.before.take-cell.ensures in
-    let turn = cell-turn a.memory.now c.before.before.before.before.before.before.before.before.before.before.before.before.before.loop.bodies a.table.now a.held.now a.used.now (ranges_in a.n a.list.now) able c.before.before.before.before.before.before.before.before.before.before.before.before.before.loop.w c.before.before.before.before.before.before.before.before.before.before.before.before.before.loop.words c.before.before.before.before.before.before.before.before.before.before.before.before.before.loop.changed i.3 c.before.before.before.before.before.before.before.before.before.before.before.before.before.before.next-segment.result asks a.budget c.before.before.before.before.before.before.take-cell.result _ _ _ y.0 y.1.0 y.1.1 in
-    let long = copied-length a.memory.now a.table.now (ranges_in a.n a.list.now) a.budget c.before.before.before.before.before.before.before.before.before.before.before.before.before.loop.w c.before.before.before.before.before.before.take-cell.result c.before.before.before.before.before.before.before.before.before.before.before.before.before.loop.bodies _ turn.1 in (
+    let turn = cell_turn a.memory.now c.before.before.before.before.before.before.before.before.before.before.before.before.before.loop.bodies a.table.now a.held.now a.used.now (ranges_in a.n a.list.now) able c.before.before.before.before.before.before.before.before.before.before.before.before.before.loop.w c.before.before.before.before.before.before.before.before.before.before.before.before.before.loop.words c.before.before.before.before.before.before.before.before.before.before.before.before.before.loop.changed i.3 c.before.before.before.before.before.before.before.before.before.before.before.before.before.before.next-segment.result asks a.budget c.before.before.before.before.before.before.take-cell.result _ _ _ y.0 y.1.0 y.1.1 in
+    let long = copied_length a.memory.now a.table.now (ranges_in a.n a.list.now) a.budget c.before.before.before.before.before.before.before.before.before.before.before.before.before.loop.w c.before.before.before.before.before.before.take-cell.result c.before.before.before.before.before.before.before.before.before.before.before.before.before.loop.bodies _ turn.1 in (
       omega (arith, turn.2, i.0),
       λ h. omega (arith, turn.2, c.before.before.before.before.before.before.before.before.before.before.if1.true),
       turn.3 ∙ i.2,
-      same-stands a.memory.now c.before.before.before.before.before.before.before.before.before.before.before.before.before.loop.bodies a.table.now (ranges_in a.n a.list.now) _ long c.before.before.before.before.before.before.take-cell.result _ _ turn.0,
-      copied-join a.memory.now a.table.now (ranges_in a.n a.list.now) a.budget _ c.before.before.before.before.before.before.before.before.before.before.before.before.before.loop.w c.before.before.before.before.before.before.take-cell.result a.bodies.now c.before.before.before.before.before.before.before.before.before.before.before.before.before.loop.bodies _ i.4 turn.1,
+      same_stands a.memory.now c.before.before.before.before.before.before.before.before.before.before.before.before.before.loop.bodies a.table.now (ranges_in a.n a.list.now) _ long c.before.before.before.before.before.before.take-cell.result _ _ turn.0,
+      copied_join a.memory.now a.table.now (ranges_in a.n a.list.now) a.budget _ c.before.before.before.before.before.before.before.before.before.before.before.before.before.loop.w c.before.before.before.before.before.before.take-cell.result a.bodies.now c.before.before.before.before.before.before.before.before.before.before.before.before.before.loop.bodies _ i.4 turn.1,
       long ∙ i.5,
       search rules,
       search rules,
@@ -126,9 +126,9 @@ returns c =
     let i = c.before.before.before.loop.invariant in
     let x = rw c.before.before.before.before.before.Cells-of.ensures at c.before.before.before.before.next-segment.ensures in
     let front = copied_none a.memory.now a.table.now (ranges_in a.n a.list.now) a.budget a.walk (record { at = c.before.before.before.before.next-segment.result.at; next = c.before.before.before.before.next-segment.result.next; slot = a.walk.slot; body = a.walk.body; made = a.walk.made }) a.bodies.now x.low refl (λ y lo hi. x.none y lo hi) in (
-      same-stands a.memory.now c.before.before.before.loop.bodies a.table.now (ranges_in a.n a.list.now) a.bodies.now (sym i.5) c.before.before.before.loop.w c.before.before.before.loop.words c.before.before.before.loop.changed i.3,
+      same_stands a.memory.now c.before.before.before.loop.bodies a.table.now (ranges_in a.n a.list.now) a.bodies.now (sym i.5) c.before.before.before.loop.w c.before.before.before.loop.words c.before.before.before.loop.changed i.3,
       (
-        copied-join a.memory.now a.table.now (ranges_in a.n a.list.now) a.budget a.walk _ c.before.before.before.loop.w a.bodies.now a.bodies.now c.before.before.before.loop.bodies front i.4,
+        copied_join a.memory.now a.table.now (ranges_in a.n a.list.now) a.budget a.walk _ c.before.before.before.loop.w a.bodies.now a.bodies.now c.before.before.before.loop.bodies front i.4,
         (
           by_le (cells_of (length a.memory.now)) c.before.before.before.before.next-segment.result.at
               (λ h. omega (arith, h, i.0, p.1.1.1.1))

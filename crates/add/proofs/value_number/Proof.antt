@@ -3,8 +3,8 @@ use lib.ListN.{length}
 use mathlib.Core.Path.{◌≡◌, ap, ◌∙◌}
 use native.Mathlib.Omega.{arith}
 use Rattle.patterns.proofs.Bytes.{pattern_length}
-use Rattle.search.proofs.Behind.{source-here, source-deep}
-use Rattle.add.proofs.Comparing.{somewhere, body-within, body-number, rule-number}
+use Rattle.search.proofs.Behind.{source_here, source_deep}
+use Rattle.add.proofs.Comparing.{somewhere, body_within, body_number, rule_number}
 use borrow.Author.Rules.{rules}
 use Rattle.add.proofs.value_number.Statement.{statement}
 use Rattle.add.proofs.value_number.Tie as tie
@@ -16,7 +16,7 @@ find-value-requires : tie.Need-find-value-requires
 find-value-requires c κs =
     let a = c.before.before.before.before.before.args in
     let p = c.before.before.before.before.before.requires in
-    ((p.0.0, p.0.1, p.0.5, p.0.3, source-deep a.slots a.table.now a.depth a.cell p.0.2 p.1.2.slot), (p.0.4, source-here a.slots a.table.now a.depth a.cell p.0.2 p.1.2.slot))
+    ((p.0.0, p.0.1, p.0.5, p.0.3, source_deep a.slots a.table.now a.depth a.cell p.0.2 p.1.2.slot), (p.0.4, source_here a.slots a.table.now a.depth a.cell p.0.2 p.1.2.slot))
 
 enum_told : tie.Need-enum-told
 enum_told c = search rules
@@ -31,7 +31,7 @@ same-cell-requires : tie.Need-same-cell-requires
 same-cell-requires c κs =
     let a = c.before.before.before.before.before.before.before.before.before.before.args in
     let p = c.before.before.before.before.before.before.before.before.before.before.requires in
-    let within = body-within a.memory.now a.bodies.now a.slots a.table.now a.depth a.cell p.0.2 p.1.2 _ c.before.before.before.before.find-value.ensures _ _ c.before.before.body.given.1 in
+    let within = body_within a.memory.now a.bodies.now a.slots a.table.now a.depth a.cell p.0.2 p.1.2 _ c.before.before.before.before.find-value.ensures _ _ c.before.before.body.given.1 in
     (omega (arith, within, c.wide.ensures), p.1.1)
 
 number-of-requires : tie.Need-number-of-requires
@@ -62,13 +62,13 @@ returns-2 : tie.Need-returns-2
 returns-2 c =
     let a = c.before.before.before.before.before.before.before.before.before.before.before.before.args in
     let p = c.before.before.before.before.before.before.before.before.before.before.before.before.requires in
-    body-number a.memory.now a.bodies.now a.slots a.table.now a.depth a.cell p.0.2 p.1.2 _ c.before.before.before.before.before.before.find-value.ensures _ _ c.before.before.before.before.body.given.1 _ c.before.before.wide.ensures _ c.before.same-cell.ensures _ c.number_of_lem.ensures
+    body_number a.memory.now a.bodies.now a.slots a.table.now a.depth a.cell p.0.2 p.1.2 _ c.before.before.before.before.before.before.find-value.ensures _ _ c.before.before.before.before.body.given.1 _ c.before.before.wide.ensures _ c.before.same-cell.ensures _ c.number_of_lem.ensures
 
 returns-3 : tie.Need-returns-3
 returns-3 c =
     let a = c.before.before.before.before.before.before.before.before.before.before.before.before.before.args in
     let p = c.before.before.before.before.before.before.before.before.before.before.before.before.before.requires in
-    rule-number a.memory.now a.bodies.now a.slots a.table.now a.depth a.cell p.0.2 p.1.2 _ c.before.before.before.before.before.before.before.find-value.ensures _ _ c.before.before.before.before.before.rule.given.1 _ c.before.before.before.pattern-bytes.ensures _ c.before.same-cell2.ensures _ c.number-of2.ensures
+    rule_number a.memory.now a.bodies.now a.slots a.table.now a.depth a.cell p.0.2 p.1.2 _ c.before.before.before.before.before.before.before.find-value.ensures _ _ c.before.before.before.before.before.rule.given.1 _ c.before.before.before.pattern-bytes.ensures _ c.before.same-cell2.ensures _ c.number-of2.ensures
 
 pub value-number-spec : {M : Type 1} → statement M
 value-number-spec =

@@ -1,5 +1,5 @@
 -- `add::write_many` meets its contract. Assumes nothing.
-use Rattle.store.proofs.Checks.{store-lengths}
+use Rattle.store.proofs.Checks.{store_lengths}
 use Rattle.changes.proofs.Staging.{stages_start}
 use borrow.Author.Rules.{rules}
 use Rattle.add.proofs.write_many.Statement.{statement}
@@ -23,7 +23,7 @@ slice-aggregate-write-list-2 c = search rules
 write-list-requires : tie.Need-write-list-requires
 write-list-requires c κs =
     let p = c.before.before.before.before.before.before.before.before.before.before.before.before.requires in
-    let f = store-lengths _ _ c.before.before.before.before.before.before.before.before.before.before.before.before.args.table.now p.0.ready.store in
+    let f = store_lengths _ _ c.before.before.before.before.before.before.before.before.before.before.before.before.args.table.now p.0.ready.store in
     let high = f.slots_high in
     (p.0, (p.1.0, ((p.1.1, (search rules, search rules)), λ f. stages_start 64 c.before.before.before.before.many-bits.ensures)))
 

@@ -1,7 +1,7 @@
 -- `advance::advance_asked` meets its contract. Assumes nothing.
 use mathlib.Core.Path.{sym, ◌∙◌}
 use borrow.Author.Rules.{rules}
-use Rattle.advance.proofs.Advanced.{advance-refused, advance-goes}
+use Rattle.advance.proofs.Advanced.{advance_refused, advance_goes}
 use Rattle.advance.proofs.advance_asked.Statement.{statement}
 use Rattle.advance.proofs.advance_asked.Tie as tie
 
@@ -26,7 +26,7 @@ same-length-5 c = search rules
 returns : tie.Need-returns
 returns c =
     let a = c.before.before.before.before.before.before.before.before.before.before.before.before.before.before.before.before.before.before.before.before.before.args in
-    advance-refused a.memory.now a.bodies.now a.table.now a.handle a.budget _ c.before.before.before.before.before.before.before.before.advance-check.ensures.0 c.if1.true
+    advance_refused a.memory.now a.bodies.now a.table.now a.handle a.budget _ c.before.before.before.before.before.before.before.before.advance-check.ensures.0 c.if1.true
 
 advance-stored-requires : tie.Need-advance-stored-requires
 advance-stored-requires c κs =
@@ -54,7 +54,7 @@ same-length-11 c = search rules
 returns-2 : tie.Need-returns-2
 returns-2 c =
     let a = c.before.before.before.before.before.before.before.before.before.before.before.before.before.before.before.before.before.before.before.before.before.before.before.before.before.before.before.before.before.before.before.before.before.before.args in
-    c.before.before.before.before.before.before.advance-stored.ensures ∙ advance-goes a.memory.now a.bodies.now a.table.now a.handle a.budget (sym c.before.before.before.before.before.before.before.before.before.before.before.before.before.before.before.before.before.before.before.before.before.advance-check.ensures.0 ∙ c.before.before.before.before.before.before.before.before.before.before.before.before.before.if1.false)
+    c.before.before.before.before.before.before.advance-stored.ensures ∙ advance_goes a.memory.now a.bodies.now a.table.now a.handle a.budget (sym c.before.before.before.before.before.before.before.before.before.before.before.before.before.before.before.before.before.before.before.before.before.advance-check.ensures.0 ∙ c.before.before.before.before.before.before.before.before.before.before.before.before.before.if1.false)
 
 pub advance-asked-spec : {M : Type 1} → statement M
 advance-asked-spec =

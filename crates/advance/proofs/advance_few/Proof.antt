@@ -1,7 +1,7 @@
 -- `advance::advance_few` meets its contract. Assumes nothing.
 use borrow.Author.Rules.{rules}
 use Rattle.marks.proofs.Blocks.{blank_zeros}
-use Rattle.table.proofs.Marks.{room-few}
+use Rattle.table.proofs.Marks.{room_few}
 use Rattle.advance.proofs.advance_few.Statement.{statement}
 use Rattle.advance.proofs.advance_few.Tie as tie
 
@@ -30,7 +30,7 @@ slice-aggregate-advance-asked-4 : tie.Need-slice-aggregate-advance-asked-4
 slice-aggregate-advance-asked-4 c = search rules
 
 advance-asked-requires : tie.Need-advance-asked-requires
-advance-asked-requires c κs = (rw (c.before.before.before.before.before.before.before.before.before.few-marks.ensures, c.before.before.before.before.before.before.before.before.no_bodies.ensures) (room-few _ _ _ c.before.before.before.before.before.before.before.before.before.before.before.before.before.requires.1 c.before.before.before.before.before.before.before.before.before.before.before.before.before.requires.0), ((search rules, rw c.before.before.before.before.before.before.before.few-block-bits.ensures (blank_zeros 65)), search rules))
+advance-asked-requires c κs = (rw (c.before.before.before.before.before.before.before.before.before.few-marks.ensures, c.before.before.before.before.before.before.before.before.no_bodies.ensures) (room_few _ _ _ c.before.before.before.before.before.before.before.before.before.before.before.before.before.requires.1 c.before.before.before.before.before.before.before.before.before.before.before.before.before.requires.0), ((search rules, rw c.before.before.before.before.before.before.before.few-block-bits.ensures (blank_zeros 65)), search rules))
 
 same_length : tie.Need-same-length
 same_length c = search rules

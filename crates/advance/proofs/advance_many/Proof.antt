@@ -1,7 +1,7 @@
 -- `advance::advance_many` meets its contract. Assumes nothing.
 use borrow.Author.Rules.{rules}
 use Rattle.marks.proofs.Blocks.{blank_zeros}
-use Rattle.table.proofs.Marks.{room-many}
+use Rattle.table.proofs.Marks.{room_many}
 use Rattle.advance.proofs.advance_many.Statement.{statement}
 use Rattle.advance.proofs.advance_many.Tie as tie
 
@@ -30,7 +30,7 @@ slice-aggregate-advance-asked-4 : tie.Need-slice-aggregate-advance-asked-4
 slice-aggregate-advance-asked-4 c = search rules
 
 advance-asked-requires : tie.Need-advance-asked-requires
-advance-asked-requires c κs = (rw (c.before.before.before.before.before.before.before.before.before.many-marks.ensures, c.before.before.before.before.before.before.before.before.no_bodies.ensures) (room-many _ _ _ c.before.before.before.before.before.before.before.before.before.before.before.before.before.requires), ((search rules, rw c.before.before.before.before.before.before.before.many-block-bits.ensures (blank_zeros 1025)), search rules))
+advance-asked-requires c κs = (rw (c.before.before.before.before.before.before.before.before.before.many-marks.ensures, c.before.before.before.before.before.before.before.before.no_bodies.ensures) (room_many _ _ _ c.before.before.before.before.before.before.before.before.before.before.before.before.before.requires), ((search rules, rw c.before.before.before.before.before.before.before.many-block-bits.ensures (blank_zeros 1025)), search rules))
 
 same_length : tie.Need-same-length
 same_length c = search rules

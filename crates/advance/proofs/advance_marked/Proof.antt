@@ -6,9 +6,9 @@ use borrow.Author.Rules.{rules}
 use lib.ListN.{length}
 use Rattle.words.specs.Layout.{cells_of, group_at}
 use Rattle.store.specs.Outcome.{buffers}
-use Rattle.store.proofs.Checks.{store-lengths}
+use Rattle.store.proofs.Checks.{store_lengths}
 use Rattle.advance.specs.Notes.{by_group, Outwards}
-use Rattle.advance.proofs.Performing.{ready-front, ready-once, ready-count, ready-inside, ready-order, ready-room, ready-low}
+use Rattle.advance.proofs.Performing.{ready_front, ready_once, ready_count, ready_inside, ready_order, ready_room, ready_low}
 use Rattle.advance.proofs.advance_marked.Statement.{statement}
 use Rattle.advance.proofs.advance_marked.Tie as tie
 
@@ -32,18 +32,18 @@ list-slots-requires c κs = let a = c.before.before.before.before.before.before.
     let ready = c.before.before.before.before.before.before.before.before.before.before.before.before.before.before.before.before.requires.0.0 in
     let told = c.before.before.before.before.before.before.before.before.before.before.before.before.before.before.before.before.requires.1.0 in
     let list = c.before.before.before.before.before.before.before.before.before.before.before.before.before.before.before.before.requires.1.1.0 in
-    let f = store-lengths _ _ a.table.now ready.stands in
-    let few = ready-front a.memory.now a.bodies.now a.table.now a.used.now ready a.top told.ends in
+    let f = store_lengths _ _ a.table.now ready.stands in
+    let few = ready_front a.memory.now a.bodies.now a.table.now a.used.now ready a.top told.ends in
     let x = by_group a.seen.now a.bits.now in
-    let number = ready-count a.memory.now a.bodies.now a.table.now a.used.now ready x told.cells in
+    let number = ready_count a.memory.now a.bodies.now a.table.now a.used.now ready x told.cells in
     let reach : cells_of (length a.memory.now) ≤ group_at c.before.before.before.before.Group-of.result = omega (arith, c.before.before.before.before.Group-of.ensures, c.before.before.before.before.before.Cells-of.ensures) in
     rw c.before.before.before.slots-of.ensures (
       (f.slots_high, omega (arith, f.table_exact), told.ends),
       (
         (told.blocks, list.0),
         (
-          (omega (arith, c.before.before.before.before.Group-of.ensures, c.before.before.before.before.before.Cells-of.ensures, f.cells_high), ready-inside a.memory.now a.bodies.now a.table.now a.used.now ready x told.cells c.before.before.before.before.Group-of.result reach),
-          (omega (arith, number, few, f.slots_high, told.ends.0, list.1), (ready-once a.memory.now a.bodies.now a.table.now a.used.now ready, ready.lives)),
+          (omega (arith, c.before.before.before.before.Group-of.ensures, c.before.before.before.before.before.Cells-of.ensures, f.cells_high), ready_inside a.memory.now a.bodies.now a.table.now a.used.now ready x told.cells c.before.before.before.before.Group-of.result reach),
+          (omega (arith, number, few, f.slots_high, told.ends.0, list.1), (ready_once a.memory.now a.bodies.now a.table.now a.used.now ready, ready.lives)),
         ),
       ),
     )
@@ -53,16 +53,16 @@ store-listed-requires c κs = let a = c.before.before.before.before.before.befor
     let ready = c.before.before.before.before.before.before.before.before.before.before.before.before.before.before.before.before.before.before.before.before.before.before.before.before.before.before.requires.0.0 in
     let told = c.before.before.before.before.before.before.before.before.before.before.before.before.before.before.before.before.before.before.before.before.before.before.before.before.before.before.requires.1.0 in
     let x = by_group a.seen.now a.bits.now in
-    let few = ready-front a.memory.now a.bodies.now a.table.now a.used.now ready a.top told.ends in
-    let number = c.before.before.before.before.before.before.before.before.before.list-slots.ensures.0 ∙ ready-count a.memory.now a.bodies.now a.table.now a.used.now ready x told.cells in
-    let list = ready-order a.memory.now a.bodies.now a.table.now a.used.now ready x told.cells _ _ number (rw c.before.before.before.before.before.before.before.before.before.before.before.before.before.slots-of.ensures at c.before.before.before.before.before.before.before.before.before.list-slots.ensures.1) in
-    let low = ready-low a.memory.now a.bodies.now a.table.now a.used.now ready _ _ list a.top told.ends in
+    let few = ready_front a.memory.now a.bodies.now a.table.now a.used.now ready a.top told.ends in
+    let number = c.before.before.before.before.before.before.before.before.before.list-slots.ensures.0 ∙ ready_count a.memory.now a.bodies.now a.table.now a.used.now ready x told.cells in
+    let list = ready_order a.memory.now a.bodies.now a.table.now a.used.now ready x told.cells _ _ number (rw c.before.before.before.before.before.before.before.before.before.before.before.before.before.slots-of.ensures at c.before.before.before.before.before.before.before.before.before.list-slots.ensures.1) in
+    let low = ready_low a.memory.now a.bodies.now a.table.now a.used.now ready _ _ list a.top told.ends in
     let room = c.before.before.before.before.before.before.before.before.before.before.before.before.before.before.before.before.before.before.before.before.before.before.before.before.before.before.requires.1.1.1.0 in
     let out : Outwards (buffers a.memory.now a.bodies.now a.table.now) a.given a.seen.now a.changed.now = record {
       kept = told.blocks.kept;
       marked = told.marked;
       number = told.number;
-      room = λ k l. omega (arith, ready-room a.memory.now a.bodies.now a.table.now a.used.now ready a.given a.top told.number told.ends k l, room.1);
+      room = λ k l. omega (arith, ready_room a.memory.now a.bodies.now a.table.now a.used.now ready a.given a.top told.number told.ends k l, room.1);
     } in
     (c.before.before.before.before.before.before.before.before.before.before.before.before.before.before.before.before.before.before.before.before.before.before.before.before.before.before.requires.0, ((list, omega (arith, number, few, c.before.before.before.before.before.before.before.before.before.before.before.before.before.before.before.before.before.before.before.before.before.before.before.before.before.before.requires.1.1.0.1, c.before.before.before.before.before.before.before.before.before.list-slots.auto.1.1.1.1.1.1.1.0)), (number, (out, ((λ r l. omega (arith, low r l, room.0.0), room.0.1), c.before.before.before.before.before.before.before.before.before.before.before.before.before.before.before.before.before.before.before.before.before.before.before.before.before.before.requires.1.1.1.1)))))
 

@@ -1,7 +1,7 @@
 -- `advance::advance_some` meets its contract. Assumes nothing.
 use borrow.Author.Rules.{rules}
 use Rattle.marks.proofs.Blocks.{blank_zeros}
-use Rattle.table.proofs.Marks.{room-some}
+use Rattle.table.proofs.Marks.{room_some}
 use Rattle.advance.proofs.advance_some.Statement.{statement}
 use Rattle.advance.proofs.advance_some.Tie as tie
 
@@ -30,7 +30,7 @@ slice-aggregate-advance-asked-4 : tie.Need-slice-aggregate-advance-asked-4
 slice-aggregate-advance-asked-4 c = search rules
 
 advance-asked-requires : tie.Need-advance-asked-requires
-advance-asked-requires c κs = (rw (c.before.before.before.before.before.before.before.before.before.some-marks.ensures, c.before.before.before.before.before.before.before.before.no_bodies.ensures) (room-some _ _ _ c.before.before.before.before.before.before.before.before.before.before.before.before.before.requires.1 c.before.before.before.before.before.before.before.before.before.before.before.before.before.requires.0), ((search rules, rw c.before.before.before.before.before.before.before.some-block-bits.ensures (blank_zeros 257)), search rules))
+advance-asked-requires c κs = (rw (c.before.before.before.before.before.before.before.before.before.some-marks.ensures, c.before.before.before.before.before.before.before.before.no_bodies.ensures) (room_some _ _ _ c.before.before.before.before.before.before.before.before.before.before.before.before.before.requires.1 c.before.before.before.before.before.before.before.before.before.before.before.before.before.requires.0), ((search rules, rw c.before.before.before.before.before.before.before.some-block-bits.ensures (blank_zeros 257)), search rules))
 
 same_length : tie.Need-same-length
 same_length c = search rules

@@ -2,8 +2,8 @@
 use mathlib.Core.Path.{sym, ◌∙◌}
 use native.Mathlib.Omega.{arith}
 use borrow.Author.Rules.{rules}
-use Rattle.store.proofs.Checks.{store-lengths}
-use Rattle.advance.proofs.Performing.{ready-none}
+use Rattle.store.proofs.Checks.{store_lengths}
+use Rattle.advance.proofs.Performing.{ready_none}
 use Rattle.advance.proofs.advance_stored.Statement.{statement}
 use Rattle.advance.proofs.advance_stored.Tie as tie
 
@@ -16,13 +16,13 @@ answer-of-requires c κs = search rules
 returns : tie.Need-returns
 returns c =
     let a = c.before.before.before.before.before.before.before.before.before.before.args in
-    ready-none a.memory.now a.bodies.now a.table.now a.used.now c.before.before.before.before.before.before.before.before.before.before.requires.0.0 a.top a.given a.seen.now a.bits.now c.before.before.before.before.before.before.before.before.before.before.requires.1.0 (sym c.before.before.none-set.ensures ∙ c.before.if1.true) a.budget _ c.answer-of.ensures
+    ready_none a.memory.now a.bodies.now a.table.now a.used.now c.before.before.before.before.before.before.before.before.before.before.requires.0.0 a.top a.given a.seen.now a.bits.now c.before.before.before.before.before.before.before.before.before.before.requires.1.0 (sym c.before.before.none-set.ensures ∙ c.before.if1.true) a.budget _ c.answer-of.ensures
 
 add-if2 : tie.Need-overflow-add-if2
 add-if2 c =
     let ready = c.before.before.before.before.before.before.before.before.before.requires.0.0 in
     let told = c.before.before.before.before.before.before.before.before.before.requires.1.0 in
-    let f = store-lengths _ _ c.before.before.before.before.before.before.before.before.before.args.table.now ready.stands in
+    let f = store_lengths _ _ c.before.before.before.before.before.before.before.before.before.args.table.now ready.stands in
     omega (arith, told.ends.0, f.slots_high, told.number, ready.slots)
 
 store-few-requires : tie.Need-store-few-requires

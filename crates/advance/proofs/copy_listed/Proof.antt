@@ -10,16 +10,16 @@ use Rattle.words.specs.Scan.{count, nth}
 use Rattle.words.specs.Stores.{Store, store, stores, gather}
 use Rattle.words.specs.Cells.{cell_plan}
 use Rattle.words.proofs.Plans.{stores_none}
-use Rattle.words.proofs.Gather.{gather-turn}
+use Rattle.words.proofs.Gather.{gather_turn}
 use Rattle.table.specs.Marks.{cell_in}
 use Rattle.search.specs.Free.{unmarked, unmarked_from}
-use Rattle.search.proofs.Free.{unmarked-nth, unmarked-below, unmarked-passed}
+use Rattle.search.proofs.Free.{unmarked_nth, unmarked_below, unmarked_passed}
 use Rattle.changes.specs.Staged.{Stages}
-use Rattle.changes.proofs.Staging.{stages-skip, stages-ext, stages-but}
+use Rattle.changes.proofs.Staging.{stages_skip, stages_ext, stages_but}
 use Rattle.store.specs.Outcome.{buffers}
 use Rattle.advance.specs.Advance.{advances}
 use Rattle.advance.specs.Notes.{change_to}
-use Rattle.advance.proofs.Listing.{plans_length, change-none, change-more}
+use Rattle.advance.proofs.Listing.{plans_length, change_none, change_more}
 use Rattle.advance.proofs.copy_listed.Statement.{statement}
 use Rattle.advance.proofs.copy_listed.Tie as tie
 
@@ -47,7 +47,7 @@ loop-holds c =
       refl,
       refl,
       stores_none a.budget a.bodies.now,
-      stages-ext (stages-skip a.slots c.before.before.before.before.before.before.before.before.requires.1.1.1.1 (omega arith) (λ i l h. refl)) (λ i l. sym (change-none a.slots (bodies_of (length a.bodies.now)) a.table.now a.used.now (advances (buffers a.memory.now a.bodies.now a.table.now)) i)),
+      stages_ext (stages_skip a.slots c.before.before.before.before.before.before.before.before.requires.1.1.1.1 (omega arith) (λ i l h. refl)) (λ i l. sym (change_none a.slots (bodies_of (length a.bodies.now)) a.table.now a.used.now (advances (buffers a.memory.now a.bodies.now a.table.now)) i)),
     )
 
 mul-i : tie.Need-overflow-mul-i invariant-loop decreases-loop
@@ -74,7 +74,7 @@ copy-entry-requires c κs =
     let s = c.before.before.before.before.before.before.before.loop in
     let here = c.before.before.before.before.before.before.loop-test.true in
     let body = c.before.before.before.before.next-free-body.ensures ∙ ap (λ (x : ℕ). unmarked_from x a.used.now s.at) c.before.before.before.before.before.before.before.before.Cells-of.ensures in
-    let low = unmarked-below a.used.now (bodies_of (length a.bodies.now)) s.at s.r s.invariant.1 s.invariant.2 (omega (arith, here, c.before.before.before.before.before.before.before.before.before.before.before.before.before.before.before.before.requires.1.0.2)) in
+    let low = unmarked_below a.used.now (bodies_of (length a.bodies.now)) s.at s.r s.invariant.1 s.invariant.2 (omega (arith, here, c.before.before.before.before.before.before.before.before.before.before.before.before.before.before.before.before.requires.1.0.2)) in
     let list = c.before.before.before.before.before.before.before.before.before.before.before.before.before.before.before.before.requires.1.1.0 in (
       (list.0.slot s.r here, c.before.before.before.before.before.before.before.before.before.before.before.before.before.before.before.before.requires.0.0, c.before.before.before.before.before.before.before.before.before.before.before.before.before.before.before.before.requires.0.1),
       ((list.1 s.r here, omega (arith, low, body, s.invariant.3), omega (arith, low, body, c.before.before.before.before.before.before.before.before.before.before.before.before.before.before.before.before.requires.1.0.0)), (omega (arith, s.invariant.5, c.before.before.before.before.before.before.before.before.before.before.before.before.before.before.before.before.requires.1.1.1.0.0 s.r here), omega (arith, s.invariant.4, s.invariant.5, c.before.before.before.before.before.before.before.before.before.before.before.before.before.before.before.before.requires.1.1.1.0.1))),
@@ -85,7 +85,7 @@ add_at c =
     let a = c.before.before.before.before.before.before.before.before.before.before.before.before.before.before.before.before.before.before.before.before.before.before.before.args in
     let s = c.before.before.before.before.before.before.before.before.before.before.before.before.before.before.loop in
     let body = c.before.before.before.before.before.before.before.before.before.before.before.next-free-body.ensures ∙ ap (λ (x : ℕ). unmarked_from x a.used.now s.at) c.before.before.before.before.before.before.before.before.before.before.before.before.before.before.before.Cells-of.ensures in
-    let low = unmarked-below a.used.now (bodies_of (length a.bodies.now)) s.at s.r s.invariant.1 s.invariant.2 (omega (arith, c.before.before.before.before.before.before.before.before.before.before.before.before.before.loop-test.true, c.before.before.before.before.before.before.before.before.before.before.before.before.before.before.before.before.before.before.before.before.before.before.before.requires.1.0.2)) in
+    let low = unmarked_below a.used.now (bodies_of (length a.bodies.now)) s.at s.r s.invariant.1 s.invariant.2 (omega (arith, c.before.before.before.before.before.before.before.before.before.before.before.before.before.loop-test.true, c.before.before.before.before.before.before.before.before.before.before.before.before.before.before.before.before.before.before.before.before.before.before.before.requires.1.0.2)) in
     omega (arith, low, body, c.before.before.before.before.before.before.before.before.before.before.before.before.before.before.before.before.before.before.before.before.before.before.before.requires.1.0.0)
 
 add_r : tie.Need-overflow-add-r invariant-loop decreases-loop
@@ -104,20 +104,20 @@ loop-again c =
     let list = c.before.before.before.before.before.before.before.before.before.before.before.before.before.before.before.before.before.before.before.before.before.before.before.requires.1.1.0.0 in
     let body = c.before.before.before.before.before.before.before.before.before.before.before.next-free-body.ensures ∙ ap (λ (x : ℕ). unmarked_from x u s.at) c.before.before.before.before.before.before.before.before.before.before.before.before.before.before.before.Cells-of.ensures in
     let left : s.r < count b (unmarked u) = omega (arith, here, c.before.before.before.before.before.before.before.before.before.before.before.before.before.before.before.before.before.before.before.before.before.before.before.requires.1.0.2) in
-    let low = unmarked-below u b s.at s.r s.invariant.1 s.invariant.2 left in
-    let is = body ∙ unmarked-nth u b s.at s.r s.invariant.1 s.invariant.2 in
+    let low = unmarked_below u b s.at s.r s.invariant.1 s.invariant.2 left in
+    let is = body ∙ unmarked_nth u b s.at s.r s.invariant.1 s.invariant.2 in
     let from : ℕ → ℕ = λ k. cell_in a.slots a.table.now (get_or a.places.now k 0) in
     let plan : ℕ → List Store = λ k. cell_plan a.memory.now (from k) (nth b (unmarked u) k) in
     let copied = rw (c.before.before.before.before.before.before.before.before.before.before.remaining.ensures, is) at c.before.before.before.before.before.before.copy-entry.ensures.0 in
     let staged = rw is at c.before.before.before.before.before.before.copy-entry.ensures.1 in (
       omega (arith, here),
       omega (arith, low, body),
-      ap (λ (x : ℕ). count (x + 1) (unmarked u)) body ∙ unmarked-passed u b s.at s.r s.invariant.1 s.invariant.2 left,
+      ap (λ (x : ℕ). count (x + 1) (unmarked u)) body ∙ unmarked_passed u b s.at s.r s.invariant.1 s.invariant.2 left,
       c.before.before.before.before.before.before.copy-entry.auto.1.0 ∙ s.invariant.3,
       c.before.before.before.before.before.before.copy-entry.auto.1.1.1.1.1.1.0 ∙ s.invariant.4,
       c.before.before.before.before.before.before.copy-entry.auto.1.1.1.1.1.1.1.0 ∙ s.invariant.5,
-      gather-turn plan store a.budget s.r (64 * s.r) a.bodies.now s.bodies _ (plans_length a.memory.now from (nth b (unmarked u)) s.r) s.invariant.6 copied,
-      stages-ext (stages-but s.invariant.7 (list.slot s.r here) staged) (change-more a.slots b a.table.now u (advances (buffers a.memory.now a.bodies.now a.table.now)) a.n s.r a.places.now list here),
+      gather_turn plan store a.budget s.r (64 * s.r) a.bodies.now s.bodies _ (plans_length a.memory.now from (nth b (unmarked u)) s.r) s.invariant.6 copied,
+      stages_ext (stages_but s.invariant.7 (list.slot s.r here) staged) (change_more a.slots b a.table.now u (advances (buffers a.memory.now a.bodies.now a.table.now)) a.n s.r a.places.now list here),
     )
 
 same_length : tie.Need-same-length invariant-loop decreases-loop

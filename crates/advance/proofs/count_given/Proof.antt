@@ -8,7 +8,7 @@ use borrow.Author.Tests.{not-true, not-false}
 use Rattle.words.specs.Scan.{count}
 use Rattle.words.proofs.Scan.{count_le}
 use Rattle.table.specs.Entry.{word1}
-use Rattle.search.proofs.From.{count-byte, byte_small}
+use Rattle.search.proofs.From.{count_byte, byte_small}
 use Rattle.advance.specs.Notes.{has_bit, gives_it}
 use Rattle.advance.proofs.Giving.{given_front}
 use Rattle.advance.proofs.count_given.Statement.{statement}
@@ -62,7 +62,7 @@ loop-again c =
     let gives : ℕ → Bool = λ w. gives_it a.seen.now a.live (has_bit a.seen.now a.bits.now) w in
     let now : (c.before.turns.result && c.parent-lacks.result) ≡ gives (word1 a.slots a.table.now s.i) =
     rw (c.before.turns.ensures, c.parent-lacks.ensures, c.before.before.first_word.ensures) in
-    (search rules, count-byte (λ k. gives (word1 a.slots a.table.now k)) s.i s.n s.invariant.1 _ now)
+    (search rules, count_byte (λ k. gives (word1 a.slots a.table.now k)) s.i s.n s.invariant.1 _ now)
 
 returns-2 : tie.Need-returns-2 invariant-loop decreases-loop
 returns-2 c =

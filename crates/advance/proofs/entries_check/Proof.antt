@@ -11,7 +11,7 @@ use Rattle.words.specs.Layout.{cells_of, bodies_of}
 use Rattle.words.specs.Scan.{count}
 use Rattle.words.proofs.Scan.{count_le}
 use Rattle.table.specs.Entry.{live}
-use Rattle.table.proofs.Rule.{ok-facts}
+use Rattle.table.proofs.Rule.{ok_facts}
 use Rattle.search.specs.Free.{slot_free, is_copy, used_slots, copies}
 use Rattle.values.specs.Values.{entry_changed}
 use Rattle.store.proofs.Checks.{ask_go, ask_stop}
@@ -30,7 +30,7 @@ count-given-requires : tie.Need-count-given-requires
 count-given-requires c κs =
     let a = c.before.before.before.before.before.before.before.before.before.before.before.args in
     let p = c.before.before.before.before.before.before.before.before.before.before.before.requires.0 in (
-      (p.slots, p.words, p.low, (ok-facts (cells_of (length a.memory.now)) a.slots (bodies_of (length a.bodies.now)) a.table.now p.right).live, p.ends),
+      (p.slots, p.words, p.low, (ok_facts (cells_of (length a.memory.now)) a.slots (bodies_of (length a.bodies.now)) a.table.now p.right).live, p.ends),
       record { kept = p.kept; room = omega (arith, c.before.before.before.changed-cells.auto.1.1.1.1.1.1.1.0, c.before.before.before.before.before.before.before.before.before.before.before.requires.1.0); front = c.before.before.before.changed-cells.ensures.1.front },
     )
 

@@ -8,11 +8,11 @@ use Rattle.words.specs.Scan.{count}
 use Rattle.words.proofs.Nth.{count_below}
 use Rattle.table.specs.Changes.{Change}
 use Rattle.search.specs.Free.{slot_free}
-use Rattle.search.proofs.Free.{free-nth}
+use Rattle.search.proofs.Free.{free_nth}
 use Rattle.changes.specs.Staged.{Stages}
-use Rattle.changes.proofs.Staging.{stages-ext}
+use Rattle.changes.proofs.Staging.{stages_ext}
 use Rattle.advance.specs.Notes.{lacks_at, give_to}
-use Rattle.advance.proofs.Giving.{give-none, give-below, turn_low, turn-passed, turn-stages}
+use Rattle.advance.proofs.Giving.{give_none, give_below, turn_low, turn_passed, turn_stages}
 use Rattle.advance.proofs.give_listed.Statement.{statement}
 use Rattle.advance.proofs.give_listed.Tie as tie
 
@@ -40,7 +40,7 @@ loop-holds c =
       refl,
       refl,
       refl,
-      λ other old. stages-ext old (λ i l. sym (give-none a.slots a.table.now a.seen.now a.places.now a.n other i)),
+      λ other old. stages_ext old (λ i l. sym (give_none a.slots a.table.now a.seen.now a.places.now a.n other i)),
     )
 
 mul-i : tie.Need-overflow-mul-i invariant-loop decreases-loop
@@ -65,9 +65,9 @@ give-one-requires c κs =
       (
         (g.kept, g.low, g.high, g.depth s.r here),
         λ y.
-            let next = free-nth a.slots a.table.now s.at (count s.r lacks) s.invariant.1 s.invariant.2 in
+            let next = free_nth a.slots a.table.now s.at (count s.r lacks) s.invariant.1 s.invariant.2 in
             let room = g.room some (count s.r lacks) (count_below lacks s.r a.n here y) in (
-              give-below a.slots a.table.now a.seen.now a.places.now a.n s.r s.at here (g.enough some) s.invariant.1 s.invariant.2 y,
+              give_below a.slots a.table.now a.seen.now a.places.now a.n s.r s.at here (g.enough some) s.invariant.1 s.invariant.2 y,
               (omega (arith, next, room, s.invariant.4), omega (arith, g.long, s.invariant.3, s.invariant.4)),
             ),
       ),
@@ -89,10 +89,10 @@ loop-again c =
     let one = c.before.before.before.before.give-one.ensures in (
       omega (arith, here),
       turn_low a.slots a.table.now a.seen.now a.places.now a.n s.r s.at here enough s.invariant.1 s.invariant.2 one,
-      turn-passed a.slots a.table.now a.seen.now a.places.now a.n s.r s.at here enough s.invariant.1 s.invariant.2 one,
+      turn_passed a.slots a.table.now a.seen.now a.places.now a.n s.r s.at here enough s.invariant.1 s.invariant.2 one,
       c.before.before.before.before.give-one.auto.1.1.1.1.1.1.0 ∙ s.invariant.3,
       c.before.before.before.before.give-one.auto.1.1.1.1.1.1.1.0 ∙ s.invariant.4,
-      λ other old. turn-stages a.slots a.table.now a.seen.now a.places.now a.n s.r s.at here enough s.invariant.1 s.invariant.2 one other (s.invariant.5 other old),
+      λ other old. turn_stages a.slots a.table.now a.seen.now a.places.now a.n s.r s.at here enough s.invariant.1 s.invariant.2 one other (s.invariant.5 other old),
     )
 
 same_length : tie.Need-same-length invariant-loop decreases-loop

@@ -6,7 +6,7 @@ use borrow.Author.Rules.{rules}
 use lib.Dec.{eqb}
 use Rattle.words.specs.Layout.{group_of}
 use Rattle.marks.specs.Blocks.{block_of}
-use Rattle.advance.proofs.Blocks.{by-at, block-fits}
+use Rattle.advance.proofs.Blocks.{by_at, block_fits}
 use Rattle.advance.proofs.has_bit.Statement.{statement}
 use Rattle.advance.proofs.has_bit.Tie as tie
 
@@ -24,7 +24,7 @@ shared-slice-read-result c =
     let a = c.before.before.before.before.before.args in
     let p = c.before.before.before.before.before.requires in
     let q : c.before.Block-of.result ≡ block_of a.seen.now (group_of a.cell) = c.before.Block-of.ensures.0 ∙ ap (block_of a.seen.now) c.before.before.Group-of.ensures in
-    omega (arith, q, block-fits a.seen.now p.0.kept a.bits.now p.0.room (group_of a.cell) (omega (arith, p.1)))
+    omega (arith, q, block_fits a.seen.now p.0.kept a.bits.now p.0.room (group_of a.cell) (omega (arith, p.1)))
 
 shr-result : tie.Need-overflow-shr-result
 shr-result c = search rules
@@ -34,7 +34,7 @@ returns c =
     let a = c.before.before.before.before.before.args in
     let p = c.before.before.before.before.before.requires in
     let q : c.before.Block-of.result ≡ block_of a.seen.now (group_of a.cell) = c.before.Block-of.ensures.0 ∙ ap (block_of a.seen.now) c.before.before.Group-of.ensures in
-    rw q (sym (ap (λ (x : ℕ). eqb (x / 2 ^ (a.cell % 64) % 2) 1) (by-at a.seen.now a.bits.now (group_of a.cell) (omega (arith, p.1)))))
+    rw q (sym (ap (λ (x : ℕ). eqb (x / 2 ^ (a.cell % 64) % 2) 1) (by_at a.seen.now a.bits.now (group_of a.cell) (omega (arith, p.1)))))
 
 pub has-bit-spec : {M : Type 1} → statement M
 has-bit-spec =

@@ -8,10 +8,10 @@ use lib.ListN.{length}
 use Rattle.words.proofs.Scan.{and_split}
 use Rattle.table.specs.Entry.{live, word1, depth_of, cell_of}
 use Rattle.advance.specs.Notes.{by_group, has_bit, ListedSlots}
-use Rattle.advance.proofs.Bits.{rank-fits}
-use Rattle.advance.proofs.Blocks.{bit-cell}
-use Rattle.advance.proofs.Listing.{listed-none, listed_more}
-use Rattle.advance.proofs.Noting.{listed-front}
+use Rattle.advance.proofs.Bits.{rank_fits}
+use Rattle.advance.proofs.Blocks.{bit_cell}
+use Rattle.advance.proofs.Listing.{listed_none, listed_more}
+use Rattle.advance.proofs.Noting.{listed_front}
 use Rattle.advance.proofs.list_slots.Statement.{statement}
 use Rattle.advance.proofs.list_slots.Tie as tie
 
@@ -28,7 +28,7 @@ count-groups-requires : tie.Need-count-groups-requires invariant-loop decreases-
 count-groups-requires c κs = (c.before.before.before.before.before.before.before.requires.1.0, (c.before.before.before.before.before.before.before.requires.1.1.0, omega (arith, c.before.before.before.before.before.before.before.requires.1.1.1.0)))
 
 loop-holds : tie.Need-loop-init invariant-loop decreases-loop
-loop-holds c = (search rules, refl, listed-none _ _ _ c.before.before.before.before.before.before.before.before.before.before.requires.1.1.1.1.1 _ _)
+loop-holds c = (search rules, refl, listed_none _ _ _ c.before.before.before.before.before.before.before.before.before.before.requires.1.1.1.1.1 _ _)
 
 list-slot-requires : tie.Need-list-slot-requires invariant-loop decreases-loop
 list-slot-requires c κs = let a = c.before.before.before.before.before.before.before.before.before.before.before.before.before.before.args in
@@ -55,7 +55,7 @@ loop-again c = let a = c.before.before.before.before.before.before.before.before
           (listed_more a.slots a.table.now (live a.table.now) once.1 f s.places s.i once.0 inside
           (λ z.
           let here = (and_split (eqb (depth_of (word1 a.slots a.table.now s.i)) (live a.table.now)) (f (cell_of (word1 a.slots a.table.now s.i))) z).1 in
-          omega (arith, rank-fits (by_group a.seen.now a.bits.now) 65536 _ (bit-cell a.seen.now a.bits.now _ here) here, c.before.before.before.before.before.before.before.before.before.before.before.before.before.before.before.before.before.requires.1.1.1.0, s.invariant.1)) s.invariant.2),
+          omega (arith, rank_fits (by_group a.seen.now a.bits.now) 65536 _ (bit_cell a.seen.now a.bits.now _ here) here, c.before.before.before.before.before.before.before.before.before.before.before.before.before.before.before.before.before.requires.1.1.1.0, s.invariant.1)) s.invariant.2),
     )
 
 same_length : tie.Need-same-length invariant-loop decreases-loop
@@ -70,7 +70,7 @@ returns c = let a = c.before.before.before.before.before.before.before.before.be
     let n = live a.table.now in
     let last : s.i ≡ a.top = omega (arith, s.invariant.0, c.loop-test.false) in (
       c.before.before.before.before.count-groups.ensures.0,
-      listed-front a.slots a.table.now a.top c.before.before.before.before.before.before.before.before.before.before.before.before.requires.0.2.0 c.before.before.before.before.before.before.before.before.before.before.before.before.requires.0.2.1 n c.before.before.before.before.before.before.before.before.before.before.before.before.requires.1.1.1.1.1 (has_bit a.seen.now a.bits.now) _
+      listed_front a.slots a.table.now a.top c.before.before.before.before.before.before.before.before.before.before.before.before.requires.0.2.0 c.before.before.before.before.before.before.before.before.before.before.before.before.requires.0.2.1 n c.before.before.before.before.before.before.before.before.before.before.before.before.requires.1.1.1.1.1 (has_bit a.seen.now a.bits.now) _
           (subst (λ (k : ℕ). ListedSlots a.slots a.table.now n (has_bit a.seen.now a.bits.now) k s.places) last s.invariant.2),
     )
 

@@ -13,12 +13,12 @@ use Rattle.words.specs.Scan.{count}
 use Rattle.words.proofs.Scan.{and_split, count_le}
 use Rattle.table.specs.Entry.{word1, depth_of, writable_of, cell_of}
 use Rattle.marks.specs.Blocks.{block_of, block_at}
-use Rattle.search.proofs.From.{count-byte, byte_small}
+use Rattle.search.proofs.From.{count_byte, byte_small}
 use Rattle.values.specs.Values.{writes, entry_changed}
 use Rattle.advance.specs.Notes.{by_group, mark_turning, TurnedBits}
 use Rattle.advance.proofs.Bits.{turned_none, turned_more}
-use Rattle.advance.proofs.Blocks.{by_length, by-blank, block-fits, by-turning, front-turning, turning-own}
-use Rattle.advance.proofs.Noting.{advancing-front, turned-front}
+use Rattle.advance.proofs.Blocks.{by_length, by_blank, block_fits, by_turning, front_turning, turning_own}
+use Rattle.advance.proofs.Noting.{advancing_front, turned_front}
 use Rattle.advance.proofs.mark_changed.Statement.{statement}
 use Rattle.advance.proofs.mark_changed.Tie as tie
 
@@ -33,7 +33,7 @@ loop-holds : tie.Need-loop-init invariant-loop decreases-loop
 unfolding count
 loop-holds c =
     let a = c.before.before.before.before.before.before.before.args in
-    (search rules, search rules, turned_none a.slots a.table.now (entry_changed a.memory.now a.bodies.now a.slots a.table.now a.live) (by_group a.seen.now a.bits.now) (by-blank a.seen.now a.bits.now c.before.before.before.before.before.before.before.requires.1.1), c.before.before.before.before.before.before.before.requires.1.1 0, refl)
+    (search rules, search rules, turned_none a.slots a.table.now (entry_changed a.memory.now a.bodies.now a.slots a.table.now a.live) (by_group a.seen.now a.bits.now) (by_blank a.seen.now a.bits.now c.before.before.before.before.before.before.before.requires.1.1), c.before.before.before.before.before.before.before.requires.1.1 0, refl)
 
 entry-changed-requires : tie.Need-entry-changed-requires invariant-loop decreases-loop
 entry-changed-requires c κs =
@@ -60,7 +60,7 @@ mark-turning-requires c κs =
     let p = c.before.before.before.before.before.before.before.before.before.before.before.before.requires.0 in
     let s = c.before.before.before.before.loop in
     let room : length a.seen.now ≤ block_at (length s.bits) = omega (arith, s.invariant.1, c.before.before.before.before.before.before.before.before.before.before.before.before.requires.1.0) in
-    (omega (arith, p.kept.room), block-fits a.seen.now p.kept s.bits room (group_of (cell_of c.first_word.result)) (omega arith))
+    (omega (arith, p.kept.room), block_fits a.seen.now p.kept s.bits room (group_of (cell_of c.first_word.result)) (omega arith))
 
 add-i : tie.Need-overflow-add-i invariant-loop decreases-loop
 add-i c = search rules
@@ -78,19 +78,19 @@ loop-again c =
     let goes = entry_changed a.memory.now a.bodies.now a.slots a.table.now a.live in
     let inside : s.i < a.slots = omega (arith, p.ends.0, c.before.before.before.before.before.before.loop-test.true) in
     let room : length a.seen.now ≤ block_at (length s.bits) = omega (arith, s.invariant.1, c.before.before.before.before.before.before.before.before.before.before.before.before.before.before.before.requires.1.0) in
-    let fits = block-fits a.seen.now p.kept s.bits room (group_of (cell_of w)) (omega arith) in
+    let fits = block_fits a.seen.now p.kept s.bits room (group_of (cell_of w)) (omega arith) in
     let own : goes s.i ≡ true → 1 ≤ block_of a.seen.now (group_of (cell_of w)) =
     λ z.
-    turning-own a.seen.now p.kept a.slots a.table.now p.marked a.live s.i p.low inside
+    turning_own a.seen.now p.kept a.slots a.table.now p.marked a.live s.i p.low inside
     (eqb-true _ _ (and_split (eqb (depth_of w) a.live) (eqb (writable_of w) 1) (and_split (writes a.live w) _ z).0).0) in
     let q = c.before.before.mark-turning.ensures ∙ (λ j. mark_turning (c.before.before.before.before.before.entry-changed.ensures j) (word j) (block_of a.seen.now (group_of (cell_of (word j)))) s.bits) in
-    let all-bits = ap (by_group a.seen.now) q ∙ by-turning a.seen.now p.kept (goes s.i) w s.bits own fits in (
+    let all-bits = ap (by_group a.seen.now) q ∙ by_turning a.seen.now p.kept (goes s.i) w s.bits own fits in (
       search rules,
       c.before.before.mark-turning.auto.0 ∙ s.invariant.1,
       subst (TurnedBits a.slots a.table.now goes (s.i + 1)) (sym all-bits)
           (turned_more a.slots a.table.now goes s.i (by_group a.seen.now s.bits) (omega (arith, by_length a.seen.now s.bits)) s.invariant.2),
-      ap (λ (l : List ℕ). get_or l 0 0) q ∙ front-turning a.seen.now p.kept (goes s.i) w s.bits own s.invariant.3,
-      count-byte goes s.i s.n s.invariant.4 _ c.before.before.before.before.before.entry-changed.ensures,
+      ap (λ (l : List ℕ). get_or l 0 0) q ∙ front_turning a.seen.now p.kept (goes s.i) w s.bits own s.invariant.3,
+      count_byte goes s.i s.n s.invariant.4 _ c.before.before.before.before.before.entry-changed.ensures,
     )
 
 same_length : tie.Need-same-length invariant-loop decreases-loop
@@ -103,9 +103,9 @@ returns c =
     let ends = c.before.before.before.before.before.before.before.before.before.requires.0.ends in
     let goes = entry_changed a.memory.now a.bodies.now a.slots a.table.now a.live in
     let last : s.i ≡ a.top = omega (arith, s.invariant.0, c.loop-test.false) in (
-      s.invariant.4 ∙ ap (λ (n : ℕ). count n goes) last ∙ advancing-front a.slots a.table.now a.top ends.0 ends.1 a.memory.now a.bodies.now a.live,
+      s.invariant.4 ∙ ap (λ (n : ℕ). count n goes) last ∙ advancing_front a.slots a.table.now a.top ends.0 ends.1 a.memory.now a.bodies.now a.live,
       record {
-        turned = turned-front a.slots a.table.now a.top ends.0 ends.1 a.memory.now a.bodies.now a.live _ (subst (λ (n : ℕ). TurnedBits a.slots a.table.now goes n (by_group a.seen.now s.bits)) last s.invariant.2);
+        turned = turned_front a.slots a.table.now a.top ends.0 ends.1 a.memory.now a.bodies.now a.live _ (subst (λ (n : ℕ). TurnedBits a.slots a.table.now goes n (by_group a.seen.now s.bits)) last s.invariant.2);
         front = s.invariant.3;
       },
     )

@@ -1,7 +1,7 @@
 -- `advance::store_many` meets its contract. Assumes nothing.
 use borrow.Author.Rules.{rules}
 use Rattle.changes.proofs.Staging.{stages_start}
-use Rattle.store.proofs.Checks.{store-lengths}
+use Rattle.store.proofs.Checks.{store_lengths}
 use Rattle.advance.proofs.store_many.Statement.{statement}
 use Rattle.advance.proofs.store_many.Tie as tie
 
@@ -25,7 +25,7 @@ slice-aggregate-advance-marked-3 c = search rules
 
 advance-marked-requires : tie.Need-advance-marked-requires
 advance-marked-requires c κs = let a = c.before.before.before.before.before.before.before.before.before.before.before.before.before.before.before.before.args in
-    let f = store-lengths _ _ a.table.now c.before.before.before.before.before.before.before.before.before.before.before.before.before.before.before.before.requires.0.0.stands in
+    let f = store_lengths _ _ a.table.now c.before.before.before.before.before.before.before.before.before.before.before.before.before.before.before.before.requires.0.0.stands in
     (c.before.before.before.before.before.before.before.before.before.before.before.before.before.before.before.before.requires.0, (c.before.before.before.before.before.before.before.before.before.before.before.before.before.before.before.before.requires.1.0, ((c.before.before.before.before.before.before.before.before.before.before.before.before.before.before.before.before.requires.1.1, search rules), (((search rules, search rules), search rules), stages_start 64 c.before.before.before.before.before.before.many-bits.ensures))))
 
 same_length : tie.Need-same-length

@@ -2,7 +2,7 @@ use mathlib.Core.Path.{sym, ◌∙◌}
 use native.Mathlib.Omega.{arith}
 use borrow.Author.Tests.{lt-ltb, le-ltb}
 use Rattle.store.specs.Checks.{create_check}
-use Rattle.store.proofs.Checks.{ask_go, ask_stop, or_else_go, or_else_stop, store-lengths}
+use Rattle.store.proofs.Checks.{ask_go, ask_stop, or_else_go, or_else_stop, store_lengths}
 use borrow.Author.Rules.{rules}
 use Rattle.begin.proofs.create_check.Statement.{statement}
 use Rattle.begin.proofs.create_check.Tie as tie
@@ -22,7 +22,7 @@ returns c = c.before.plain-check.ensures ∙ sym (or_else_stop _ _ (λ e. c.if1.
 -- src/lib.rt:114:8
 shared-slice-read-if2 : tie.Need-shared-slice-read-if2
 shared-slice-read-if2 c =
-    let f = store-lengths _ _ _ (sym c.before.before.plain-check.ensures ∙ c.before.if1.false) in
+    let f = store_lengths _ _ _ (sym c.before.before.plain-check.ensures ∙ c.before.if1.false) in
     omega arith
 
 -- src/lib.rt:115:9
@@ -33,7 +33,7 @@ returns-2 c = sym (or_else_go _ _ (sym c.before.before.before.plain-check.ensure
 -- src/lib.rt:117:8
 shared-slice-read-if3 : tie.Need-shared-slice-read-if3
 shared-slice-read-if3 c =
-    let f = store-lengths _ _ _ (sym c.before.before.before.before.plain-check.ensures ∙ c.before.before.before.if1.false) in
+    let f = store_lengths _ _ _ (sym c.before.before.before.before.plain-check.ensures ∙ c.before.before.before.if1.false) in
     omega arith
 
 -- src/lib.rt:118:9

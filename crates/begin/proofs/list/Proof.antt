@@ -1,6 +1,6 @@
 use mathlib.Core.Path.{refl, sym, ◌∙◌}
 use native.Mathlib.Omega.{arith}
-use Rattle.store.proofs.Checks.{store-lengths}
+use Rattle.store.proofs.Checks.{store_lengths}
 use Rattle.store.proofs.Handles.{list_refused_lem, list_done}
 use borrow.Author.Rules.{rules}
 use Rattle.begin.proofs.list.Statement.{statement}
@@ -21,13 +21,13 @@ returns c = list_refused_lem _ _ c.before.plain-check.ensures c.if1.true
 -- src/lib.rt:305:9
 read-handles-requires : tie.Need-read-handles-requires
 read-handles-requires c κs =
-    let f = store-lengths _ _ _ (sym c.before.plain-check.ensures ∙ c.if1.false) in
+    let f = store_lengths _ _ _ (sym c.before.plain-check.ensures ∙ c.if1.false) in
     omega arith
 
 -- src/lib.rt:308:16
 shared-slice-read-t13 : tie.Need-shared-slice-read-t13
 shared-slice-read-t13 c =
-    let f = store-lengths _ _ _ (sym c.before.before.before.plain-check.ensures ∙ c.before.before.if1.false) in
+    let f = store_lengths _ _ _ (sym c.before.before.before.plain-check.ensures ∙ c.before.before.if1.false) in
     omega arith
 
 -- src/lib.rt:294:1

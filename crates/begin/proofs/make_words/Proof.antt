@@ -5,7 +5,7 @@ use native.Mathlib.Omega.{arith}
 use lib.ListN.{length, take, length-set}
 use Rattle.words.specs.Layout.{pairs_at, magic}
 use Rattle.words.specs.Stores.{stores}
-use Rattle.store.proofs.Making.{middle-plan, make-turn, make_stopped, make_ended}
+use Rattle.store.proofs.Making.{middle_plan, make_turn, make_stopped, make_ended}
 use Rattle.begin.proofs.make_words.Statement.{statement}
 use Rattle.begin.proofs.make_words.Tie as tie
 use Rattle.begin.proofs.make_words.Reads as reads
@@ -16,7 +16,7 @@ use Rattle.words.proofs.least.Reads as least_reads
 
 abbrev invariant-loop : tie.invariant-loop
 invariant-loop table₀ cells slots bodies budget end n i₀ table i =
-    (1 ≤ i) × (i ≤ n) × (n ≤ pairs_at slots) × (length table ≡ length table₀) × (table ≡ stores (take (i - 1) (middle-plan cells slots bodies table₀)) table₀)
+    (1 ≤ i) × (i ≤ n) × (n ≤ pairs_at slots) × (length table ≡ length table₀) × (table ≡ stores (take (i - 1) (middle_plan cells slots bodies table₀)) table₀)
 
 abbrev decreases-loop : tie.decreases-loop
 decreases-loop table₀ cells slots bodies budget end n i₀ table i = n - i
@@ -73,7 +73,7 @@ loop-again c =
       omega arith,
       v.2,
       length-set c.before.before.loop.table i c.fresh-word.result ∙ v.3,
-      rw c.fresh-word.ensures (make-turn a.cells a.slots a.bodies _ i _ v.0 (omega arith) v.4),
+      rw c.fresh-word.ensures (make_turn a.cells a.slots a.bodies _ i _ v.0 (omega arith) v.4),
     )
 
 -- src/lib.rt:114:9

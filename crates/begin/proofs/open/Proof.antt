@@ -2,9 +2,9 @@ use mathlib.Core.Path.{◌≡◌, sym, ap, ◌∙◌}
 use native.Mathlib.Omega.{arith}
 use Rattle.words.specs.Layout.{pairs_at, slots_of}
 use lib.ListN.{length}
-use Rattle.table.proofs.Pairs.{pairs-few, pairs-fine}
-use Rattle.store.proofs.Checks.{shape-facts, open-shape, open-table, table-pairs}
-use Rattle.store.proofs.Means.{visible_of, open_means_lem, open_refused, open_none, open-performed}
+use Rattle.table.proofs.Pairs.{pairs_few, pairs_fine}
+use Rattle.store.proofs.Checks.{shape_facts, open_shape, open_table, table_pairs}
+use Rattle.store.proofs.Means.{visible_of, open_means_lem, open_refused, open_none, open_performed}
 use borrow.Author.Rules.{rules}
 use Rattle.begin.proofs.open.Statement.{statement}
 use Rattle.begin.proofs.open.Tie as tie
@@ -34,7 +34,7 @@ returns c =
 -- src/lib.rt:212:18
 slice-read-wide : tie.Need-slice-read-wide
 slice-read-wide c =
-    let f = shape-facts _ _ _ (open-shape _ _ _ (sym c.before.before.open-check.ensures ∙ c.before.if1.false)) in
+    let f = shape_facts _ _ _ (open_shape _ _ _ (sym c.before.before.open-check.ensures ∙ c.before.if1.false)) in
     omega arith
 
 -- src/lib.rt:212:9
@@ -58,7 +58,7 @@ slots-of-requires c κs = search rules
 -- src/lib.rt:219:26
 pairs-at-requires : tie.Need-pairs-at-requires
 pairs-at-requires c κs =
-    let f = shape-facts _ _ _ (open-shape _ _ _ (sym c.before.before.before.before.before.before.open-check.ensures ∙ c.before.before.before.before.before.if1.false)) in
+    let f = shape_facts _ _ _ (open_shape _ _ _ (sym c.before.before.before.before.before.before.open-check.ensures ∙ c.before.before.before.before.before.if1.false)) in
     omega (arith, c.slots-of.ensures)
 
 -- src/lib.rt:219:5
@@ -66,20 +66,20 @@ apply-pending-requires : tie.Need-apply-pending-requires
 apply-pending-requires c κs =
     let t = c.before.before.before.before.before.before.before.before.before.before.before.before.args.table.now in
     let yes4 = sym c.before.before.before.before.before.before.before.open-check.ensures ∙ c.before.before.before.before.before.before.if1.false in
-    let f = shape-facts _ _ t (open-shape _ _ t yes4) in
-    let p = table-pairs _ _ t (open-table _ _ t yes4) in
-    let few = pairs-few _ t p in
+    let f = shape_facts _ _ t (open_shape _ _ t yes4) in
+    let p = table_pairs _ _ t (open_table _ _ t yes4) in
+    let few = pairs_few _ t p in
     let w = c.before.before.before.before.wide.ensures in
     let at : c.pairs-at.result ≡ pairs_at (slots_of (length t)) = c.pairs-at.ensures ∙ ap pairs_at c.before.slots-of.ensures in
-    (omega arith, omega arith, rw (at, w) (λ j l. (pairs-fine _ t p j l).0))
+    (omega arith, omega arith, rw (at, w) (λ j l. (pairs_fine _ t p j l).0))
 
 -- src/lib.rt:220:15
 add-answer-of : tie.Need-overflow-add-answer-of
 add-answer-of c =
     let t = c.before.before.before.before.before.before.before.before.before.before.before.before.before.before.before.args.table.now in
     let yes4 = sym c.before.before.before.before.before.before.before.before.before.before.open-check.ensures ∙ c.before.before.before.before.before.before.before.before.before.if1.false in
-    let f = shape-facts _ _ t (open-shape _ _ t yes4) in
-    let few = pairs-few _ t (table-pairs _ _ t (open-table _ _ t yes4)) in
+    let f = shape_facts _ _ t (open_shape _ _ t yes4) in
+    let few = pairs_few _ t (table_pairs _ _ t (open_table _ _ t yes4)) in
     omega (arith, c.before.before.before.before.before.before.before.wide.ensures)
 
 -- src/lib.rt:220:5
@@ -94,7 +94,7 @@ same-length-3 c = search rules
 returns-3 : tie.Need-returns-3
 returns-3 c =
     let t = c.before.before.before.before.before.before.before.before.before.before.before.before.before.before.before.before.args.table.now in
-    let e = open-performed _ _ t c.before.before.before.before.before.before.before.before.before.before.before.before.before.before.before.before.args.budget c.before.before.before.before.before.before.before.before.wide.result c.before.before.before.before.pairs-at.result _ _ (sym c.before.before.before.before.before.before.before.before.before.before.before.open-check.ensures ∙ c.before.before.before.before.before.before.before.before.before.before.if1.false) c.before.before.before.before.before.before.before.before.wide.ensures c.before.before.before.before.before.before.before.if2.false
+    let e = open_performed _ _ t c.before.before.before.before.before.before.before.before.before.before.before.before.before.before.before.before.args.budget c.before.before.before.before.before.before.before.before.wide.result c.before.before.before.before.pairs-at.result _ _ (sym c.before.before.before.before.before.before.before.before.before.before.before.open-check.ensures ∙ c.before.before.before.before.before.before.before.before.before.before.if1.false) c.before.before.before.before.before.before.before.before.wide.ensures c.before.before.before.before.before.before.before.if2.false
     (c.before.before.before.before.pairs-at.ensures ∙ ap pairs_at c.before.before.before.before.before.slots-of.ensures) c.before.before.before.apply-pending.ensures c.answer-of.ensures in
     (e, ap visible_of e ∙ open_means_lem _ _)
 

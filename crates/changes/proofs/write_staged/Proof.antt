@@ -2,7 +2,7 @@ use mathlib.Core.List.{◌++◌}
 use native.Mathlib.Omega.{arith}
 use Rattle.table.specs.Changes.{entry_changes}
 use Rattle.changes.specs.Staged.{staged, head_stores}
-use Rattle.changes.proofs.Writing.{pairs-ready, pairs-done, all-number, all-few, all-below, all-written}
+use Rattle.changes.proofs.Writing.{pairs_ready, pairs_done, all_number, all_few, all_below, all_written}
 use borrow.Author.Rules.{rules}
 use Rattle.changes.proofs.write_staged.Statement.{statement}
 use Rattle.changes.proofs.write_staged.Tie as tie
@@ -44,12 +44,12 @@ write-entries-requires c κs = ((c.before.before.before.before.before.before.bef
 
 -- src/lib.rt:264:31
 add-finish-journal : tie.Need-overflow-add-finish-journal
-add-finish-journal c = omega (arith, all-few c.before.before.before.before.before.before.before.before.before.before.before.before.before.before.args.slots c.before.before.before.before.before.before.before.before.before.before.before.before.before.before.args.head c.before.before.before.before.before.before.before.before.before.before.before.before.before.before.requires.1.0 (staged c.before.before.before.before.before.before.before.before.before.before.before.before.before.before.args.words.now c.before.before.before.before.before.before.before.before.before.before.before.before.before.before.args.changed.now) _ c.before.before.before.write_entries.ensures.0)
+add-finish-journal c = omega (arith, all_few c.before.before.before.before.before.before.before.before.before.before.before.before.before.before.args.slots c.before.before.before.before.before.before.before.before.before.before.before.before.before.before.args.head c.before.before.before.before.before.before.before.before.before.before.before.before.before.before.requires.1.0 (staged c.before.before.before.before.before.before.before.before.before.before.before.before.before.before.args.words.now c.before.before.before.before.before.before.before.before.before.before.before.before.before.before.args.changed.now) _ c.before.before.before.write_entries.ensures.0)
 
 -- src/lib.rt:264:5
 finish-journal-requires : tie.Need-finish-journal-requires
 finish-journal-requires c κs = let front = c.before.before.before.before.before.before.before.before.before.before.pairs-at.ensures in
-    rw front (pairs-ready c.before.before.before.before.before.before.before.before.before.before.before.before.before.before.args.slots (head_stores c.before.before.before.before.before.before.before.before.before.before.before.before.before.before.args.head ++ entry_changes c.before.before.before.before.before.before.before.before.before.before.before.before.before.before.args.slots (staged c.before.before.before.before.before.before.before.before.before.before.before.before.before.before.args.words.now c.before.before.before.before.before.before.before.before.before.before.before.before.before.before.args.changed.now)) c.before.before.before.before.before.before.before.before.before.before.before.before.before.before.args.table.now _ c.before.before.before.before.before.before.before.before.before.before.before.before.before.before.args.budget _ c.before.before.before.before.before.before.before.before.before.before.before.before.before.before.requires.0.0 c.before.before.before.before.before.before.before.before.before.before.before.before.before.before.requires.0.1 (all-number c.before.before.before.before.before.before.before.before.before.before.before.before.before.before.args.slots c.before.before.before.before.before.before.before.before.before.before.before.before.before.before.args.head c.before.before.before.before.before.before.before.before.before.before.before.before.before.before.requires.1.0 (staged c.before.before.before.before.before.before.before.before.before.before.before.before.before.before.args.words.now c.before.before.before.before.before.before.before.before.before.before.before.before.before.before.args.changed.now) _ c.before.before.before.write_entries.ensures.0) (all-few c.before.before.before.before.before.before.before.before.before.before.before.before.before.before.args.slots c.before.before.before.before.before.before.before.before.before.before.before.before.before.before.args.head c.before.before.before.before.before.before.before.before.before.before.before.before.before.before.requires.1.0 (staged c.before.before.before.before.before.before.before.before.before.before.before.before.before.before.args.words.now c.before.before.before.before.before.before.before.before.before.before.before.before.before.before.args.changed.now) _ c.before.before.before.write_entries.ensures.0) (all-below c.before.before.before.before.before.before.before.before.before.before.before.before.before.before.args.slots c.before.before.before.before.before.before.before.before.before.before.before.before.before.before.args.head c.before.before.before.before.before.before.before.before.before.before.before.before.before.before.requires.1.0 (staged c.before.before.before.before.before.before.before.before.before.before.before.before.before.before.args.words.now c.before.before.before.before.before.before.before.before.before.before.before.before.before.before.args.changed.now) _ c.before.before.before.write_entries.ensures.0) (all-written c.before.before.before.before.before.before.before.before.before.before.before.before.before.before.args.slots c.before.before.before.before.before.before.before.before.before.before.before.before.before.before.args.head c.before.before.before.before.before.before.before.before.before.before.before.before.before.before.requires.1.0 (staged c.before.before.before.before.before.before.before.before.before.before.before.before.before.before.args.words.now c.before.before.before.before.before.before.before.before.before.before.before.before.before.before.args.changed.now) _ c.before.before.before.write_entries.ensures.0 c.before.before.before.before.before.before.before.before.before.before.before.before.before.before.args.budget c.before.before.before.before.before.before.before.before.before.before.before.before.before.before.args.table.now _ _ (rw front at c.before.before.before.before.before.before.before.before.write-head.ensures) (rw (front, c.before.before.before.before.remaining.ensures) at c.before.before.before.write_entries.ensures.1)))
+    rw front (pairs_ready c.before.before.before.before.before.before.before.before.before.before.before.before.before.before.args.slots (head_stores c.before.before.before.before.before.before.before.before.before.before.before.before.before.before.args.head ++ entry_changes c.before.before.before.before.before.before.before.before.before.before.before.before.before.before.args.slots (staged c.before.before.before.before.before.before.before.before.before.before.before.before.before.before.args.words.now c.before.before.before.before.before.before.before.before.before.before.before.before.before.before.args.changed.now)) c.before.before.before.before.before.before.before.before.before.before.before.before.before.before.args.table.now _ c.before.before.before.before.before.before.before.before.before.before.before.before.before.before.args.budget _ c.before.before.before.before.before.before.before.before.before.before.before.before.before.before.requires.0.0 c.before.before.before.before.before.before.before.before.before.before.before.before.before.before.requires.0.1 (all_number c.before.before.before.before.before.before.before.before.before.before.before.before.before.before.args.slots c.before.before.before.before.before.before.before.before.before.before.before.before.before.before.args.head c.before.before.before.before.before.before.before.before.before.before.before.before.before.before.requires.1.0 (staged c.before.before.before.before.before.before.before.before.before.before.before.before.before.before.args.words.now c.before.before.before.before.before.before.before.before.before.before.before.before.before.before.args.changed.now) _ c.before.before.before.write_entries.ensures.0) (all_few c.before.before.before.before.before.before.before.before.before.before.before.before.before.before.args.slots c.before.before.before.before.before.before.before.before.before.before.before.before.before.before.args.head c.before.before.before.before.before.before.before.before.before.before.before.before.before.before.requires.1.0 (staged c.before.before.before.before.before.before.before.before.before.before.before.before.before.before.args.words.now c.before.before.before.before.before.before.before.before.before.before.before.before.before.before.args.changed.now) _ c.before.before.before.write_entries.ensures.0) (all_below c.before.before.before.before.before.before.before.before.before.before.before.before.before.before.args.slots c.before.before.before.before.before.before.before.before.before.before.before.before.before.before.args.head c.before.before.before.before.before.before.before.before.before.before.before.before.before.before.requires.1.0 (staged c.before.before.before.before.before.before.before.before.before.before.before.before.before.before.args.words.now c.before.before.before.before.before.before.before.before.before.before.before.before.before.before.args.changed.now) _ c.before.before.before.write_entries.ensures.0) (all_written c.before.before.before.before.before.before.before.before.before.before.before.before.before.before.args.slots c.before.before.before.before.before.before.before.before.before.before.before.before.before.before.args.head c.before.before.before.before.before.before.before.before.before.before.before.before.before.before.requires.1.0 (staged c.before.before.before.before.before.before.before.before.before.before.before.before.before.before.args.words.now c.before.before.before.before.before.before.before.before.before.before.before.before.before.before.args.changed.now) _ c.before.before.before.write_entries.ensures.0 c.before.before.before.before.before.before.before.before.before.before.before.before.before.before.args.budget c.before.before.before.before.before.before.before.before.before.before.before.before.before.before.args.table.now _ _ (rw front at c.before.before.before.before.before.before.before.before.write-head.ensures) (rw (front, c.before.before.before.before.remaining.ensures) at c.before.before.before.write_entries.ensures.1)))
 
 -- src/lib.rt:238:1
 same_length : tie.Need-same-length
@@ -58,7 +58,7 @@ same_length c = search rules
 -- src/lib.rt:238:1
 returns : tie.Need-returns
 returns c = let front = c.before.before.before.before.before.before.before.before.before.before.before.before.before.pairs-at.ensures in
-    let done = pairs-done c.before.before.before.before.before.before.before.before.before.before.before.before.before.before.before.before.before.args.slots (head_stores c.before.before.before.before.before.before.before.before.before.before.before.before.before.before.before.before.before.args.head ++ entry_changes c.before.before.before.before.before.before.before.before.before.before.before.before.before.before.before.before.before.args.slots (staged c.before.before.before.before.before.before.before.before.before.before.before.before.before.before.before.before.before.args.words.now c.before.before.before.before.before.before.before.before.before.before.before.before.before.before.before.before.before.args.changed.now)) c.before.before.before.before.before.before.before.before.before.before.before.before.before.before.before.before.before.args.table.now _ c.before.before.before.before.before.before.before.before.before.before.before.before.before.before.before.before.before.args.budget _ c.before.before.before.before.before.before.before.before.before.before.before.before.before.before.before.before.before.requires.0.0 c.before.before.before.before.before.before.before.before.before.before.before.before.before.before.before.before.before.requires.0.1 (all-number c.before.before.before.before.before.before.before.before.before.before.before.before.before.before.before.before.before.args.slots c.before.before.before.before.before.before.before.before.before.before.before.before.before.before.before.before.before.args.head c.before.before.before.before.before.before.before.before.before.before.before.before.before.before.before.before.before.requires.1.0 (staged c.before.before.before.before.before.before.before.before.before.before.before.before.before.before.before.before.before.args.words.now c.before.before.before.before.before.before.before.before.before.before.before.before.before.before.before.before.before.args.changed.now) _ c.before.before.before.before.before.before.write_entries.ensures.0) (all-few c.before.before.before.before.before.before.before.before.before.before.before.before.before.before.before.before.before.args.slots c.before.before.before.before.before.before.before.before.before.before.before.before.before.before.before.before.before.args.head c.before.before.before.before.before.before.before.before.before.before.before.before.before.before.before.before.before.requires.1.0 (staged c.before.before.before.before.before.before.before.before.before.before.before.before.before.before.before.before.before.args.words.now c.before.before.before.before.before.before.before.before.before.before.before.before.before.before.before.before.before.args.changed.now) _ c.before.before.before.before.before.before.write_entries.ensures.0) (all-below c.before.before.before.before.before.before.before.before.before.before.before.before.before.before.before.before.before.args.slots c.before.before.before.before.before.before.before.before.before.before.before.before.before.before.before.before.before.args.head c.before.before.before.before.before.before.before.before.before.before.before.before.before.before.before.before.before.requires.1.0 (staged c.before.before.before.before.before.before.before.before.before.before.before.before.before.before.before.before.before.args.words.now c.before.before.before.before.before.before.before.before.before.before.before.before.before.before.before.before.before.args.changed.now) _ c.before.before.before.before.before.before.write_entries.ensures.0) (all-written c.before.before.before.before.before.before.before.before.before.before.before.before.before.before.before.before.before.args.slots c.before.before.before.before.before.before.before.before.before.before.before.before.before.before.before.before.before.args.head c.before.before.before.before.before.before.before.before.before.before.before.before.before.before.before.before.before.requires.1.0 (staged c.before.before.before.before.before.before.before.before.before.before.before.before.before.before.before.before.before.args.words.now c.before.before.before.before.before.before.before.before.before.before.before.before.before.before.before.before.before.args.changed.now) _ c.before.before.before.before.before.before.write_entries.ensures.0 c.before.before.before.before.before.before.before.before.before.before.before.before.before.before.before.before.before.args.budget c.before.before.before.before.before.before.before.before.before.before.before.before.before.before.before.before.before.args.table.now _ _ (rw front at c.before.before.before.before.before.before.before.before.before.before.before.write-head.ensures) (rw (front, c.before.before.before.before.before.before.before.remaining.ensures) at c.before.before.before.before.before.before.write_entries.ensures.1)) _ _ c.before.before.finish-journal.ensures.0 (rw front at c.before.before.finish-journal.ensures.1) in
+    let done = pairs_done c.before.before.before.before.before.before.before.before.before.before.before.before.before.before.before.before.before.args.slots (head_stores c.before.before.before.before.before.before.before.before.before.before.before.before.before.before.before.before.before.args.head ++ entry_changes c.before.before.before.before.before.before.before.before.before.before.before.before.before.before.before.before.before.args.slots (staged c.before.before.before.before.before.before.before.before.before.before.before.before.before.before.before.before.before.args.words.now c.before.before.before.before.before.before.before.before.before.before.before.before.before.before.before.before.before.args.changed.now)) c.before.before.before.before.before.before.before.before.before.before.before.before.before.before.before.before.before.args.table.now _ c.before.before.before.before.before.before.before.before.before.before.before.before.before.before.before.before.before.args.budget _ c.before.before.before.before.before.before.before.before.before.before.before.before.before.before.before.before.before.requires.0.0 c.before.before.before.before.before.before.before.before.before.before.before.before.before.before.before.before.before.requires.0.1 (all_number c.before.before.before.before.before.before.before.before.before.before.before.before.before.before.before.before.before.args.slots c.before.before.before.before.before.before.before.before.before.before.before.before.before.before.before.before.before.args.head c.before.before.before.before.before.before.before.before.before.before.before.before.before.before.before.before.before.requires.1.0 (staged c.before.before.before.before.before.before.before.before.before.before.before.before.before.before.before.before.before.args.words.now c.before.before.before.before.before.before.before.before.before.before.before.before.before.before.before.before.before.args.changed.now) _ c.before.before.before.before.before.before.write_entries.ensures.0) (all_few c.before.before.before.before.before.before.before.before.before.before.before.before.before.before.before.before.before.args.slots c.before.before.before.before.before.before.before.before.before.before.before.before.before.before.before.before.before.args.head c.before.before.before.before.before.before.before.before.before.before.before.before.before.before.before.before.before.requires.1.0 (staged c.before.before.before.before.before.before.before.before.before.before.before.before.before.before.before.before.before.args.words.now c.before.before.before.before.before.before.before.before.before.before.before.before.before.before.before.before.before.args.changed.now) _ c.before.before.before.before.before.before.write_entries.ensures.0) (all_below c.before.before.before.before.before.before.before.before.before.before.before.before.before.before.before.before.before.args.slots c.before.before.before.before.before.before.before.before.before.before.before.before.before.before.before.before.before.args.head c.before.before.before.before.before.before.before.before.before.before.before.before.before.before.before.before.before.requires.1.0 (staged c.before.before.before.before.before.before.before.before.before.before.before.before.before.before.before.before.before.args.words.now c.before.before.before.before.before.before.before.before.before.before.before.before.before.before.before.before.before.args.changed.now) _ c.before.before.before.before.before.before.write_entries.ensures.0) (all_written c.before.before.before.before.before.before.before.before.before.before.before.before.before.before.before.before.before.args.slots c.before.before.before.before.before.before.before.before.before.before.before.before.before.before.before.before.before.args.head c.before.before.before.before.before.before.before.before.before.before.before.before.before.before.before.before.before.requires.1.0 (staged c.before.before.before.before.before.before.before.before.before.before.before.before.before.before.before.before.before.args.words.now c.before.before.before.before.before.before.before.before.before.before.before.before.before.before.before.before.before.args.changed.now) _ c.before.before.before.before.before.before.write_entries.ensures.0 c.before.before.before.before.before.before.before.before.before.before.before.before.before.before.before.before.before.args.budget c.before.before.before.before.before.before.before.before.before.before.before.before.before.before.before.before.before.args.table.now _ _ (rw front at c.before.before.before.before.before.before.before.before.before.before.before.write-head.ensures) (rw (front, c.before.before.before.before.before.before.before.remaining.ensures) at c.before.before.before.before.before.before.write_entries.ensures.1)) _ _ c.before.before.finish-journal.ensures.0 (rw front at c.before.before.finish-journal.ensures.1) in
     record { made = done.0; few = done.1; words = done.2 }
 
 pub write-staged-spec : {M : Type 1} → statement M

@@ -2,7 +2,7 @@
 use mathlib.Core.Path.{sym, ◌∙◌}
 use native.Mathlib.Omega.{arith}
 use borrow.Author.Rules.{rules}
-use Rattle.store.proofs.Checks.{or_else_go, or_else_stop, store-lengths}
+use Rattle.store.proofs.Checks.{or_else_go, or_else_stop, store_lengths}
 use Rattle.store.proofs.Raw.{live_within}
 use Rattle.commit.specs.Commit.{commit_check}
 use Rattle.commit.proofs.commit_check.Statement.{statement}
@@ -23,7 +23,7 @@ returns c = (c.before.before.before.before.before.store-check.ensures.0 ∙ sym 
 
 innermost-check-requires : tie.Need-innermost-check-requires
 innermost-check-requires c κs = let yes = sym c.before.before.before.before.before.store-check.ensures.0 ∙ c.if1.false in
-    let f = store-lengths _ _ _ yes in
+    let f = store_lengths _ _ _ yes in
     (omega arith, live_within _ _ _ yes)
 
 same-length-3 : tie.Need-same-length-3

@@ -1,6 +1,6 @@
 -- `commit_few` meets its contract: there is room for few blocks, and no mark is made. Assumes nothing.
 use borrow.Author.Rules.{rules}
-use Rattle.table.proofs.Marks.{room-few}
+use Rattle.table.proofs.Marks.{room_few}
 use Rattle.commit.proofs.commit_few.Statement.{statement}
 use Rattle.commit.proofs.commit_few.Tie as tie
 
@@ -18,7 +18,7 @@ slice-aggregate-commit-marked-2 c = search rules
 
 commit-marked-requires : tie.Need-commit-marked-requires
 commit-marked-requires c κs = let a = c.before.before.before.before.before.before.before.before.args in
-    rw (c.before.before.before.before.few-marks.ensures, c.before.before.before.no_bodies.ensures) (room-few a.table.now _ a.top c.before.before.before.before.before.before.before.before.requires.1 c.before.before.before.before.before.before.before.before.requires.0)
+    rw (c.before.before.before.before.few-marks.ensures, c.before.before.before.no_bodies.ensures) (room_few a.table.now _ a.top c.before.before.before.before.before.before.before.before.requires.1 c.before.before.before.before.before.before.before.before.requires.0)
 
 same_length : tie.Need-same-length
 same_length c = search rules

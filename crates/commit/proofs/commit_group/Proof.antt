@@ -4,7 +4,7 @@ use mathlib.Core.Path.{◌≡◌, refl, ◌∙◌}
 use borrow.Author.Rules.{rules}
 use lib.ListN.{length}
 use Rattle.changes.specs.Staged.{Gathers}
-use Rattle.changes.proofs.Staging.{group-start, group-turn, stages-to}
+use Rattle.changes.proofs.Staging.{group_start, group_turn, stages_to}
 use Rattle.commit.specs.Commit.{commit_change}
 use Rattle.commit.proofs.commit_group.Statement.{statement}
 use Rattle.commit.proofs.commit_group.Tie as tie
@@ -28,7 +28,7 @@ mul-i : tie.Need-overflow-mul-i invariant-loop decreases-loop
 mul-i c = search rules
 
 loop-holds : tie.Need-loop-init invariant-loop decreases-loop
-loop-holds c = (search rules, search rules, refl, group-start c.before.before.before.before.before.args.k c.before.before.before.before.before.requires.1.1.1 refl (search rules))
+loop-holds c = (search rules, search rules, refl, group_start c.before.before.before.before.before.args.k c.before.before.before.before.before.requires.1.1.1 refl (search rules))
 
 commit-entry-requires : tie.Need-commit-entry-requires invariant-loop decreases-loop
 commit-entry-requires c κs = (search rules, c.before.before.before.before.before.before.before.before.requires.1.1.0)
@@ -43,7 +43,7 @@ loop-less : tie.Need-loop-smaller invariant-loop decreases-loop
 loop-less c = search rules
 
 loop-again : tie.Need-loop-preserved invariant-loop decreases-loop
-loop-again c = (search rules, search rules, c.before.before.before.commit-entry.auto.1.1.1.1.0 ∙ c.before.before.before.before.before.before.loop.invariant.2, group-turn c.before.before.before.before.before.before.loop.invariant.3 (search rules) (search rules) c.before.before.before.commit-entry.ensures c.with-bit.ensures)
+loop-again c = (search rules, search rules, c.before.before.before.commit-entry.auto.1.1.1.1.0 ∙ c.before.before.before.before.before.before.loop.invariant.2, group_turn c.before.before.before.before.before.before.loop.invariant.3 (search rules) (search rules) c.before.before.before.commit-entry.ensures c.with-bit.ensures)
 
 mul-changed : tie.Need-overflow-mul-changed invariant-loop decreases-loop
 mul-changed c = search rules
@@ -58,7 +58,7 @@ same-length-2 : tie.Need-same-length-2 invariant-loop decreases-loop
 same-length-2 c = search rules
 
 returns : tie.Need-returns invariant-loop decreases-loop
-returns c = stages-to _ c.before.loop.invariant.3.stages (search rules)
+returns c = stages_to _ c.before.loop.invariant.3.stages (search rules)
 
 pub commit-group-spec : {M : Type 1} → statement M
 commit-group-spec =

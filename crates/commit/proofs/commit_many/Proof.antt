@@ -1,6 +1,6 @@
 -- `commit_many` meets its contract: there is room for every block, and no mark is made. Assumes nothing.
 use borrow.Author.Rules.{rules}
-use Rattle.table.proofs.Marks.{room-many}
+use Rattle.table.proofs.Marks.{room_many}
 use Rattle.commit.proofs.commit_many.Statement.{statement}
 use Rattle.commit.proofs.commit_many.Tie as tie
 
@@ -18,7 +18,7 @@ slice-aggregate-commit-marked-2 c = search rules
 
 commit-marked-requires : tie.Need-commit-marked-requires
 commit-marked-requires c κs = let a = c.before.before.before.before.before.before.before.before.args in
-    rw (c.before.before.before.before.many-marks.ensures, c.before.before.before.no_bodies.ensures) (room-many a.table.now _ a.top c.before.before.before.before.before.before.before.before.requires)
+    rw (c.before.before.before.before.many-marks.ensures, c.before.before.before.no_bodies.ensures) (room_many a.table.now _ a.top c.before.before.before.before.before.before.before.before.requires)
 
 same_length : tie.Need-same-length
 same_length c = search rules

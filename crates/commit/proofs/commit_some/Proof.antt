@@ -1,6 +1,6 @@
 -- `commit_some` meets its contract: there is room for some blocks, and no mark is made. Assumes nothing.
 use borrow.Author.Rules.{rules}
-use Rattle.table.proofs.Marks.{room-some}
+use Rattle.table.proofs.Marks.{room_some}
 use Rattle.commit.proofs.commit_some.Statement.{statement}
 use Rattle.commit.proofs.commit_some.Tie as tie
 
@@ -18,7 +18,7 @@ slice-aggregate-commit-marked-2 c = search rules
 
 commit-marked-requires : tie.Need-commit-marked-requires
 commit-marked-requires c κs = let a = c.before.before.before.before.before.before.before.before.args in
-    rw (c.before.before.before.before.some-marks.ensures, c.before.before.before.no_bodies.ensures) (room-some a.table.now _ a.top c.before.before.before.before.before.before.before.before.requires.1 c.before.before.before.before.before.before.before.before.requires.0)
+    rw (c.before.before.before.before.some-marks.ensures, c.before.before.before.no_bodies.ensures) (room_some a.table.now _ a.top c.before.before.before.before.before.before.before.before.requires.1 c.before.before.before.before.before.before.before.before.requires.0)
 
 same_length : tie.Need-same-length
 same_length c = search rules

@@ -1,6 +1,6 @@
 -- `free_entry` meets its contract: it stages that an entry is freed, or nothing (proofs/Deciding.antt). Assumes nothing.
-use Rattle.changes.proofs.Staging.{turn-kept, turn-put}
-use Rattle.commit.proofs.Deciding.{change-other, change-freed}
+use Rattle.changes.proofs.Staging.{turn_kept, turn_put}
+use Rattle.commit.proofs.Deciding.{change_other, change_freed}
 use borrow.Author.Rules.{rules}
 use Rattle.commit.proofs.free_entry.Statement.{statement}
 use Rattle.commit.proofs.free_entry.Tie as tie
@@ -13,7 +13,7 @@ depth-of-requires c κs = search rules
 
 returns : tie.Need-returns
 returns c = let a = c.before.before.before.before.before.args in
-    turn-kept (change-other a.slots a.table.now a.live a.i c.before.before.before.before.before.requires.1 (rw (c.before.depth-of.ensures, c.before.before.first_word.ensures) at c.if1.true))
+    turn_kept (change_other a.slots a.table.now a.live a.i c.before.before.before.before.before.requires.1 (rw (c.before.depth-of.ensures, c.before.before.first_word.ensures) at c.if1.true))
 
 stage-words-requires : tie.Need-stage-words-requires
 stage-words-requires c κs = search rules
@@ -23,7 +23,7 @@ same_length c = search rules
 
 returns-2 : tie.Need-returns-2
 returns-2 c = let a = c.before.before.before.before.before.before.before.before.before.args in
-    turn-put (change-freed a.slots a.table.now a.live a.i c.before.before.before.before.before.before.before.before.before.requires.1 (rw (c.before.before.before.before.before.depth-of.ensures, c.before.before.before.before.before.before.first_word.ensures) at c.before.before.before.before.if1.false)) c.before.before.stage-words.ensures
+    turn_put (change_freed a.slots a.table.now a.live a.i c.before.before.before.before.before.before.before.before.before.requires.1 (rw (c.before.before.before.before.before.depth-of.ensures, c.before.before.before.before.before.before.first_word.ensures) at c.before.before.before.before.if1.false)) c.before.before.stage-words.ensures
 
 pub free-entry-spec : {M : Type 1} → statement M
 free-entry-spec =

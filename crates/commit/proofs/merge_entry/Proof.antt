@@ -6,8 +6,8 @@ use borrow.Author.Tests.{not-true, not-false}
 use lib.Dec.{eqb}
 use Rattle.table.specs.Entry.{parent}
 use Rattle.table.specs.Marks.{has}
-use Rattle.changes.proofs.Staging.{turn-kept, turn-put}
-use Rattle.commit.proofs.Deciding.{moves-deep, raises-low, change-apart, change-kept, change-put}
+use Rattle.changes.proofs.Staging.{turn_kept, turn_put}
+use Rattle.commit.proofs.Deciding.{moves_deep, raises_low, change_apart, change_kept, change_put}
 use borrow.Author.Rules.{rules}
 use Rattle.commit.proofs.merge_entry.Statement.{statement}
 use Rattle.commit.proofs.merge_entry.Tie as tie
@@ -21,7 +21,7 @@ is-concerned-requires c κs = search rules
 returns : tie.Need-returns
 returns c = let a = c.before.before.before.before.before.before.args in
     let none = rw c.before.before.first_word.ensures at (sym c.before.is-concerned.ensures ∙ not-true _ c.if1.true) in
-    turn-kept (change-apart a.slots a.table.now a.live a.i (omega arith) none)
+    turn_kept (change_apart a.slots a.table.now a.live a.i (omega arith) none)
 
 cell-of-requires : tie.Need-cell-of-requires
 cell-of-requires c κs = search rules
@@ -38,7 +38,7 @@ depth-of-requires c κs = search rules
 returns-2 : tie.Need-returns-2
 returns-2 c = let a = c.before.before.before.before.before.before.before.before.before.before.before.args in
     let none = rw (c.before.depth-of.ensures, c.before.before.is-raised.ensures, c.before.before.before.mark_of.ensures, c.before.before.before.before.cell-of.ensures, c.before.before.before.before.before.before.before.first_word.ensures) at (not-true (eqb c.before.depth-of.result a.live || c.before.before.is-raised.result) c.if2.true) in
-    turn-kept (change-kept a.slots a.table.now a.live a.i (omega arith) a.seen.now c.before.before.before.before.before.before.before.before.before.before.before.requires.1.1 none)
+    turn_kept (change_kept a.slots a.table.now a.live a.i (omega arith) a.seen.now c.before.before.before.before.before.before.before.before.before.before.before.requires.1.1 none)
 
 moves-out-requires : tie.Need-moves-out-requires
 moves-out-requires c κs = search rules
@@ -46,7 +46,7 @@ moves-out-requires c κs = search rules
 changed-word-requires : tie.Need-changed-word-requires
 changed-word-requires c κs = let a = c.before.before.before.before.before.before.before.before.before.before.before.before.args in
     let mark = c.before.before.before.before.mark_of.result in
-    ((λ z. moves-deep a.live _ 0 true (has (parent a.live) mark) (omega arith) (sym c.moves_out.ensures ∙ z)), (λ z. raises-low a.live _ 0 (has a.live mark) true (omega arith) (sym c.before.before.before.is-raised.ensures ∙ z)))
+    ((λ z. moves_deep a.live _ 0 true (has (parent a.live) mark) (omega arith) (sym c.moves_out.ensures ∙ z)), (λ z. raises_low a.live _ 0 (has a.live mark) true (omega arith) (sym c.before.before.before.is-raised.ensures ∙ z)))
 
 second-word-requires : tie.Need-second-word-requires
 second-word-requires c κs = search rules
@@ -64,7 +64,7 @@ returns-3 : tie.Need-returns-3
 returns-3 c = let a = c.before.before.before.before.before.before.before.before.before.before.before.before.before.before.before.before.before.before.before.args in
     let changes = rw (c.before.before.before.before.before.before.before.before.before.depth-of.ensures, c.before.before.before.before.before.before.before.before.before.before.is-raised.ensures, c.before.before.before.before.before.before.before.before.before.before.before.mark_of.ensures, c.before.before.before.before.before.before.before.before.before.before.before.before.cell-of.ensures, c.before.before.before.before.before.before.before.before.before.before.before.before.before.before.before.first_word.ensures) at (not-false (eqb c.before.before.before.before.before.before.before.before.before.depth-of.result a.live || c.before.before.before.before.before.before.before.before.before.before.is-raised.result) c.before.before.before.before.before.before.before.before.if2.false) in
     let made = rw (c.before.before.before.before.body-if.ensures, c.before.before.before.before.before.before.changed-word.ensures, c.before.before.before.before.before.before.before.moves_out.ensures, c.before.before.before.before.before.before.before.before.before.before.is-raised.ensures, c.before.before.before.before.before.before.before.before.before.before.before.mark_of.ensures, c.before.before.before.before.before.before.before.before.before.before.before.before.cell-of.ensures, c.before.before.before.before.before.second_word.ensures, c.before.before.before.before.before.before.before.before.before.before.before.before.before.before.before.first_word.ensures) at c.before.before.stage-words.ensures in
-    turn-put (change-put a.slots a.table.now a.live a.i (omega arith) a.seen.now c.before.before.before.before.before.before.before.before.before.before.before.before.before.before.before.before.before.before.before.requires.1.1 changes) made
+    turn_put (change_put a.slots a.table.now a.live a.i (omega arith) a.seen.now c.before.before.before.before.before.before.before.before.before.before.before.before.before.before.before.before.before.before.before.requires.1.1 changes) made
 
 pub merge-entry-spec : {M : Type 1} → statement M
 merge-entry-spec =

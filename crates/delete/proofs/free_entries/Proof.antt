@@ -6,7 +6,7 @@ use native.Mathlib.Omega.{arith}
 use borrow.Author.Rules.{rules}
 use lib.ListN.{length}
 use Rattle.changes.specs.Staged.{Stages}
-use Rattle.changes.proofs.Staging.{stages-skip, stages-to}
+use Rattle.changes.proofs.Staging.{stages_skip, stages_to}
 use Rattle.delete.specs.Delete.{delete_change}
 use Rattle.delete.proofs.Deleting.{free_kept}
 use Rattle.delete.proofs.free_entries.Statement.{statement}
@@ -19,13 +19,13 @@ abbrev decreases-loop : tie.decreases-loop
 decreases-loop table slots top depth first count words₀ changed₀ k₀ words changed k = top + 64 - 64 * k
 
 loop-holds : tie.Need-loop-init invariant-loop decreases-loop
-loop-holds c = (search rules, refl, refl, stages-to _ c.before.before.before.requires.1.1.1 (search rules))
+loop-holds c = (search rules, refl, refl, stages_to _ c.before.before.before.requires.1.1.1 (search rules))
 
 mul-loop : tie.Need-overflow-mul-loop invariant-loop decreases-loop
 mul-loop c = search rules
 
 free-group-requires : tie.Need-free-group-requires invariant-loop decreases-loop
-free-group-requires c κs = (search rules, (search rules, stages-to _ c.before.before.before.loop.invariant.3 (search rules)))
+free-group-requires c κs = (search rules, (search rules, stages_to _ c.before.before.before.loop.invariant.3 (search rules)))
 
 add-k : tie.Need-overflow-add-k invariant-loop decreases-loop
 add-k c = search rules
@@ -34,7 +34,7 @@ loop-less : tie.Need-loop-smaller invariant-loop decreases-loop
 loop-less c = search rules
 
 loop-again : tie.Need-loop-preserved invariant-loop decreases-loop
-loop-again c = (search rules, c.before.before.before.before.free-group.auto.1.1.1.1.1.1.0 ∙ c.before.before.before.before.before.before.before.before.loop.invariant.1, c.before.before.before.before.free-group.auto.1.1.1.1.1.1.1.0 ∙ c.before.before.before.before.before.before.before.before.loop.invariant.2, stages-to _ c.before.before.before.before.free-group.ensures (search rules))
+loop-again c = (search rules, c.before.before.before.before.free-group.auto.1.1.1.1.1.1.0 ∙ c.before.before.before.before.before.before.before.before.loop.invariant.1, c.before.before.before.before.free-group.auto.1.1.1.1.1.1.1.0 ∙ c.before.before.before.before.before.before.before.before.loop.invariant.2, stages_to _ c.before.before.before.before.free-group.ensures (search rules))
 
 same_length : tie.Need-same-length invariant-loop decreases-loop
 same_length c = search rules
@@ -46,7 +46,7 @@ returns : tie.Need-returns invariant-loop decreases-loop
 returns c =
     let a = c.before.before.before.before.before.args in
     let p = c.before.before.before.before.before.requires in
-    stages-skip _ c.before.loop.invariant.3 (search rules) (λ i low l. free_kept a.slots a.table.now a.depth a.first a.count i p.1.0.1 (p.1.0.0.1 i (omega arith) l).0)
+    stages_skip _ c.before.loop.invariant.3 (search rules) (λ i low l. free_kept a.slots a.table.now a.depth a.first a.count i p.1.0.1 (p.1.0.0.1 i (omega arith) l).0)
 
 pub free-entries-spec : {M : Type 1} → statement M
 free-entries-spec =

@@ -2,7 +2,7 @@
 use mathlib.Core.Path.{sym, ◌∙◌}
 use borrow.Author.Tests.{not-true, not-false}
 use borrow.Author.Rules.{rules}
-use Rattle.changes.proofs.Staging.{turn-kept, turn-put}
+use Rattle.changes.proofs.Staging.{turn_kept, turn_put}
 use Rattle.delete.specs.Delete.{delete_change}
 use Rattle.delete.proofs.free_entry.Statement.{statement}
 use Rattle.delete.proofs.free_entry.Tie as tie
@@ -15,7 +15,7 @@ in-cells-requires c κs = search rules
 
 returns : tie.Need-returns
 unfolding delete_change
-returns c = let stays = rw c.before.before.first_word.ensures at (sym c.before.in_cells.ensures ∙ not-true _ c.if1.true) in turn-kept (rw stays)
+returns c = let stays = rw c.before.before.first_word.ensures at (sym c.before.in_cells.ensures ∙ not-true _ c.if1.true) in turn_kept (rw stays)
 
 stage-words-requires : tie.Need-stage-words-requires
 stage-words-requires c κs = search rules
@@ -25,7 +25,7 @@ same_length c = search rules
 
 returns-2 : tie.Need-returns-2
 unfolding delete_change
-returns-2 c = let freed = rw c.before.before.before.before.before.before.first_word.ensures at (sym c.before.before.before.before.before.in_cells.ensures ∙ not-false _ c.before.before.before.before.if1.false) in turn-put {w = 0} {v = 0} (rw freed) c.before.before.stage-words.ensures
+returns-2 c = let freed = rw c.before.before.before.before.before.before.first_word.ensures at (sym c.before.before.before.before.before.in_cells.ensures ∙ not-false _ c.before.before.before.before.if1.false) in turn_put {w = 0} {v = 0} (rw freed) c.before.before.stage-words.ensures
 
 pub free-entry-spec : {M : Type 1} → statement M
 free-entry-spec =

@@ -6,7 +6,7 @@ use native.Mathlib.Omega.{arith}
 use borrow.Author.Rules.{rules}
 use lib.ListN.{length}
 use Rattle.changes.specs.Staged.{Gathers}
-use Rattle.changes.proofs.Staging.{group-start, group-turn, stages-skip, stages-to}
+use Rattle.changes.proofs.Staging.{group_start, group_turn, stages_skip, stages_to}
 use Rattle.delete.specs.Delete.{delete_change}
 use Rattle.delete.proofs.free_group.Statement.{statement}
 use Rattle.delete.proofs.free_group.Tie as tie
@@ -33,13 +33,13 @@ none-freed-requires : tie.Need-none-freed-requires invariant-loop decreases-loop
 none-freed-requires c κs = search rules
 
 returns : tie.Need-returns invariant-loop decreases-loop
-returns c = stages-skip _ c.before.before.before.before.before.before.requires.1.1 (search rules) (λ i low l. c.before.none-freed.ensures c.if1.true i low (omega (arith, c.before.before.least.ensures)))
+returns c = stages_skip _ c.before.before.before.before.before.before.requires.1.1 (search rules) (λ i low l. c.before.none-freed.ensures c.if1.true i low (omega (arith, c.before.before.least.ensures)))
 
 mul-i : tie.Need-overflow-mul-i invariant-loop decreases-loop
 mul-i c = search rules
 
 loop-holds : tie.Need-loop-init invariant-loop decreases-loop
-loop-holds c = (search rules, search rules, refl, group-start c.before.before.before.before.before.before.args.k c.before.before.before.before.before.before.requires.1.1 refl (search rules))
+loop-holds c = (search rules, search rules, refl, group_start c.before.before.before.before.before.before.args.k c.before.before.before.before.before.before.requires.1.1 refl (search rules))
 
 free-entry-requires : tie.Need-free-entry-requires invariant-loop decreases-loop
 free-entry-requires c κs = search rules
@@ -54,7 +54,7 @@ loop-less : tie.Need-loop-smaller invariant-loop decreases-loop
 loop-less c = search rules
 
 loop-again : tie.Need-loop-preserved invariant-loop decreases-loop
-loop-again c = (search rules, search rules, c.before.before.before.free-entry.auto.1.1.1.1.1.0 ∙ c.before.before.before.before.before.before.loop.invariant.2, group-turn c.before.before.before.before.before.before.loop.invariant.3 (search rules) (search rules) c.before.before.before.free-entry.ensures c.with-bit.ensures)
+loop-again c = (search rules, search rules, c.before.before.before.free-entry.auto.1.1.1.1.1.0 ∙ c.before.before.before.before.before.before.loop.invariant.2, group_turn c.before.before.before.before.before.before.loop.invariant.3 (search rules) (search rules) c.before.before.before.free-entry.ensures c.with-bit.ensures)
 
 mul-changed : tie.Need-overflow-mul-changed invariant-loop decreases-loop
 mul-changed c = search rules
@@ -69,7 +69,7 @@ same-length-2 : tie.Need-same-length-2 invariant-loop decreases-loop
 same-length-2 c = search rules
 
 returns-2 : tie.Need-returns-2 invariant-loop decreases-loop
-returns-2 c = stages-to _ c.before.loop.invariant.3.stages (search rules)
+returns-2 c = stages_to _ c.before.loop.invariant.3.stages (search rules)
 
 pub free-group-spec : {M : Type 1} → statement M
 free-group-spec =

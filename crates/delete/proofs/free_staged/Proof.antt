@@ -1,6 +1,6 @@
 -- `delete::free_staged` meets its contract: what is staged is delete's own change, and the writer stores it by the journal. Assumes nothing.
 use borrow.Author.Rules.{rules}
-use Rattle.changes.proofs.Staging.{stages-inside, stages-words}
+use Rattle.changes.proofs.Staging.{stages_inside, stages_words}
 use Rattle.delete.proofs.free_staged.Statement.{statement}
 use Rattle.delete.proofs.free_staged.Tie as tie
 
@@ -11,7 +11,7 @@ no-head-requires : tie.Need-no-head-requires
 no-head-requires c κs = search rules
 
 write-staged-requires : tie.Need-write-staged-requires
-write-staged-requires c κs = (search rules, (c.before.before.no-head.ensures.0, stages-inside c.before.before.before.before.before.before.before.before.free-entries.ensures))
+write-staged-requires c κs = (search rules, (c.before.before.no-head.ensures.0, stages_inside c.before.before.before.before.before.before.before.before.free-entries.ensures))
 
 same_length : tie.Need-same-length
 same_length c = search rules
@@ -24,7 +24,7 @@ same-length-3 c = search rules
 
 returns : tie.Need-returns
 returns c =
-    let same = stages-words c.before.before.before.before.before.no-head.ensures.1.1 c.before.before.before.before.before.before.before.before.before.before.before.free-entries.ensures in
+    let same = stages_words c.before.before.before.before.before.no-head.ensures.1.1 c.before.before.before.before.before.before.before.before.before.before.before.free-entries.ensures in
     rw same at c.before.before.write-staged.ensures
 
 pub free-staged-spec : {M : Type 1} → statement M

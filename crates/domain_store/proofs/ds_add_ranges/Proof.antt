@@ -193,17 +193,17 @@ module _ {Mod : Type 1} {𝓤 : Ura Mod} (𝓛 : Logic 𝓤) (mem : Memory → S
 
   -- ---- what each callee's triple binds outside, that it is given what it asks, and what it says
 
-  abbrev to-gather : (Gather 𝓛 mem run).Ghost
-  to-gather = (((κ₃, tt), (q₃, tt), tt, (ra, tt), (sr ∷ [], tt)), tt)
+  abbrev to_gather : (Gather 𝓛 mem run).Ghost
+  to_gather = (((κ₃, tt), (q₃, tt), tt, (ra, tt), (sr ∷ [], tt)), tt)
 
-  goes-gather : ent 𝓤 (sep 𝓤 (A.lft κ₃ q₃) (sem 𝓛 OwnR)) ((Gather 𝓛 mem run).pre to-gather)
-  goes-gather = qed 𝓛 (‵ (flft κ₃ q₃) ∷ ‵ OwnR ∷ []) ∵ nothing ! $ move ! (1 ∷ 0 ∷ []) $ join ! $ nothing ! $ move ! (2 ∷ 0 ∷ []) $ fjoin ! $ move ! (1 ∷ 0 ∷ []) $ join ! $ frame ! $ done !
+  goes_gather : ent 𝓤 (sep 𝓤 (A.lft κ₃ q₃) (sem 𝓛 OwnR)) ((Gather 𝓛 mem run).pre to_gather)
+  goes_gather = qed 𝓛 (‵ (flft κ₃ q₃) ∷ ‵ OwnR ∷ []) ∵ nothing ! $ move ! (1 ∷ 0 ∷ []) $ join ! $ nothing ! $ move ! (2 ∷ 0 ∷ []) $ fjoin ! $ move ! (1 ∷ 0 ∷ []) $ join ! $ frame ! $ done !
 
-  said-gather : (z : Batch) → ent 𝓤 (ensured 𝓛 ga.ended (ga.clauses 𝓛 mem run) (κ₃, tt) (ra, tt) tt z) (fact 𝓤 (z ≡ gathered no_batch ra.now))
-  said-gather z = ex_e 𝓤 _ (λ ws. snd∗ 𝓤 (sem 𝓛 (lasts ga.ended (κ₃, tt) (ra, tt) ws)) (fact 𝓤 (z ≡ gathered no_batch ra.now)))
+  said_gather : (z : Batch) → ent 𝓤 (ensured 𝓛 ga.ended (ga.clauses 𝓛 mem run) (κ₃, tt) (ra, tt) tt z) (fact 𝓤 (z ≡ gathered no_batch ra.now))
+  said_gather z = ex_e 𝓤 _ (λ ws. snd∗ 𝓤 (sem 𝓛 (lasts ga.ended (κ₃, tt) (ra, tt) ws)) (fact 𝓤 (z ≡ gathered no_batch ra.now)))
 
-  abbrev to-add : Batch → (AddBatch 𝓛 mem run).Ghost
-  to-add z = (
+  abbrev to_add : Batch → (AddBatch 𝓛 mem run).Ghost
+  to_add z = (
     (
       (κ₀, (κ₁, (κ₂, (κ₄, tt)))),
       (q₀, (q₁, (q₂, (q₄, tt)))),
@@ -216,9 +216,9 @@ module _ {Mod : Type 1} {𝓤 : Ura Mod} (𝓛 : Logic 𝓤) (mem : Memory → S
 
   -- `ds_add_batch` has four lifetimes, and the fourth is that of the steps: `named 3` there is `named 4` here
   abbrev Passed : Batch → Fml
-  Passed z = owns (ShrSlice (named 0) κ₀ u8 ∷ MutSlice (named 1) κ₁ u8 ∷ MutSlice (named 2) κ₂ u32 ∷ u32 ∷ B.the_row ∷ u64 ∷ MutRef (named 3) κ₄ u64 ∷ []) (to-add z).0.3 (to-add z).0.4
+  Passed z = owns (ShrSlice (named 0) κ₀ u8 ∷ MutSlice (named 1) κ₁ u8 ∷ MutSlice (named 2) κ₂ u32 ∷ u32 ∷ B.the_row ∷ u64 ∷ MutRef (named 3) κ₄ u64 ∷ []) (to_add z).0.3 (to_add z).0.4
 
-  asked : (z : Batch) → ent 𝓤 (⋆ 𝓛 (Tokens ∷ ‵ (Passed z) ∷ [])) ((AddBatch 𝓛 mem run).pre (to-add z))
+  asked : (z : Batch) → ent 𝓤 (⋆ 𝓛 (Tokens ∷ ‵ (Passed z) ∷ [])) ((AddBatch 𝓛 mem run).pre (to_add z))
   asked z = qed 𝓛 (Tokens ∷ ‵ (Passed z) ∷ []) ∵ join ! $ frame ! $ done !
 
   -- ---- the body. l₀ to lD: the places of the fourteen locals
@@ -244,11 +244,11 @@ module _ {Mod : Type 1} {𝓤 : Ura Mod} (𝓛 : Logic 𝓤) (mem : Memory → S
     body =
         qed 𝓛 Start ∵ exec ! 𝓣.C 𝓣.Λ En M.t-1 (at_ret En Post) $
         -- ---- let batch = gather(ranges);
-        move ! (2 ∷ 7 ∷ []) $ use2 𝓛 (raw ((Gather 𝓛 mem run).pre to-gather)) goes-gather $
+        move ! (2 ∷ 7 ∷ []) $ use2 𝓛 (raw ((Gather 𝓛 mem run).pre to_gather)) goes_gather $
         -- [what `gather` asks; κ₄'s token; true; κ₂'s, κ₁'s, κ₀'s; the steps; the ranges; the table; the bodies; the memory, twice; _13 at 12; …; _5 at 28; …]
-        calls_at ! fm (Gather 𝓛 mem run) known-gather to-gather (and_then ! (load ! (from ! (stop !)) (look ! 28 refl)) (no_more !)) (λ v.
+        calls_at ! fm (Gather 𝓛 mem run) known-gather to_gather (and_then ! (load ! (from ! (stop !)) (look ! 28 refl)) (no_more !)) (λ v.
         use1 𝓛 (later (some (λ (z : Batch). ((‵ (flft κ₃ q₃) ⊛ ‵ ftrue) ⊛ ‵ ((B.the_row).own_val z (v ∷ []))) ⊛ raw (ensured 𝓛 ga.ended (ga.clauses 𝓛 mem run) (κ₃, tt) (ra, tt) tt z)))) (id⊢ 𝓤 _) $ await ! tt $ pick ! (λ z.
-        split ! $ move ! (1 ∷ []) $ use1 𝓛 (raw (fact 𝓤 (z ≡ gathered no_batch ra.now))) (said-gather z) $ heard ! (z ≡ gathered no_batch ra.now) (λ ez. split ! $ move ! (1 ∷ []) $
+        split ! $ move ! (1 ∷ []) $ use1 𝓛 (raw (fact 𝓤 (z ≡ gathered no_batch ra.now))) (said_gather z) $ heard ! (z ≡ gathered no_batch ra.now) (λ ez. split ! $ move ! (1 ∷ []) $
         peeks ! B.the_row (Is B.the_row) (shows 𝓛 B.the_row) z (v ∷ []) (λ has.
         -- [the batch; κ₃'s token and true; κ₄'s; true; κ₂'s; κ₁'s; κ₀'s; the steps; the ranges; the table; the bodies; the memory, twice; _13 at 13; …; _0 at 39]
         land ! (from ! (stop !)) (init ! 23 refl ((LL.lawful B.the_type B'.the_laws 𝓛).typed z _ has).0) $
@@ -264,13 +264,13 @@ module _ {Mod : Type 1} {𝓤 : Ura Mod} (𝓛 : Logic 𝓤) (mem : Memory → S
         nothing ! $ move ! (8 ∷ 0 ∷ []) $ fjoin ! $ owned ! u64 (Is u64) (uint_Makes 𝓛 w64) k _ (refl, k-fits) $ fjoin ! $ move ! (1 ∷ 0 ∷ []) $ fjoin ! $ owned ! u32 (Is u32) (uint_Makes 𝓛 w32) h _ (refl, h_fits) $ fjoin ! $
         -- [these; κ₃'s token and true; κ₄'s; true; κ₂'s; κ₁'s; κ₀'s; the ranges; the table; the bodies; the memory, twice; …]
         move ! (8 ∷ 0 ∷ []) $ fjoin ! $ move ! (8 ∷ 0 ∷ []) $ fjoin ! $ move ! (8 ∷ 0 ∷ []) $ fjoin ! $
-        move ! (2 ∷ 3 ∷ []) $ join ! $ move ! (3 ∷ 0 ∷ []) $ join ! $ move ! (3 ∷ 0 ∷ []) $ join ! $ move ! (3 ∷ 0 ∷ []) $ join ! $ use2 𝓛 (raw ((AddBatch 𝓛 mem run).pre (to-add z))) (asked z) $
+        move ! (2 ∷ 3 ∷ []) $ join ! $ move ! (3 ∷ 0 ∷ []) $ join ! $ move ! (3 ∷ 0 ∷ []) $ join ! $ move ! (3 ∷ 0 ∷ []) $ join ! $ use2 𝓛 (raw ((AddBatch 𝓛 mem run).pre (to_add z))) (asked z) $
         -- [what `ds_add_batch` asks; κ₃'s token and true; the ranges; the memory; _13 at 4; …; _0 at 30]
-        calls_at ! fm (AddBatch 𝓛 mem run) known-add (to-add z) (and_then ! (load ! (from ! (stop !)) (look ! 28 refl)) (and_then ! (load ! (from ! (stop !)) (look ! 10 refl)) (and_then ! (load ! (from ! (stop !)) (look ! 6 refl))
+        calls_at ! fm (AddBatch 𝓛 mem run) known-add (to_add z) (and_then ! (load ! (from ! (stop !)) (look ! 28 refl)) (and_then ! (load ! (from ! (stop !)) (look ! 10 refl)) (and_then ! (load ! (from ! (stop !)) (look ! 6 refl))
         (and_then ! (load ! (from ! (stop !)) (look ! 22 refl)) (and_then ! (load ! (from ! (stop !)) (look ! 14 refl)) (and_then ! (load ! (from ! (stop !)) (look ! 18 refl)) (and_then ! (load ! (from ! (stop !)) (look ! 4 refl)) (no_more !)))))))) (λ u.
-        use1 𝓛 (later (some (λ (n : ℕ). (Tokens ⊛ ‵ (u32.own_val n (u ∷ []))) ⊛ raw (ensured 𝓛 ab.ended (ab.clauses 𝓛 mem run) (to-add z).0.0 (to-add z).0.3 tt n)))) (id⊢ 𝓤 _) $ await ! tt $ pick ! (λ n.
+        use1 𝓛 (later (some (λ (n : ℕ). (Tokens ⊛ ‵ (u32.own_val n (u ∷ []))) ⊛ raw (ensured 𝓛 ab.ended (ab.clauses 𝓛 mem run) (to_add z).0.0 (to_add z).0.3 tt n)))) (id⊢ 𝓤 _) $ await ! tt $ pick ! (λ n.
         -- what `ds_add_batch` ensures, at some last lists and a last number of steps
-        split ! $ move ! (1 ∷ []) $ use1 𝓛 (some (λ (zs : Last). ‵ (lasts ab.ended (to-add z).0.0 (to-add z).0.3 zs)
+        split ! $ move ! (1 ∷ []) $ use1 𝓛 (some (λ (zs : Last). ‵ (lasts ab.ended (to_add z).0.0 (to_add z).0.3 zs)
         ⊛ raw (fact 𝓤 (Told h k before (after zs.1.0 zs.1.1.0) n zs.1.1.1.1.1.1.0 (batch_ranges z))))) (id⊢ 𝓤 _) $ pick ! (λ zs.
         split ! $ move ! (1 ∷ []) $ heard ! (Told h k before (after zs.1.0 zs.1.1.0) n zs.1.1.1.1.1.1.0 (batch_ranges z)) (λ told.
         fsplit ! $ lose ! $ fsplit ! $ fsplit ! $ move ! (1 ∷ []) $ feq_l ! (λ lb. move ! (1 ∷ []) $ fsplit ! $ fsplit ! $ move ! (1 ∷ []) $ feq_l ! (λ lt.
@@ -310,8 +310,8 @@ module _ {Mod : Type 1} {𝓤 : Ura Mod} (𝓛 : Logic 𝓤) (mem : Memory → S
     (known-gather : Triple 𝓤 (𝓣.C #gather) (Gather 𝓛 mem run)) (known-add : Triple 𝓤 (𝓣.C #add-batch) (AddBatch 𝓛 mem run)) where
   open 𝓛 use {H}
 
-  add-ranges-walks : Walks 𝓛 f.ended stayed (WpFn 𝓤 H 𝓣.C 𝓣.Λ code.function) (f.clauses 𝓛 mem run)
-  add-ranges-walks = walked 𝓛 f.ended stayed (f.clauses 𝓛 mem run) (WpFn 𝓤 H 𝓣.C 𝓣.Λ code.function)
+  add_ranges_walks : Walks 𝓛 f.ended stayed (WpFn 𝓤 H 𝓣.C 𝓣.Λ code.function) (f.clauses 𝓛 mem run)
+  add_ranges_walks = walked 𝓛 f.ended stayed (f.clauses 𝓛 mem run) (WpFn 𝓤 H 𝓣.C 𝓣.Λ code.function)
       (λ κs. (shr_slice_vals, (shr_slice_vals, (shr_slice_vals, (uint_vals w32, (shr_slice_vals, (uint_vals w64, (shr_vals, tt))))))))
       (λ κs. (
         shr_slice_Tells (named 0) κs.0 u8,
@@ -328,8 +328,8 @@ module _ {Mod : Type 1} {𝓤 : Ura Mod} (𝓛 : Logic 𝓤) (mem : Memory → S
       a.0 a.1.0 a.1.1.0 a.1.1.1.0 a.1.1.1.1.0 a.1.1.1.1.1.0 a.1.1.1.1.1.1.0 are.1.1.1.0.1 are.1.1.1.1.1.0.1
       𝓣 (fm_of 𝓤 H 𝓛.laws 𝓣) known-gather known-add are.0.0.1 are.1.0.0.1 are.1.1.0.0.1 are.1.1.1.1.0.0.1))
 
-  add-ranges-meets : Meets 𝓛 f.signature (WpFn 𝓤 H 𝓣.C 𝓣.Λ code.function) (f.spec 𝓛 mem run)
-  add-ranges-meets = walk_Meets 𝓛 f.ended stayed (
+  add_ranges_meets : Meets 𝓛 f.signature (WpFn 𝓤 H 𝓣.C 𝓣.Λ code.function) (f.spec 𝓛 mem run)
+  add_ranges_meets = walk_Meets 𝓛 f.ended stayed (
     Goes-none_slice 𝓛 5 (0 ∷ []) tt (plain (λ _. u8)) yes,
     (
       Goes-gave_slice 𝓛 5 1 tt (plain (λ _. u8)),
@@ -345,13 +345,13 @@ module _ {Mod : Type 1} {𝓤 : Ura Mod} (𝓛 : Logic 𝓤) (mem : Memory → S
       ),
     ),
   )
-      (f.clauses 𝓛 mem run) (WpFn 𝓤 H 𝓣.C 𝓣.Λ code.function) (WpFn-mono 𝓤 H 𝓛.laws 𝓣 code.function) add-ranges-walks
+      (f.clauses 𝓛 mem run) (WpFn 𝓤 H 𝓣.C 𝓣.Λ code.function) (WpFn-mono 𝓤 H 𝓛.laws 𝓣 code.function) add_ranges_walks
 
 pub ds-add-ranges-spec : {Mod : Type 1} → stated.statement Mod
 unfolding code.routine tables_of
 ds-add-ranges-spec 𝓤 𝓛 𝓜 𝓡 =
     entered 𝓤 𝓛.H (triple_of 𝓛 f.signature (f.spec 𝓛 𝓜.mem 𝓡.run))
     (tables 𝓤 𝓛.H 𝓜 𝓡 code.env).C (tables 𝓤 𝓛.H 𝓜 𝓡 code.env).Λ #add-ranges code.function (code.unfolded 𝓤 𝓛.H 𝓜 𝓡)
-    (add-ranges-meets 𝓛 𝓜.mem 𝓡.run (tables_of 𝓤 𝓛.H 𝓜 (tables 𝓤 𝓛.H 𝓜 𝓡 code.env))
+    (add_ranges_meets 𝓛 𝓜.mem 𝓡.run (tables_of 𝓤 𝓛.H 𝓜 (tables 𝓤 𝓛.H 𝓜 𝓡 code.env))
     (cited 𝓤 𝓛.H (Gather 𝓛 𝓜.mem 𝓡.run) 𝓜 𝓡 code.env #gather ga_def.routine code.calls-ranges::gather (ga_thm.met 𝓤 𝓛 𝓜 𝓡))
     (cited 𝓤 𝓛.H (AddBatch 𝓛 𝓜.mem 𝓡.run) 𝓜 𝓡 code.env #add-batch ab_def.routine code.calls-domain-store::ds-add-batch (ab_thm.met 𝓤 𝓛 𝓜 𝓡)))

@@ -5,7 +5,7 @@ use native.Mathlib.Nat.{not-suc-le-zero}
 use native.Mathlib.Omega.{arith}
 use borrow.Author.Rules.{rules}
 use lib.ListN.{length, get_or, length-set}
-use Rattle.domain_store.proofs.Telling.{copied, listed, handles-listed}
+use Rattle.domain_store.proofs.Telling.{copied, listed, handles_listed}
 use Rattle.domain_store.proofs.ds_list.Statement.{statement}
 use Rattle.domain_store.proofs.ds_list.Tie as tie
 
@@ -61,7 +61,7 @@ returns c =
     let l = c.before.before.before.list in
     let full : b.k ≡ 8 = omega arith in (
       listed _ _ l.result.handles _ l.ensures _ c.number_of_lem.ensures,
-      λ z. handles-listed _ _ l.result.handles _ l.ensures b.handles
+      λ z. handles_listed _ _ l.result.handles _ l.ensures b.handles
           (subst (λ (n : ℕ). (j : ℕ) → j < n → get_or b.handles j 0 ≡ get_or l.result.handles j 0) full (b.invariant.1 z).1),
     )
 

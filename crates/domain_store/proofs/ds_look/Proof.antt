@@ -1,6 +1,6 @@
 -- `domain_store::ds_look` meets its contract. Assumes nothing.
 use Rattle.store.specs.Outcome.{buffers}
-use Rattle.domain_store.proofs.Telling.{in-none, in_memory, in-bodies, in-rule}
+use Rattle.domain_store.proofs.Telling.{in_none, in_memory, in_bodies_lem, in_rule}
 use borrow.Author.Rules.{rules}
 use Rattle.domain_store.proofs.ds_look.Statement.{statement}
 use Rattle.domain_store.proofs.ds_look.Tie as tie
@@ -23,7 +23,7 @@ enum-known-number c = search rules
 returns : tie.Need-returns
 returns c =
     let a = c.before.before.before.before.before.before.before.args in
-    in-none (buffers a.memory.now a.bodies.now a.table.now) _ _ c.before.before.before.look-place.ensures.0 c.before.before.before.look-place.ensures.1.1 _ c.before.no.given.1
+    in_none (buffers a.memory.now a.bodies.now a.table.now) _ _ c.before.before.before.look-place.ensures.0 c.before.before.before.look-place.ensures.1.1 _ c.before.no.given.1
 
 returns-2 : tie.Need-returns-2
 returns-2 c =
@@ -33,12 +33,12 @@ returns-2 c =
 returns-3 : tie.Need-returns-3
 returns-3 c =
     let a = c.before.before.before.before.before.before.before.args in
-    in-bodies (buffers a.memory.now a.bodies.now a.table.now) _ _ c.before.before.before.look-place.ensures.0 c.before.before.before.look-place.ensures.1.1 _ c.before.at2.given.1
+    in_bodies_lem (buffers a.memory.now a.bodies.now a.table.now) _ _ c.before.before.before.look-place.ensures.0 c.before.before.before.look-place.ensures.1.1 _ c.before.at2.given.1
 
 returns-4 : tie.Need-returns-4
 returns-4 c =
     let a = c.before.before.before.before.before.before.before.args in
-    in-rule (buffers a.memory.now a.bodies.now a.table.now) _ _ c.before.before.before.look-place.ensures.0 c.before.before.before.look-place.ensures.1.1 _ c.before.number.given.1
+    in_rule (buffers a.memory.now a.bodies.now a.table.now) _ _ c.before.before.before.look-place.ensures.0 c.before.before.before.look-place.ensures.1.1 _ c.before.number.given.1
 
 pub ds-look-spec : {M : Type 1} → statement M
 ds-look-spec =

@@ -1,5 +1,5 @@
 -- `look::find_place` meets its contract. Assumes nothing.
-use Rattle.look.proofs.Placing.{at-memory, at-bodies, at-rule}
+use Rattle.look.proofs.Placing.{at_memory, at_bodies, at_rule}
 use borrow.Author.Rules.{rules}
 use Rattle.look.proofs.find_place.Statement.{statement}
 use Rattle.look.proofs.find_place.Tie as tie
@@ -38,13 +38,13 @@ enum-known-rule : tie.Need-enum-known-rule
 enum-known-rule c = search rules
 
 returns : tie.Need-returns
-returns c = at-memory _ _ _ _ _ c.before.before.before.before.find-value.ensures _ _ c.Cell-at.ensures c.before.before.enum_told.given.1 c.before.wide.ensures
+returns c = at_memory _ _ _ _ _ c.before.before.before.before.find-value.ensures _ _ c.Cell-at.ensures c.before.before.enum_told.given.1 c.before.wide.ensures
 
 returns-2 : tie.Need-returns-2
-returns-2 c = at-bodies _ _ _ _ _ c.before.before.before.before.before.find-value.ensures _ _ c.cell-at2.ensures _ _ c.before.before.before.body.given.1 c.before.wide2.ensures
+returns-2 c = at_bodies _ _ _ _ _ c.before.before.before.before.before.find-value.ensures _ _ c.cell-at2.ensures _ _ c.before.before.before.body.given.1 c.before.wide2.ensures
 
 returns-3 : tie.Need-returns-3
-returns-3 c = at-rule _ _ _ _ _ c.before.before.before.find-value.ensures _ _ c.before.rule.given.1
+returns-3 c = at_rule _ _ _ _ _ c.before.before.before.find-value.ensures _ _ c.before.rule.given.1
 
 pub find-place-spec : {M : Type 1} → statement M
 find-place-spec =

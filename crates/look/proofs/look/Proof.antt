@@ -3,7 +3,7 @@ use mathlib.Core.Path.{refl}
 use native.Mathlib.Omega.{arith}
 use Rattle.words.proofs.Cells.{part_from}
 use Rattle.store.specs.Outcome.{buffers}
-use Rattle.look.proofs.Placing.{memory_within, bodies_within, part-shown}
+use Rattle.look.proofs.Placing.{memory_within, bodies_within, part_shown}
 use borrow.Author.Rules.{rules}
 use Rattle.look.proofs.look.Statement.{statement}
 use Rattle.look.proofs.look.Tie as tie
@@ -80,22 +80,22 @@ part-result-end-4 c = search rules
 returns : tie.Need-returns
 returns c =
     let a = c.before.before.before.before.before.before.before.args in
-    part-shown a.handle a.cell (buffers a.memory.now a.bodies.now a.table.now) _ _ _ c.before.enum_told.given.1 c.before.before.before.look-place.ensures.0 c.before.before.before.look-place.ensures.1.0 refl
+    part_shown a.handle a.cell (buffers a.memory.now a.bodies.now a.table.now) _ _ _ c.before.enum_told.given.1 c.before.before.before.look-place.ensures.0 c.before.before.before.look-place.ensures.1.0 refl
 
 returns-2 : tie.Need-returns-2
 returns-2 c =
     let a = c.before.before.before.before.before.before.before.before.args in
-    part-shown a.handle a.cell (buffers a.memory.now a.bodies.now a.table.now) _ _ _ c.before.before.at.given.1 c.before.before.before.before.look-place.ensures.0 c.before.before.before.before.look-place.ensures.1.0 (part_from a.memory.now c.before.before.at.given.0.0)
+    part_shown a.handle a.cell (buffers a.memory.now a.bodies.now a.table.now) _ _ _ c.before.before.at.given.1 c.before.before.before.before.look-place.ensures.0 c.before.before.before.before.look-place.ensures.1.0 (part_from a.memory.now c.before.before.at.given.0.0)
 
 returns-3 : tie.Need-returns-3
 returns-3 c =
     let a = c.before.before.before.before.before.before.before.before.args in
-    part-shown a.handle a.cell (buffers a.memory.now a.bodies.now a.table.now) _ _ _ c.before.before.at2.given.1 c.before.before.before.before.look-place.ensures.0 c.before.before.before.before.look-place.ensures.1.0 (part_from a.bodies.now c.before.before.at2.given.0.0)
+    part_shown a.handle a.cell (buffers a.memory.now a.bodies.now a.table.now) _ _ _ c.before.before.at2.given.1 c.before.before.before.before.look-place.ensures.0 c.before.before.before.before.look-place.ensures.1.0 (part_from a.bodies.now c.before.before.at2.given.0.0)
 
 returns-4 : tie.Need-returns-4
 returns-4 c =
     let a = c.before.before.before.before.before.before.before.args in
-    part-shown a.handle a.cell (buffers a.memory.now a.bodies.now a.table.now) _ _ _ c.before.enum-told2.given.1 c.before.before.before.look-place.ensures.0 c.before.before.before.look-place.ensures.1.0 refl
+    part_shown a.handle a.cell (buffers a.memory.now a.bodies.now a.table.now) _ _ _ c.before.enum-told2.given.1 c.before.before.before.look-place.ensures.0 c.before.before.before.look-place.ensures.1.0 refl
 
 pub look_spec : {M : Type 1} → statement M
 look_spec =

@@ -1,7 +1,7 @@
 -- `look_check` meets its contract: question by question. Assumes nothing.
 use mathlib.Core.Path.{sym, ◌∙◌}
 use native.Mathlib.Omega.{arith}
-use Rattle.store.proofs.Checks.{ask_go, ask_stop, or_else_go, or_else_stop, none_named, some_named, store-lengths}
+use Rattle.store.proofs.Checks.{ask_go, ask_stop, or_else_go, or_else_stop, none_named, some_named, store_lengths}
 use Rattle.store.proofs.Raw.{live_within}
 use Rattle.look.specs.Look.{look_check}
 use borrow.Author.Tests.{not-true, not-false}
@@ -19,7 +19,7 @@ returns c = c.before.reached-check.ensures ∙ sym (or_else_stop _ _ (λ e. c.if
 find-domain-requires : tie.Need-find-domain-requires
 find-domain-requires c κs =
     let yes = sym c.before.reached-check.ensures ∙ c.if1.false in
-    let f = store-lengths _ _ _ yes in
+    let f = store_lengths _ _ _ yes in
     (omega arith, live_within _ _ _ yes)
 
 returns-2 : tie.Need-returns-2

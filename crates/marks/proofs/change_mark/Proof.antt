@@ -1,5 +1,5 @@
 -- `marks::change_mark` meets its contract. Assumes nothing.
-use Rattle.marks.proofs.Blocks.{place-fits}
+use Rattle.marks.proofs.Blocks.{place_fits}
 use borrow.Author.Rules.{rules}
 use Rattle.marks.proofs.change_mark.Statement.{statement}
 use Rattle.marks.proofs.change_mark.Tie as tie
@@ -8,7 +8,7 @@ place-of-requires : tie.Need-place-of-requires
 place-of-requires c κs = search rules
 
 slice-write-seen : tie.Need-slice-write-seen
-slice-write-seen c = rw c.place_of.ensures (place-fits c.before.before.before.args.seen.now c.before.before.before.requires.1 c.before.before.before.args.cell c.before.before.before.requires.0)
+slice-write-seen c = rw c.place_of.ensures (place_fits c.before.before.before.args.seen.now c.before.before.before.requires.1 c.before.before.before.args.cell c.before.before.before.requires.0)
 
 same_length : tie.Need-same-length
 same_length c = search rules

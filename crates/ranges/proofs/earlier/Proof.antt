@@ -2,7 +2,7 @@
 use Rattle.std.proofs.Common.{◌≡◌, ℕ, ◌-◌, ◌≤◌, true, refl, arith, rules}
 use Rattle.ranges.specs.Ranges.{covers, named}
 use Rattle.ranges.specs.Batch.{range_at, ranges_in}
-use Rattle.ranges.proofs.Segments.{apart, earlier-less}
+use Rattle.ranges.proofs.Segments.{apart, earlier_less}
 use Rattle.ranges.proofs.earlier.Statement.{statement}
 use Rattle.ranges.proofs.earlier.Tie as tie
 
@@ -42,7 +42,7 @@ loop-again c =
     let i = c.before.before.before.before.before.before.before.before.args.i in
     let k = c.before.before.before.before.loop.j - 1 in (
       search rules,
-      earlier-less ws i c.before.before.before.before.loop.j k (omega arith) (apart (range_at ws k) (range_at ws i) (rw (c.before.before.first-at2.ensures.0, c.before.before.before.before.before.end-at.ensures, c.before.before.before.before.before.before.first-at.ensures.0, c.before.end-at2.ensures) at c.if1.false)) c.before.before.before.before.loop.invariant.1,
+      earlier_less ws i c.before.before.before.before.loop.j k (omega arith) (apart (range_at ws k) (range_at ws i) (rw (c.before.before.first-at2.ensures.0, c.before.before.before.before.before.end-at.ensures, c.before.before.before.before.before.before.first-at.ensures.0, c.before.end-at2.ensures) at c.if1.false)) c.before.before.before.before.loop.invariant.1,
     )
 
 returns-2 : tie.Need-returns-2 invariant-loop decreases-loop

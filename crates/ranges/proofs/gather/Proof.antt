@@ -158,8 +158,8 @@ module _ {Mod : Type 1} {𝓤 : Ura Mod} (𝓛 : Logic 𝓤) (mem : Memory → S
       owned ! u32 (Is u32) (uint_Makes 𝓛 w32) r.first _ (refl, g.0) $ fjoin ! $ move ! (1 ∷ 0 ∷ []) $ fjoin ! $ nothing ! $ join ! $ frame ! $ done !
 
   -- of each callee's `ensured`, the clause alone: neither has a `&mut`
-  said-none : (z : Batch) → ent 𝓤 (ensured 𝓛 no_batch.ended (no_batch.clauses 𝓛 mem run) tt tt tt z) (fact 𝓤 (z ≡ no_batch))
-  said-none z = ex_e 𝓤 _ (λ ws. snd∗ 𝓤 (sem 𝓛 (lasts no_batch.ended tt tt ws)) (fact 𝓤 (z ≡ no_batch)))
+  said_none : (z : Batch) → ent 𝓤 (ensured 𝓛 no_batch.ended (no_batch.clauses 𝓛 mem run) tt tt tt z) (fact 𝓤 (z ≡ no_batch))
+  said_none z = ex_e 𝓤 _ (λ ws. snd∗ 𝓤 (sem 𝓛 (lasts no_batch.ended tt tt ws)) (fact 𝓤 (z ≡ no_batch)))
 
   said : (d : Batch) (r : Range) (z : Batch) → ent 𝓤 (ensured 𝓛 kp.ended (kp.clauses 𝓛 mem run) tt (to d r).0.3 tt z) (fact 𝓤 (z ≡ kept_range d r))
   said d r z = ex_e 𝓤 _ (λ ws. snd∗ 𝓤 (sem 𝓛 (lasts kp.ended tt (to d r).0.3 ws)) (fact 𝓤 (z ≡ kept_range d r)))
@@ -226,7 +226,7 @@ module _ {Mod : Type 1} {𝓤 : Ura Mod} (𝓛 : Logic 𝓤) (mem : Memory → S
         rewrite ! 8 (λ (c : Bool). ‵ (fat full_share ty_bool l₆ 0 (vbool c))) (lt-ltb i n small) refl $
         stays ! (load ! (from ! (stop !)) (look ! 8 refl)) $
         -- the record's place
-        assigns ! (bin ! (load ! (from ! (stop !)) (look ! 14 refl)) (lit ! tt) (record { fits = place-fits })) (from ! (stop !)) (store ! 10 refl (tt, record { fits = place-fits })) $
+        assigns ! (bin ! (load ! (from ! (stop !)) (look ! 14 refl)) (lit ! tt) (record { fits = place_fits })) (from ! (stop !)) (store ! 10 refl (tt, record { fits = place_fits })) $
         assigns ! (bin ! (load ! (from ! (fld ! refl (stop !))) (look_in ! 18 (sub ! 0 refl (whole !)))) (load ! (from ! (stop !)) (look ! 10 refl)) tt) (from ! (stop !)) (init ! 6 refl (tt, tt)) $
         rewrite ! 6 (λ (p : ℕ). ‵ (fat full_share ty_ptr l₇ 0 (vptr b p))) (sym (place_is 20 o i)) refl $
         -- the slice is looked into, and the record copied out
@@ -256,8 +256,8 @@ module _ {Mod : Type 1} {𝓤 : Ura Mod} (𝓛 : Logic 𝓤) (mem : Memory → S
         keep ! (0 ∷ 2 ∷ 1 ∷ 3 ∷ 4 ∷ 5 ∷ 6 ∷ 7 ∷ 8 ∷ 9 ∷ 10 ∷ 11 ∷ 12 ∷ 13 ∷ 14 ∷ 15 ∷ 16 ∷ 17 ∷ 18 ∷ 19 ∷ 20 ∷ 21 ∷ []) $
         again ! nearer Inv t (i + 1, z, ap (λ (v : Batch). gathered v (drop (i + 1) rs)) e ∙ sym (gathered_next d rs i small) ∙ t.2) (omega arith)))))))
       where
-        place-fits : t.0 * 20 < 2 ^ 64
-        place-fits = omega (arith, g.1)
+        place_fits : t.0 * 20 < 2 ^ 64
+        place_fits = omega (arith, g.1)
 
         next_fits : t.0 + 1 < 2 ^ 64
         next_fits = omega (arith, g.0)
@@ -278,7 +278,7 @@ module _ {Mod : Type 1} {𝓤 : Ura Mod} (𝓛 : Logic 𝓤) (mem : Memory → S
         qed 𝓛 Start ∵ exec ! 𝓣.C 𝓣.Λ En M.t-1 (at_ret En Post) $ nothing ! $ use1 𝓛 (raw ((NoBatch 𝓛 mem run).pre to_none)) goes_none $
         calls_at ! fm (NoBatch 𝓛 mem run) known-none to_none (no_more !) (λ u.
         use1 𝓛 (later (some (λ (z : Batch). (‵ ftrue ⊛ ‵ ((B.the_row).own_val z (u ∷ []))) ⊛ raw (ensured 𝓛 no_batch.ended (no_batch.clauses 𝓛 mem run) tt tt tt z)))) (id⊢ 𝓤 _) $ await ! tt $ pick ! (λ z.
-        split ! $ move ! (1 ∷ []) $ use1 𝓛 (raw (fact 𝓤 (z ≡ no_batch))) (said-none z) $ heard ! (z ≡ no_batch) (λ e. split ! $ lose ! $
+        split ! $ move ! (1 ∷ []) $ use1 𝓛 (raw (fact 𝓤 (z ≡ no_batch))) (said_none z) $ heard ! (z ≡ no_batch) (λ e. split ! $ lose ! $
         peeks ! B.the_row (Is B.the_row) (shows 𝓛 B.the_row) z (u ∷ []) (λ has.
         -- [the batch; the ranges' borrow; their token; res; _8; …; _0; …]
         land ! (from ! (stop !)) (init ! 16 refl ((LL.lawful B.the_type B'.the_laws 𝓛).typed z _ has).0) $
@@ -303,19 +303,19 @@ module _ {Mod : Type 1} {𝓤 : Ura Mod} (𝓛 : Logic 𝓤) (mem : Memory → S
     (known-none : Triple 𝓤 (𝓣.C #no_batch) (NoBatch 𝓛 mem run)) (known : Triple 𝓤 (𝓣.C #keep) (Keep 𝓛 mem run)) where
   open 𝓛 use {H}
 
-  gather-walks : Walks 𝓛 f.ended stayed (WpFn 𝓤 H 𝓣.C 𝓣.Λ code.function) (f.clauses 𝓛 mem run)
-  gather-walks = walked 𝓛 f.ended stayed (f.clauses 𝓛 mem run) (WpFn 𝓤 H 𝓣.C 𝓣.Λ code.function) (λ κs. (shr_slice_vals, tt)) (λ κs. (shr_slice_Tells (named 0) κs.0 R, tt))
+  gather_walks : Walks 𝓛 f.ended stayed (WpFn 𝓤 H 𝓣.C 𝓣.Λ code.function) (f.clauses 𝓛 mem run)
+  gather_walks = walked 𝓛 f.ended stayed (f.clauses 𝓛 mem run) (WpFn 𝓤 H 𝓣.C 𝓣.Λ code.function) (λ κs. (shr_slice_vals, tt)) (λ κs. (shr_slice_Tells (named 0) κs.0 R, tt))
       (λ κs qs bounds a z are. via 𝓤 _ (fst∗ 𝓤 _ (emp 𝓤)) (walk 𝓛 mem run κs.0 qs.0 a.0.ref_ptr.0 a.0.ref_ptr.1 0 a.0.now 𝓣 (fm_of 𝓤 H 𝓛.laws 𝓣) known-none known are.0.0.1))
 
-  gather-meets : Meets 𝓛 f.signature (WpFn 𝓤 H 𝓣.C 𝓣.Λ code.function) (f.spec 𝓛 mem run)
-  gather-meets = walk_Meets 𝓛 f.ended stayed (Goes-none_slice 𝓛 1 (0 ∷ []) tt (plain (λ _. R)) yes, tt) (f.clauses 𝓛 mem run)
-      (WpFn 𝓤 H 𝓣.C 𝓣.Λ code.function) (WpFn-mono 𝓤 H 𝓛.laws 𝓣 code.function) gather-walks
+  gather_meets : Meets 𝓛 f.signature (WpFn 𝓤 H 𝓣.C 𝓣.Λ code.function) (f.spec 𝓛 mem run)
+  gather_meets = walk_Meets 𝓛 f.ended stayed (Goes-none_slice 𝓛 1 (0 ∷ []) tt (plain (λ _. R)) yes, tt) (f.clauses 𝓛 mem run)
+      (WpFn 𝓤 H 𝓣.C 𝓣.Λ code.function) (WpFn-mono 𝓤 H 𝓛.laws 𝓣 code.function) gather_walks
 
 pub gather-spec : {Mod : Type 1} → stated.statement Mod
 unfolding code.routine tables_of
 gather-spec 𝓤 𝓛 𝓜 𝓡 =
     entered 𝓤 𝓛.H (triple_of 𝓛 f.signature (f.spec 𝓛 𝓜.mem 𝓡.run))
     (tables 𝓤 𝓛.H 𝓜 𝓡 code.env).C (tables 𝓤 𝓛.H 𝓜 𝓡 code.env).Λ #gather code.function (code.unfolded 𝓤 𝓛.H 𝓜 𝓡)
-    (gather-meets 𝓛 𝓜.mem 𝓡.run (tables_of 𝓤 𝓛.H 𝓜 (tables 𝓤 𝓛.H 𝓜 𝓡 code.env))
+    (gather_meets 𝓛 𝓜.mem 𝓡.run (tables_of 𝓤 𝓛.H 𝓜 (tables 𝓤 𝓛.H 𝓜 𝓡 code.env))
     (cited 𝓤 𝓛.H (NoBatch 𝓛 𝓜.mem 𝓡.run) 𝓜 𝓡 code.env #no_batch no_batch_def.routine code.calls-ranges::no_batch (no_batch_thm.met 𝓤 𝓛 𝓜 𝓡))
     (cited 𝓤 𝓛.H (Keep 𝓛 𝓜.mem 𝓡.run) 𝓜 𝓡 code.env #keep kp_def.routine code.calls-ranges::keep (kp_thm.met 𝓤 𝓛 𝓜 𝓡)))

@@ -2,7 +2,7 @@
 use Rattle.std.proofs.Common.{ℕ, ◌+◌, ◌-◌, ◌<◌, ◌≤◌, sym, arith, rules, below_none, below_more}
 use mathlib.Core.Bool.{false≢true}
 use Rattle.ranges.specs.Batch.{range_at, record_by, RisingBy}
-use Rattle.ranges.proofs.Segments.{rising-more}
+use Rattle.ranges.proofs.Segments.{rising_more}
 use Rattle.ranges.proofs.is_rising.Statement.{statement}
 use Rattle.ranges.proofs.is_rising.Tie as tie
 
@@ -41,7 +41,7 @@ loop-again c =
     let h : (i : ℕ) → i < k → (range_at ws (record_by order i)).first + (range_at ws (record_by order i)).count ≤ (range_at ws (record_by order k)).first = λ i l. rw (sym c.before.before.before.record-by.ensures) (omega (arith, c.before.before.before.before.before.loop.invariant.2 i l)) in
     let end = rw c.before.before.before.record-by.ensures at c.end-at.ensures in (
       search rules,
-      rising-more ws order k c.before.before.before.before.before.loop.invariant.1 h,
+      rising_more ws order k c.before.before.before.before.before.loop.invariant.1 h,
       below_more _ _ (λ i l. omega (arith, h i l, end)) (omega (arith, end)),
     )
 

@@ -1,7 +1,7 @@
 -- `ranges::lowest_of` meets its contract. Assumes nothing.
 use Rattle.std.proofs.Common.{arith, rules}
 use Rattle.ranges.specs.Batch.{range_at}
-use Rattle.ranges.proofs.Ranges.{covers-make, covers-not}
+use Rattle.ranges.proofs.Ranges.{covers_make, covers_not}
 use Rattle.ranges.proofs.lowest_of.Statement.{statement}
 use Rattle.ranges.proofs.lowest_of.Tie as tie
 
@@ -20,12 +20,12 @@ least-requires c κs = search rules
 returns : tie.Need-returns
 returns c =
     let r = range_at c.before.before.before.before.before.before.args.list.now c.before.before.before.before.before.before.args.i in
-    record { low = λ l. omega arith; high = omega arith; none = λ x l h. covers-not r x (λ a b. omega arith); some = λ l. covers-make r c.least.result (omega arith) (omega arith) }
+    record { low = λ l. omega arith; high = omega arith; none = λ x l h. covers_not r x (λ a b. omega arith); some = λ l. covers_make r c.least.result (omega arith) (omega arith) }
 
 returns-2 : tie.Need-returns-2
 returns-2 c =
     let r = range_at c.before.before.before.before.before.args.list.now c.before.before.before.before.before.args.i in
-    record { low = λ l. l; high = omega arith; none = λ x l h. covers-not r x (λ a b. omega arith); some = λ l. absurd (omega arith) }
+    record { low = λ l. l; high = omega arith; none = λ x l h. covers_not r x (λ a b. omega arith); some = λ l. absurd (omega arith) }
 
 pub lowest-of-spec : {M : Type 1} → statement M
 lowest-of-spec =

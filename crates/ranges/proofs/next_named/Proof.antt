@@ -2,7 +2,7 @@
 use Rattle.std.proofs.Common.{ℕ, ◌-◌, ◌≤◌, subst, arith, rules, below_none}
 use Rattle.ranges.specs.Batch.{NextNamed}
 use Rattle.ranges.proofs.Ranges.{named_none}
-use Rattle.ranges.proofs.Segments.{lowest-next}
+use Rattle.ranges.proofs.Segments.{lowest_next}
 use Rattle.ranges.proofs.next_named.Statement.{statement}
 use Rattle.ranges.proofs.next_named.Tie as tie
 
@@ -25,7 +25,7 @@ loop-less : tie.Need-loop-smaller invariant-loop decreases-loop
 loop-less c = search rules
 
 loop-again : tie.Need-loop-preserved invariant-loop decreases-loop
-loop-again c = (search rules, lowest-next _ _ _ _ _ _ c.before.before.loop.invariant.1 c.lowest-of.ensures)
+loop-again c = (search rules, lowest_next _ _ _ _ _ _ c.before.before.loop.invariant.1 c.lowest-of.ensures)
 
 returns : tie.Need-returns invariant-loop decreases-loop
 returns c = subst (λ (k : ℕ). NextNamed c.before.before.before.args.cells k c.before.before.before.args.list.now c.before.before.before.args.from c.before.loop.at) (omega arith) c.before.loop.invariant.1

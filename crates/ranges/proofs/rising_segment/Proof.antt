@@ -2,8 +2,8 @@
 use Rattle.std.proofs.Common.{◌≡◌, true, false, refl, arith, rules}
 use Rattle.ranges.specs.Ranges.{covers}
 use Rattle.ranges.specs.Batch.{range_at, record_by}
-use Rattle.ranges.proofs.Ranges.{covers-not, named_none}
-use Rattle.ranges.proofs.Segments.{by_order, segment-none, rising-next}
+use Rattle.ranges.proofs.Ranges.{covers_not, named_none}
+use Rattle.ranges.proofs.Segments.{by_order, segment_none, rising_next}
 use Rattle.ranges.proofs.rising_segment.Statement.{statement}
 use Rattle.ranges.proofs.rising_segment.Tie as tie
 
@@ -15,8 +15,8 @@ returns c = λ from low p.
     let ws = c.before.before.before.before.args.list.now in
     let n = c.before.before.before.before.args.n in
     let order = c.before.before.before.before.args.order.now in
-    segment-none ws order c.before.before.before.before.args.cells n true from low c.no-segment.result c.no-segment.ensures.0 c.no-segment.ensures.1
-    (λ x a b. named_none ws x n (by_order n order c.before.before.before.before.pre.3 (λ i. covers (range_at ws i) x ≡ false) (λ j l. covers-not (range_at ws (record_by order j)) x (λ y z. omega (arith, p.before refl j (omega arith) l)))))
+    segment_none ws order c.before.before.before.before.args.cells n true from low c.no-segment.result c.no-segment.ensures.0 c.no-segment.ensures.1
+    (λ x a b. named_none ws x n (by_order n order c.before.before.before.before.pre.3 (λ i. covers (range_at ws i) x ≡ false) (λ j l. covers_not (range_at ws (record_by order j)) x (λ y z. omega (arith, p.before refl j (omega arith) l)))))
 
 record-by-requires : tie.Need-record-by-requires
 record-by-requires c κs = omega (arith, c.before.before.before.pre.3.room)
@@ -45,7 +45,7 @@ add-t14 c = search rules
 returns-2 : tie.Need-returns-2
 returns-2 c = λ from low p.
     rw (c.before.before.before.before.first-at.ensures.0, c.before.before.before.end-at.ensures, c.before.before.kind_at.ensures, c.before.rule-at.ensures, c.label_at.ensures, c.before.before.before.before.before.record-by.ensures)
-    (rising-next c.before.before.before.before.before.before.before.before.before.args.list.now c.before.before.before.before.before.before.before.before.before.args.order.now c.before.before.before.before.before.before.before.before.before.args.cells c.before.before.before.before.before.before.before.before.before.args.n c.before.before.before.before.before.before.before.before.before.args.next from c.before.before.before.before.before.before.if1.left c.before.before.before.before.before.before.before.before.before.pre.1 c.before.before.before.before.before.before.before.before.before.pre.2 c.before.before.before.before.before.before.before.before.before.pre.3 c.before.before.before.before.before.before.before.before.before.pre.4 p)
+    (rising_next c.before.before.before.before.before.before.before.before.before.args.list.now c.before.before.before.before.before.before.before.before.before.args.order.now c.before.before.before.before.before.before.before.before.before.args.cells c.before.before.before.before.before.before.before.before.before.args.n c.before.before.before.before.before.before.before.before.before.args.next from c.before.before.before.before.before.before.if1.left c.before.before.before.before.before.before.before.before.before.pre.1 c.before.before.before.before.before.before.before.before.before.pre.2 c.before.before.before.before.before.before.before.before.before.pre.3 c.before.before.before.before.before.before.before.before.before.pre.4 p)
 
 pub rising-segment-spec : {M : Type 1} → statement M
 rising-segment-spec =

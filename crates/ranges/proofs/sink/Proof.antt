@@ -1,7 +1,7 @@
 -- `ranges::sink` meets its contract. The loop's invariant: the key stands at place k, and what the keys name is kept. Assumes nothing.
 use Rattle.std.proofs.Common.{◌≡◌, ℕ, ◌-◌, ◌<◌, ◌≤◌, length, get_or, set, refl, ◌∙◌, arith, length-set, get_or-set_same, rules}
 use Rattle.ranges.specs.Batch.{Orders}
-use Rattle.ranges.proofs.Segments.{orders-exchanged}
+use Rattle.ranges.proofs.Segments.{orders_exchanged}
 use Rattle.ranges.proofs.sink.Statement.{statement}
 use Rattle.ranges.proofs.sink.Tie as tie
 
@@ -66,7 +66,7 @@ loop-again c =
       omega (arith, turn.invariant.0),
       length-set (set s k other) (k - 1) key ∙ length-set s k other ∙ turn.invariant.1,
       get_or-set_same (set s k other) (k - 1) key 0 (omega (arith, length-set s k other, turn.invariant.0, turn.invariant.1, c.before.before.before.before.before.requires)),
-      λ n l h. orders-exchanged n s (turn.invariant.3 n l h) (k - 1) k other key (omega (arith, turn.invariant.0)) (omega (arith, turn.invariant.0)) (λ e. omega arith) refl turn.invariant.2,
+      λ n l h. orders_exchanged n s (turn.invariant.3 n l h) (k - 1) k other key (omega (arith, turn.invariant.0)) (omega (arith, turn.invariant.0)) (λ e. omega arith) refl turn.invariant.2,
     )
 
 same-length-2 : tie.Need-same-length-2 invariant-loop decreases-loop

@@ -1,7 +1,7 @@
 -- `ranges::turn_of` meets its contract: up to the turn the cells lie before the record, in it or behind it. Assumes nothing.
 use Rattle.std.proofs.Common.{arith, rules}
 use Rattle.ranges.specs.Batch.{range_at}
-use Rattle.ranges.proofs.Segments.{all-before, all-inside, all-behind}
+use Rattle.ranges.proofs.Segments.{all_before, all_inside, all_behind}
 use Rattle.ranges.proofs.turn_of.Statement.{statement}
 use Rattle.ranges.proofs.turn_of.Tie as tie
 
@@ -15,16 +15,16 @@ least-requires : tie.Need-least-requires
 least-requires c κs = search rules
 
 returns : tie.Need-returns
-returns c = (search rules, search rules, all-before (range_at c.before.before.before.before.before.args.list.now c.before.before.before.before.before.args.i) _ _ (omega arith))
+returns c = (search rules, search rules, all_before (range_at c.before.before.before.before.before.args.list.now c.before.before.before.before.before.args.i) _ _ (omega arith))
 
 least-requires-2 : tie.Need-least-requires-2
 least-requires-2 c κs = search rules
 
 returns-2 : tie.Need-returns-2
-returns-2 c = (search rules, search rules, all-inside (range_at c.before.before.before.before.before.before.args.list.now c.before.before.before.before.before.before.args.i) _ _ (omega arith) (omega arith))
+returns-2 c = (search rules, search rules, all_inside (range_at c.before.before.before.before.before.before.args.list.now c.before.before.before.before.before.before.args.i) _ _ (omega arith) (omega arith))
 
 returns-3 : tie.Need-returns-3
-returns-3 c = (search rules, search rules, all-behind (range_at c.before.before.before.before.before.args.list.now c.before.before.before.before.before.args.i) _ _ (omega arith))
+returns-3 c = (search rules, search rules, all_behind (range_at c.before.before.before.before.before.args.list.now c.before.before.before.before.before.args.i) _ _ (omega arith))
 
 pub turn-of-spec : {M : Type 1} → statement M
 turn-of-spec =

@@ -1,5 +1,5 @@
 -- `end_domains` meets its contract: what is staged is stored by the journal. Assumes nothing.
-use Rattle.changes.proofs.Staging.{stages-inside, stages-words}
+use Rattle.changes.proofs.Staging.{stages_inside, stages_words}
 use borrow.Author.Rules.{rules}
 use Rattle.restore.proofs.end_domains.Statement.{statement}
 use Rattle.restore.proofs.end_domains.Tie as tie
@@ -11,7 +11,7 @@ stage-head-requires : tie.Need-stage-head-requires
 stage-head-requires c κs = search rules
 
 write-staged-requires : tie.Need-write-staged-requires
-write-staged-requires c κs = (search rules, (c.before.before.stage-head.ensures.0, stages-inside c.before.before.before.before.before.before.before.before.stage-freed.ensures))
+write-staged-requires c κs = (search rules, (c.before.before.stage-head.ensures.0, stages_inside c.before.before.before.before.before.before.before.before.stage-freed.ensures))
 
 same_length : tie.Need-same-length
 same_length c = search rules
@@ -24,7 +24,7 @@ same-length-3 c = search rules
 
 returns : tie.Need-returns
 returns c =
-    let same = stages-words c.before.before.before.before.before.stage-head.ensures.1 c.before.before.before.before.before.before.before.before.before.before.before.stage-freed.ensures in
+    let same = stages_words c.before.before.before.before.before.stage-head.ensures.1 c.before.before.before.before.before.before.before.before.before.before.before.stage-freed.ensures in
     rw same at c.before.before.write-staged.ensures
 
 pub end-domains-spec : {M : Type 1} → statement M

@@ -12,7 +12,7 @@ use Rattle.words.specs.Stores.{Store, store, stores, gather}
 use Rattle.words.proofs.Plans.{stores_none}
 use Rattle.table.specs.Rule.{rule_ok}
 use Rattle.restore.specs.Parts.{back_plan}
-use Rattle.restore.proofs.Blocks.{block-length, block-turn}
+use Rattle.restore.proofs.Blocks.{block_length, block_turn}
 use Rattle.restore.proofs.Finding.{put_passed}
 use Rattle.restore.proofs.put_back.Statement.{statement}
 use Rattle.restore.proofs.put_back.Tie as tie
@@ -105,8 +105,8 @@ loop-again c =
       u.high,
       omega (arith, r.1.0, n, h, u.low, s.invariant.1),
       c.before.before.before.put-run.auto.0 ∙ s.invariant.2,
-      block-length plan (8 * s.r) c.before.before.before.before.before.least.result s.bytes c.before.before.before.put-run.result made r.0 ∙ ap length whole,
-      block-turn plan store a.budget (8 * s.r) c.before.before.before.before.before.least.result s.bytes a.memory.now s.memory _ made stored e₂ ∙ ap (λ (l : List Store). stores (take a.budget l) a.memory.now) whole,
+      block_length plan (8 * s.r) c.before.before.before.before.before.least.result s.bytes c.before.before.before.put-run.result made r.0 ∙ ap length whole,
+      block_turn plan store a.budget (8 * s.r) c.before.before.before.before.before.least.result s.bytes a.memory.now s.memory _ made stored e₂ ∙ ap (λ (l : List Store). stores (take a.budget l) a.memory.now) whole,
     )
 
 same_length : tie.Need-same-length invariant-loop decreases-loop

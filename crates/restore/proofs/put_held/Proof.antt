@@ -1,8 +1,8 @@
 -- `restore::put_held` meets its contract. Assumes nothing.
 use mathlib.Core.Path.{◌∙◌}
 use native.Mathlib.Omega.{arith}
-use Rattle.search.proofs.Behind.{nowhere-held}
-use Rattle.restore.proofs.Finding.{put_none, put-source, put-live, put-once, put-unheld, put_first, put-fits, put-body, put-rule}
+use Rattle.search.proofs.Behind.{nowhere_held}
+use Rattle.restore.proofs.Finding.{put_none, put_source, put_live, put_once, put_unheld, put_first, put_fits, put_body, put_rule}
 use borrow.Author.Rules.{rules}
 use Rattle.restore.proofs.put_held.Statement.{statement}
 use Rattle.restore.proofs.put_held.Tie as tie
@@ -11,7 +11,7 @@ returns : tie.Need-returns
 returns c =
     let a = c.before.before.before.before.before.before.args in
     let p = c.before.before.before.before.before.before.requires in
-    put_none a.slots a.table.now a.depth a.cell a.bodies.now a.memory.now a.budget (put-unheld _ a.slots a.table.now a.depth a.cell a.bodies.now p.1.0 p.0.2 a.held p.1.1 c.if1.true)
+    put_none a.slots a.table.now a.depth a.cell a.bodies.now a.memory.now a.budget (put_unheld _ a.slots a.table.now a.depth a.cell a.bodies.now p.1.0 p.0.2 a.held p.1.1 c.if1.true)
 
 first-depth-requires : tie.Need-first-depth-requires
 first-depth-requires c κs = search rules
@@ -24,7 +24,7 @@ find-value-requires c κs =
     let a = c.before.before.before.before.before.before.before.args in
     let p = c.before.before.before.before.before.before.before.requires in
     let f = c.first-depth.ensures in
-    ((p.0.0, p.0.1, p.1.2, put-live _ a.slots a.table.now a.depth a.cell a.bodies.now p.1.0 p.0.2, f.low), (put-once _ a.slots a.table.now a.depth a.cell a.bodies.now p.1.0 p.0.2, put-source _ a.slots a.table.now c.first-depth.result a.cell a.bodies.now p.1.0 f.low))
+    ((p.0.0, p.0.1, p.1.2, put_live _ a.slots a.table.now a.depth a.cell a.bodies.now p.1.0 p.0.2, f.low), (put_once _ a.slots a.table.now a.depth a.cell a.bodies.now p.1.0 p.0.2, put_source _ a.slots a.table.now c.first-depth.result a.cell a.bodies.now p.1.0 f.low))
 
 enum_told : tie.Need-enum-told
 enum_told c = search rules
@@ -40,7 +40,7 @@ cell-at-requires c κs =
     let a = c.before.before.before.before.before.before.before.before.before.before.before.before.args in
     let p = c.before.before.before.before.before.before.before.before.before.before.before.before.requires in
     let v = c.before.before.before.before.find-value.ensures ∙ put_first _ a.slots a.table.now a.depth a.cell a.bodies.now p.1.0 p.0.2 a.held p.1.1 _ c.before.before.before.before.before.first-depth.ensures in
-    let f = put-fits _ a.slots a.table.now a.depth a.cell a.bodies.now p.1.0 p.0.2 _ _ _ v c.before.before.body.given.1 in
+    let f = put_fits _ a.slots a.table.now a.depth a.cell a.bodies.now p.1.0 p.0.2 _ _ _ v c.before.before.body.given.1 in
     omega (arith, f, c.wide.ensures)
 
 add-put-cell : tie.Need-overflow-add-put-cell
@@ -48,7 +48,7 @@ add-put-cell c =
     let a = c.before.before.before.before.before.before.before.before.before.before.before.before.before.args in
     let p = c.before.before.before.before.before.before.before.before.before.before.before.before.before.requires in
     let v = c.before.before.before.before.before.find-value.ensures ∙ put_first _ a.slots a.table.now a.depth a.cell a.bodies.now p.1.0 p.0.2 a.held p.1.1 _ c.before.before.before.before.before.before.first-depth.ensures in
-    let f = put-fits _ a.slots a.table.now a.depth a.cell a.bodies.now p.1.0 p.0.2 _ _ _ v c.before.before.before.body.given.1 in
+    let f = put_fits _ a.slots a.table.now a.depth a.cell a.bodies.now p.1.0 p.0.2 _ _ _ v c.before.before.before.body.given.1 in
     omega (arith, f, c.before.wide.ensures, c.Cell-at.ensures)
 
 sub-put-cell : tie.Need-overflow-sub-put-cell
@@ -62,7 +62,7 @@ part-put-cell-end c =
     let a = c.before.before.before.before.before.before.before.before.before.before.before.before.before.args in
     let p = c.before.before.before.before.before.before.before.before.before.before.before.before.before.requires in
     let v = c.before.before.before.before.before.find-value.ensures ∙ put_first _ a.slots a.table.now a.depth a.cell a.bodies.now p.1.0 p.0.2 a.held p.1.1 _ c.before.before.before.before.before.before.first-depth.ensures in
-    let f = put-fits _ a.slots a.table.now a.depth a.cell a.bodies.now p.1.0 p.0.2 _ _ _ v c.before.before.before.body.given.1 in
+    let f = put_fits _ a.slots a.table.now a.depth a.cell a.bodies.now p.1.0 p.0.2 _ _ _ v c.before.before.before.body.given.1 in
     omega (arith, f, c.before.wide.ensures, c.Cell-at.ensures)
 
 put-cell-requires : tie.Need-put-cell-requires
@@ -85,7 +85,7 @@ returns-2 c =
     let a = c.before.before.before.before.before.before.before.before.before.before.args in
     let p = c.before.before.before.before.before.before.before.before.before.before.requires in
     let v = c.before.before.find-value.ensures ∙ put_first _ a.slots a.table.now a.depth a.cell a.bodies.now p.1.0 p.0.2 a.held p.1.1 _ c.before.before.before.first-depth.ensures in
-    put_none a.slots a.table.now a.depth a.cell a.bodies.now a.memory.now a.budget (nowhere-held _ _ _ _ _ v c.enum_told.given.1)
+    put_none a.slots a.table.now a.depth a.cell a.bodies.now a.memory.now a.budget (nowhere_held _ _ _ _ _ v c.enum_told.given.1)
 
 same_length : tie.Need-same-length
 same_length c = search rules
@@ -95,7 +95,7 @@ returns-3 c =
     let a = c.before.before.before.before.before.before.before.before.before.before.before.before.before.before.before.before.before.before.args in
     let p = c.before.before.before.before.before.before.before.before.before.before.before.before.before.before.before.before.before.before.requires in
     let v = c.before.before.before.before.before.before.before.before.before.before.find-value.ensures ∙ put_first _ a.slots a.table.now a.depth a.cell a.bodies.now p.1.0 p.0.2 a.held p.1.1 _ c.before.before.before.before.before.before.before.before.before.before.before.first-depth.ensures in
-    put-body _ a.slots a.table.now a.depth a.cell a.bodies.now p.1.0 p.0.2 _ _ _ v c.before.before.before.before.before.before.before.before.body.given.1 a.memory.now a.budget _ _ _ c.before.before.before.before.before.before.wide.ensures c.before.before.before.before.before.Cell-at.ensures c.before.before.put-cell.ensures
+    put_body _ a.slots a.table.now a.depth a.cell a.bodies.now p.1.0 p.0.2 _ _ _ v c.before.before.before.before.before.before.before.before.body.given.1 a.memory.now a.budget _ _ _ c.before.before.before.before.before.before.wide.ensures c.before.before.before.before.before.Cell-at.ensures c.before.before.put-cell.ensures
 
 same-length-2 : tie.Need-same-length-2
 same-length-2 c = search rules
@@ -105,7 +105,7 @@ returns-4 c =
     let a = c.before.before.before.before.before.before.before.before.before.before.before.before.before.before.before.before.before.args in
     let p = c.before.before.before.before.before.before.before.before.before.before.before.before.before.before.before.before.before.requires in
     let v = c.before.before.before.before.before.before.before.before.before.find-value.ensures ∙ put_first _ a.slots a.table.now a.depth a.cell a.bodies.now p.1.0 p.0.2 a.held p.1.1 _ c.before.before.before.before.before.before.before.before.before.before.first-depth.ensures in
-    put-rule _ a.slots a.table.now a.depth a.cell a.bodies.now p.1.0 p.0.2 _ _ _ v c.before.before.before.before.before.before.before.rule.given.1 a.memory.now a.budget _ _ c.before.before.before.before.before.pattern-bytes.ensures c.before.before.put-cell2.ensures
+    put_rule _ a.slots a.table.now a.depth a.cell a.bodies.now p.1.0 p.0.2 _ _ _ v c.before.before.before.before.before.before.before.rule.given.1 a.memory.now a.budget _ _ c.before.before.before.before.before.pattern-bytes.ensures c.before.before.put-cell2.ensures
 
 pub put-held-spec : {M : Type 1} → statement M
 put-held-spec =

@@ -9,7 +9,7 @@ use borrow.Author.Rules.{rules}
 use lib.ListN.{length, take}
 use Rattle.words.specs.Layout.{cells_of, bodies_of}
 use Rattle.words.specs.Stores.{Store, store, stores}
-use Rattle.words.proofs.Gather.{gather-length, gather-turn}
+use Rattle.words.proofs.Gather.{gather_length, gather_turn}
 use Rattle.words.proofs.Plans.{stores_none}
 use Rattle.marks.specs.Blocks.{run_held}
 use Rattle.marks.proofs.Blocks.{held_first}
@@ -79,8 +79,8 @@ loop-again c = let a = c.before.before.before.before.before.before.before.before
       omega arith,
       omega (arith, r.1.0),
       c.before.before.put-held.auto.0 ∙ s.invariant.2,
-      gather-length plan s.j s.bytes c.before.before.put-held.result s.invariant.3 r.0,
-      gather-turn plan store a.budget s.j s.bytes a.memory.now s.memory _ s.invariant.3 s.invariant.4 e₂,
+      gather_length plan s.j s.bytes c.before.before.put-held.result s.invariant.3 r.0,
+      gather_turn plan store a.budget s.j s.bytes a.memory.now s.memory _ s.invariant.3 s.invariant.4 e₂,
       rw (next, left) at others,
     )
 

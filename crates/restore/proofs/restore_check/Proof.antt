@@ -2,7 +2,7 @@
 use mathlib.Core.Path.{sym, ◌∙◌}
 use native.Mathlib.Omega.{arith}
 use borrow.Author.Rules.{rules}
-use Rattle.store.proofs.Checks.{ask_go, ask_stop, or_else_go, or_else_stop, none_named, some_named, store-lengths}
+use Rattle.store.proofs.Checks.{ask_go, ask_stop, or_else_go, or_else_stop, none_named, some_named, store_lengths}
 use Rattle.store.proofs.Raw.{live_within}
 use Rattle.restore.specs.Restore.{restore_check}
 use Rattle.restore.proofs.restore_check.Statement.{statement}
@@ -26,7 +26,7 @@ returns c =
 find-domain-requires : tie.Need-find-domain-requires
 find-domain-requires c κs =
     let yes = sym c.before.before.before.before.before.store-check.ensures.0 ∙ c.if1.false in
-    let f = store-lengths _ _ _ yes in
+    let f = store_lengths _ _ _ yes in
     (omega (arith, f.table_exact), live_within _ _ _ yes)
 
 same-length-3 : tie.Need-same-length-3

@@ -1,5 +1,5 @@
 -- `restore_few` meets its contract: marks for 64 blocks are enough. Assumes nothing.
-use Rattle.table.proofs.Marks.{room-few}
+use Rattle.table.proofs.Marks.{room_few}
 use borrow.Author.Rules.{rules}
 use Rattle.restore.proofs.restore_few.Statement.{statement}
 use Rattle.restore.proofs.restore_few.Tie as tie
@@ -17,7 +17,7 @@ slice-aggregate-restore-marked-2 : tie.Need-slice-aggregate-restore-marked-2
 slice-aggregate-restore-marked-2 c = search rules
 
 restore-marked-requires : tie.Need-restore-marked-requires
-restore-marked-requires c κs = rw (c.before.before.before.before.before.few-marks.ensures, c.before.before.before.before.no_bodies.ensures) (room-few _ _ _ c.before.before.before.before.before.before.before.before.before.requires.1 c.before.before.before.before.before.before.before.before.before.requires.0)
+restore-marked-requires c κs = rw (c.before.before.before.before.before.few-marks.ensures, c.before.before.before.before.no_bodies.ensures) (room_few _ _ _ c.before.before.before.before.before.before.before.before.before.requires.1 c.before.before.before.before.before.before.before.before.before.requires.0)
 
 same_length : tie.Need-same-length
 same_length c = search rules

@@ -1,5 +1,5 @@
 -- `restore_many` meets its contract: marks for every group are enough. Assumes nothing.
-use Rattle.table.proofs.Marks.{room-many}
+use Rattle.table.proofs.Marks.{room_many}
 use borrow.Author.Rules.{rules}
 use Rattle.restore.proofs.restore_many.Statement.{statement}
 use Rattle.restore.proofs.restore_many.Tie as tie
@@ -17,7 +17,7 @@ slice-aggregate-restore-marked-2 : tie.Need-slice-aggregate-restore-marked-2
 slice-aggregate-restore-marked-2 c = search rules
 
 restore-marked-requires : tie.Need-restore-marked-requires
-restore-marked-requires c κs = rw (c.before.before.before.before.before.many-marks.ensures, c.before.before.before.before.no_bodies.ensures) (room-many _ _ _ c.before.before.before.before.before.before.before.before.before.requires)
+restore-marked-requires c κs = rw (c.before.before.before.before.before.many-marks.ensures, c.before.before.before.before.no_bodies.ensures) (room_many _ _ _ c.before.before.before.before.before.before.before.before.before.requires)
 
 same_length : tie.Need-same-length
 same_length c = search rules

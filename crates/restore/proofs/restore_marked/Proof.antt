@@ -2,9 +2,9 @@
 use mathlib.Core.Path.{sym, ◌∙◌}
 use native.Mathlib.Omega.{arith}
 use Rattle.search.proofs.Domain.{depth_small}
-use Rattle.store.proofs.Checks.{store-lengths}
+use Rattle.store.proofs.Checks.{store_lengths}
 use Rattle.store.proofs.Raw.{live_within}
-use Rattle.restore.proofs.Performed.{rule_passed, restore-store, restore-depth, restore-refused, restore-performed}
+use Rattle.restore.proofs.Performed.{rule_passed, restore_store, restore_depth, restore_refused, restore_performed}
 use borrow.Author.Rules.{rules}
 use Rattle.restore.proofs.restore_marked.Statement.{statement}
 use Rattle.restore.proofs.restore_marked.Tie as tie
@@ -22,13 +22,13 @@ same-length-3 : tie.Need-same-length-3
 same-length-3 c = search rules
 
 returns : tie.Need-returns
-returns c = restore-refused _ _ _ c.before.before.before.before.before.before.before.before.before.before.before.before.before.before.args.handle c.before.before.before.before.before.before.before.before.before.before.before.before.before.before.args.budget _ c.before.before.before.before.before.restore-check.ensures.0 c.if1.true
+returns c = restore_refused _ _ _ c.before.before.before.before.before.before.before.before.before.before.before.before.before.before.args.handle c.before.before.before.before.before.before.before.before.before.before.before.before.before.before.args.budget _ c.before.before.before.before.before.restore-check.ensures.0 c.if1.true
 
 find-domain-requires : tie.Need-find-domain-requires
 find-domain-requires c κs =
     let passed = sym c.before.before.before.before.before.before.restore-check.ensures.0 ∙ c.before.if1.false in
-    let store = restore-store _ _ _ c.before.before.before.before.before.before.before.before.before.before.before.before.before.before.before.args.handle passed in
-    let f = store-lengths _ _ _ store in
+    let store = restore_store _ _ _ c.before.before.before.before.before.before.before.before.before.before.before.before.before.before.before.args.handle passed in
+    let f = store_lengths _ _ _ store in
     (omega (arith, f.table_exact), live_within _ _ _ store)
 
 restore-memory-requires : tie.Need-restore-memory-requires
@@ -36,12 +36,12 @@ restore-memory-requires c κs =
     let a = c.before.before.before.before.before.before.before.before.before.before.before.before.before.before.before.before.before.before.before.args in
     let t = a.table.now in
     let passed = sym c.before.before.before.before.before.before.before.before.before.before.restore-check.ensures.0 ∙ c.before.before.before.before.before.if1.false in
-    let store = restore-store _ _ t a.handle passed in
-    let f = store-lengths _ _ t store in
+    let store = restore_store _ _ t a.handle passed in
+    let f = store_lengths _ _ t store in
     let named = c.before.before.before.find-domain.ensures in
     let ends = (c.before.before.before.before.before.before.before.before.before.before.before.before.before.before.before.before.before.before.before.requires.reached f.slots_low f.slots_high).0 in
     let marks = c.before.before.before.before.before.before.before.before.before.before.restore-check.ensures.1 c.before.before.before.before.before.if1.false in (
-      (f.slots_high, omega (arith, f.table_exact), ends, omega (arith, named, restore-depth _ _ t a.handle passed), omega (arith, named, depth_small t a.handle, live_within _ _ t store), f.cells_high, marks.kept),
+      (f.slots_high, omega (arith, f.table_exact), ends, omega (arith, named, restore_depth _ _ t a.handle passed), omega (arith, named, depth_small t a.handle, live_within _ _ t store), f.cells_high, marks.kept),
       (rule_passed _ _ t store, marks.cells),
     )
 
@@ -53,8 +53,8 @@ restore-words-requires c κs =
     let a = c.before.before.before.before.before.before.before.before.before.before.before.before.before.before.before.before.before.before.before.before.before.before.before.before.args in
     let t = a.table.now in
     let passed = sym c.before.before.before.before.before.before.before.before.before.before.before.before.before.before.before.restore-check.ensures.0 ∙ c.before.before.before.before.before.before.before.before.before.before.if1.false in
-    let store = restore-store _ _ t a.handle passed in
-    let f = store-lengths _ _ t store in
+    let store = restore_store _ _ t a.handle passed in
+    let f = store_lengths _ _ t store in
     let named = c.before.before.before.before.before.before.before.before.find-domain.ensures in
     (f.slots_high, f.table_exact, (c.before.before.before.before.before.before.before.before.before.before.before.before.before.before.before.before.before.before.before.before.before.before.before.before.requires.reached f.slots_low f.slots_high).0, omega (arith, named, depth_small t a.handle), live_within _ _ t store)
 
@@ -62,7 +62,7 @@ add-answer-of : tie.Need-overflow-add-answer-of
 add-answer-of c =
     let a = c.before.before.before.before.before.before.before.before.before.before.before.before.before.before.before.before.before.before.before.before.before.before.before.before.before.before.before.args in
     let passed = sym c.before.before.before.before.before.before.before.before.before.before.before.before.before.before.before.before.before.before.restore-check.ensures.0 ∙ c.before.before.before.before.before.before.before.before.before.before.before.before.before.if1.false in
-    let f = store-lengths _ _ a.table.now (restore-store _ _ a.table.now a.handle passed) in
+    let f = store_lengths _ _ a.table.now (restore_store _ _ a.table.now a.handle passed) in
     omega (arith, f.slots_high, c.before.before.before.before.before.before.before.restore-memory.ensures.1.0, c.before.before.restore-words.ensures.few)
 
 answer-of-requires : tie.Need-answer-of-requires
@@ -85,7 +85,7 @@ returns-2 c =
     let a = c.before.before.before.before.before.before.before.before.before.before.before.before.before.before.before.before.before.before.before.before.before.before.before.before.before.before.before.before.args in
     let passed = sym c.before.before.before.before.before.before.before.before.before.before.before.before.before.before.before.before.before.before.before.restore-check.ensures.0 ∙ c.before.before.before.before.before.before.before.before.before.before.before.before.before.before.if1.false in
     let mem = c.before.before.before.before.before.before.before.before.restore-memory.ensures in
-    restore-performed a.memory.now a.bodies.now a.table.now a.handle a.budget _ _ _ _ _ _ _ passed c.before.before.before.before.before.before.before.before.before.before.before.before.find-domain.ensures mem.0 mem.1.1 c.before.before.before.before.remaining.ensures c.before.before.before.restore-words.ensures c.answer-of.ensures
+    restore_performed a.memory.now a.bodies.now a.table.now a.handle a.budget _ _ _ _ _ _ _ passed c.before.before.before.before.before.before.before.before.before.before.before.before.find-domain.ensures mem.0 mem.1.1 c.before.before.before.before.remaining.ensures c.before.before.before.restore-words.ensures c.answer-of.ensures
 
 pub restore-marked-spec : {M : Type 1} → statement M
 restore-marked-spec =

@@ -4,7 +4,7 @@ use mathlib.Core.Path.{◌≡◌, refl, ◌∙◌}
 use native.Mathlib.Omega.{arith}
 use lib.ListN.{length}
 use Rattle.changes.specs.Staged.{Stages}
-use Rattle.changes.proofs.Staging.{stages-to, stages-skip}
+use Rattle.changes.proofs.Staging.{stages_to, stages_skip}
 use Rattle.restore.specs.Restore.{restore_change}
 use Rattle.restore.proofs.Writing.{not_freed}
 use borrow.Author.Rules.{rules}
@@ -18,7 +18,7 @@ abbrev decreases-loop : tie.decreases-loop
 decreases-loop table slots top depth words₀ changed₀ k₀ words changed k = top + 64 - 64 * k
 
 loop-holds : tie.Need-loop-init invariant-loop decreases-loop
-loop-holds c = (search rules, refl, refl, stages-to _ c.before.before.before.requires.1.1 (search rules))
+loop-holds c = (search rules, refl, refl, stages_to _ c.before.before.before.requires.1.1 (search rules))
 
 mul-loop : tie.Need-overflow-mul-loop invariant-loop decreases-loop
 mul-loop c = search rules
@@ -27,7 +27,7 @@ stage-group-requires : tie.Need-stage-group-requires invariant-loop decreases-lo
 stage-group-requires c κs =
     let p = c.before.before.before.before.before.before.before.requires in
     let s = c.before.before.before.loop in
-    ((c.before.before.loop-test.true, p.1.0.0, p.0.0, p.0.1, (omega (arith, p.0.2.0, s.invariant.2), omega (arith, p.0.2.1, s.invariant.1, s.invariant.2))), stages-to (64 * s.k) s.invariant.3 (omega arith))
+    ((c.before.before.loop-test.true, p.1.0.0, p.0.0, p.0.1, (omega (arith, p.0.2.0, s.invariant.2), omega (arith, p.0.2.1, s.invariant.1, s.invariant.2))), stages_to (64 * s.k) s.invariant.3 (omega arith))
 
 add-k : tie.Need-overflow-add-k invariant-loop decreases-loop
 add-k c = search rules
@@ -36,7 +36,7 @@ loop-less : tie.Need-loop-smaller invariant-loop decreases-loop
 loop-less c = search rules
 
 loop-again : tie.Need-loop-preserved invariant-loop decreases-loop
-loop-again c = (search rules, c.before.before.before.before.stage-group.auto.1.1.1.1.0 ∙ c.before.before.before.before.before.before.before.before.loop.invariant.1, c.before.before.before.before.stage-group.auto.1.1.1.1.1.0 ∙ c.before.before.before.before.before.before.before.before.loop.invariant.2, stages-to _ c.before.before.before.before.stage-group.ensures (search rules))
+loop-again c = (search rules, c.before.before.before.before.stage-group.auto.1.1.1.1.0 ∙ c.before.before.before.before.before.before.before.before.loop.invariant.1, c.before.before.before.before.stage-group.auto.1.1.1.1.1.0 ∙ c.before.before.before.before.before.before.before.before.loop.invariant.2, stages_to _ c.before.before.before.before.stage-group.ensures (search rules))
 
 same_length : tie.Need-same-length invariant-loop decreases-loop
 same_length c = search rules
@@ -49,7 +49,7 @@ returns c =
     let a = c.before.before.before.before.before.args in
     let p = c.before.before.before.before.before.requires in
     let s = c.before.loop in
-    stages-skip _ s.invariant.3 (omega arith) (λ i low high. not_freed a.slots a.table.now a.depth i (omega (arith, (p.1.0.1 i (omega (arith, low, high)) high).0)))
+    stages_skip _ s.invariant.3 (omega arith) (λ i low high. not_freed a.slots a.table.now a.depth i (omega (arith, (p.1.0.1 i (omega (arith, low, high)) high).0)))
 
 pub stage-freed-spec : {M : Type 1} → statement M
 stage-freed-spec =

@@ -5,7 +5,7 @@ use lib.ListN.{length}
 use Rattle.changes.specs.Staged.{Gathers}
 use native.Mathlib.Omega.{arith}
 use borrow.Author.Tests.{not-true}
-use Rattle.changes.proofs.Staging.{group-start, group-turn, stages-to, stages-skip}
+use Rattle.changes.proofs.Staging.{group_start, group_turn, stages_to, stages_skip}
 use Rattle.restore.proofs.Writing.{not_freed}
 use Rattle.restore.specs.Restore.{restore_change}
 use borrow.Author.Rules.{rules}
@@ -34,13 +34,13 @@ any-deeper-requires : tie.Need-any-deeper-requires invariant-loop decreases-loop
 any-deeper-requires c κs = search rules
 
 returns : tie.Need-returns invariant-loop decreases-loop
-returns c = stages-skip _ c.before.before.before.before.before.before.requires.1 (search rules) (λ i a b. not_freed c.before.before.before.before.before.before.args.slots c.before.before.before.before.before.before.args.table.now c.before.before.before.before.before.before.args.depth i (c.before.any-deeper.ensures (not-true _ c.if1.true) i a (omega (arith, b, c.before.before.least.ensures))))
+returns c = stages_skip _ c.before.before.before.before.before.before.requires.1 (search rules) (λ i a b. not_freed c.before.before.before.before.before.before.args.slots c.before.before.before.before.before.before.args.table.now c.before.before.before.before.before.before.args.depth i (c.before.any-deeper.ensures (not-true _ c.if1.true) i a (omega (arith, b, c.before.before.least.ensures))))
 
 mul-i : tie.Need-overflow-mul-i invariant-loop decreases-loop
 mul-i c = search rules
 
 loop-holds : tie.Need-loop-init invariant-loop decreases-loop
-loop-holds c = (search rules, search rules, refl, group-start c.before.before.before.before.before.before.args.k c.before.before.before.before.before.before.requires.1 refl (search rules))
+loop-holds c = (search rules, search rules, refl, group_start c.before.before.before.before.before.before.args.k c.before.before.before.before.before.before.requires.1 refl (search rules))
 
 stage-turn-requires : tie.Need-stage-turn-requires invariant-loop decreases-loop
 stage-turn-requires c κs = search rules
@@ -55,7 +55,7 @@ loop-less : tie.Need-loop-smaller invariant-loop decreases-loop
 loop-less c = search rules
 
 loop-again : tie.Need-loop-preserved invariant-loop decreases-loop
-loop-again c = (search rules, search rules, c.before.before.before.stage-turn.auto.1.1.1.0 ∙ c.before.before.before.before.before.before.loop.invariant.2, group-turn c.before.before.before.before.before.before.loop.invariant.3 (search rules) (search rules) c.before.before.before.stage-turn.ensures c.with-bit.ensures)
+loop-again c = (search rules, search rules, c.before.before.before.stage-turn.auto.1.1.1.0 ∙ c.before.before.before.before.before.before.loop.invariant.2, group_turn c.before.before.before.before.before.before.loop.invariant.3 (search rules) (search rules) c.before.before.before.stage-turn.ensures c.with-bit.ensures)
 
 mul-changed : tie.Need-overflow-mul-changed invariant-loop decreases-loop
 mul-changed c = search rules
@@ -70,7 +70,7 @@ same-length-2 : tie.Need-same-length-2 invariant-loop decreases-loop
 same-length-2 c = search rules
 
 returns-2 : tie.Need-returns-2 invariant-loop decreases-loop
-returns-2 c = stages-to _ c.before.loop.invariant.3.stages (search rules)
+returns-2 c = stages_to _ c.before.loop.invariant.3.stages (search rules)
 
 pub stage-group-spec : {M : Type 1} → statement M
 stage-group-spec =

@@ -5,7 +5,7 @@ use Rattle.words.specs.Scan.{count}
 use Rattle.words.proofs.Scan.{count_le}
 use Rattle.table.specs.Entry.{owns_body}
 use Rattle.search.specs.Free.{slot_free, is_copy, used_slots, copies}
-use Rattle.search.proofs.From.{count-byte, byte_small}
+use Rattle.search.proofs.From.{count_byte, byte_small}
 use Rattle.search.proofs.Counts.{count_front}
 use Rattle.search.proofs.count_used.Statement.{statement}
 use Rattle.search.proofs.count_used.Tie as tie
@@ -49,8 +49,8 @@ loop-again c =
     let a = c.before.before.before.before.before.args in
     let word = c.before.first_word.ensures in (
       search rules,
-      count-byte (λ k. not (slot_free a.slots a.table.now k)) c.before.before.before.loop.i c.before.before.before.loop.entries c.before.before.before.loop.invariant.1 _ (ap (λ (w : ℕ). not (eqb w 0)) word),
-      count-byte (is_copy a.slots a.table.now) c.before.before.before.loop.i c.before.before.before.loop.copies c.before.before.before.loop.invariant.2 _ (c.owns-body.ensures ∙ ap owns_body word),
+      count_byte (λ k. not (slot_free a.slots a.table.now k)) c.before.before.before.loop.i c.before.before.before.loop.entries c.before.before.before.loop.invariant.1 _ (ap (λ (w : ℕ). not (eqb w 0)) word),
+      count_byte (is_copy a.slots a.table.now) c.before.before.before.loop.i c.before.before.before.loop.copies c.before.before.before.loop.invariant.2 _ (c.owns-body.ensures ∙ ap owns_body word),
     )
 
 wide-requires : tie.Need-wide-requires invariant-loop decreases-loop

@@ -1,7 +1,7 @@
 -- `find_domain` meets its contract. The loop's invariant: none of the domains passed has this handle. Assumes nothing.
 use Rattle.std.proofs.Common.{◌≡◌, ℕ, ◌-◌, ◌<◌, ◌≤◌, false, eqb, get_or, sym, ap, ◌∙◌, arith, rules, below_none, below_more, ne_eqb}
 use Rattle.words.specs.Layout.{handle_at}
-use Rattle.search.proofs.Domain.{named-innermost, named-at, named_none}
+use Rattle.search.proofs.Domain.{named_innermost, named_at, named_none}
 use Rattle.search.proofs.find_domain.Statement.{statement}
 use Rattle.search.proofs.find_domain.Tie as tie
 
@@ -15,7 +15,7 @@ shared-slice-read-live : tie.Need-shared-slice-read-live invariant-loop decrease
 shared-slice-read-live c = search rules
 
 returns : tie.Need-returns invariant-loop decreases-loop
-returns c = sym (named-innermost _ _ c.if1.true)
+returns c = sym (named_innermost _ _ c.if1.true)
 
 loop-holds : tie.Need-loop-init invariant-loop decreases-loop
 loop-holds c = (search rules, below_none _)
@@ -40,7 +40,7 @@ returns-2 c =
     let turn = c.before.before.before.before.before in
     let start = turn.before.before.before.before in
     let at = c.before.before.handle-at.ensures ∙ ap handle_at c.before.before.before.wide.ensures in
-    sym (named-at _ _ turn.before.if1.false turn.loop.k c.before.before.before.before.loop-test.true turn.loop.invariant.1 (ap (λ (x : ℕ). get_or start.args.table.now x 0) (sym at) ∙ c.if2.true))
+    sym (named_at _ _ turn.before.if1.false turn.loop.k c.before.before.before.before.loop-test.true turn.loop.invariant.1 (ap (λ (x : ℕ). get_or start.args.table.now x 0) (sym at) ∙ c.if2.true))
 
 add-k : tie.Need-overflow-add-k invariant-loop decreases-loop
 add-k c = search rules

@@ -2,8 +2,8 @@
 use Rattle.std.proofs.Common.{◌-◌, ◌≤◌, sym, ap, ◌∙◌, arith, rules}
 use Rattle.search.specs.Search.{named_by, Unnamed}
 use Rattle.search.proofs.From.{failing_more}
-use Rattle.search.proofs.Keys.{none-beyond, within}
-use Rattle.search.proofs.Anywhere.{found-anywhere, found_nowhere}
+use Rattle.search.proofs.Keys.{none_beyond, within}
+use Rattle.search.proofs.Anywhere.{found_anywhere, found_nowhere}
 use Rattle.search.proofs.find_entry.Statement.{statement}
 use Rattle.search.proofs.find_entry.Tie as tie
 
@@ -20,7 +20,7 @@ abbrev decreases-loop2 : tie.decreases-loop2
 decreases-loop2 table slots top depth cell begin start key i j₀ j = start - j
 
 returns : tie.Need-returns invariant-loop decreases-loop invariant-loop2 decreases-loop2
-returns c = let a = c.before.before.args in sym (none-beyond a.slots a.table.now a.depth a.cell (λ k. omega (arith, c.before.shared-slice-known.given k)) c.if1.true)
+returns c = let a = c.before.before.args in sym (none_beyond a.slots a.table.now a.depth a.cell (λ k. omega (arith, c.before.shared-slice-known.given k)) c.if1.true)
 
 start-at-requires : tie.Need-start-at-requires invariant-loop decreases-loop invariant-loop2 decreases-loop2
 start-at-requires c κs = search rules
@@ -43,7 +43,7 @@ is-named-requires c κs = c.before.before.before.before.key_of.ensures.bare
 returns-2 : tie.Need-returns-2 invariant-loop decreases-loop invariant-loop2 decreases-loop2
 returns-2 c = let a = c.before.before.before.before.before.before.before.before.before.before.args in
     let p = c.before.before.before.before.before.before.before.before.before.before.requires in
-    sym (found-anywhere a.slots a.table.now p.1 a.depth a.cell _ p.0.3 c.before.before.before.before.before.before.key_of.ensures c.before.before.before.before.loop.i (omega (arith, c.before.before.before.loop-test.true, p.0.2.0)) (ap (named_by _) (sym c.before.before.first_word.ensures) ∙ sym c.before.is-named.ensures ∙ c.if2.true))
+    sym (found_anywhere a.slots a.table.now p.1 a.depth a.cell _ p.0.3 c.before.before.before.before.before.before.key_of.ensures c.before.before.before.before.loop.i (omega (arith, c.before.before.before.loop-test.true, p.0.2.0)) (ap (named_by _) (sym c.before.before.first_word.ensures) ∙ sym c.before.is-named.ensures ∙ c.if2.true))
 
 add-i : tie.Need-overflow-add-i invariant-loop decreases-loop invariant-loop2 decreases-loop2
 add-i c = search rules
@@ -69,7 +69,7 @@ is-named-requires-2 c κs = c.before.before.before.before.before.before.before.k
 returns-3 : tie.Need-returns-3 invariant-loop decreases-loop invariant-loop2 decreases-loop2
 returns-3 c = let a = c.before.before.before.before.before.before.before.before.before.before.before.before.before.args in
     let p = c.before.before.before.before.before.before.before.before.before.before.before.before.before.requires in
-    sym (found-anywhere a.slots a.table.now p.1 a.depth a.cell _ p.0.3 c.before.before.before.before.before.before.before.before.before.key_of.ensures c.before.before.before.before.loop2.j (omega (arith, c.before.before.before.loop2-test.true, c.before.before.before.before.before.before.before.before.before.before.start-at.ensures, p.0.2.0)) (ap (named_by _) (sym c.before.before.first-word2.ensures) ∙ sym c.before.is-named2.ensures ∙ c.if3.true))
+    sym (found_anywhere a.slots a.table.now p.1 a.depth a.cell _ p.0.3 c.before.before.before.before.before.before.before.before.before.key_of.ensures c.before.before.before.before.loop2.j (omega (arith, c.before.before.before.loop2-test.true, c.before.before.before.before.before.before.before.before.before.before.start-at.ensures, p.0.2.0)) (ap (named_by _) (sym c.before.before.first-word2.ensures) ∙ sym c.before.is-named2.ensures ∙ c.if3.true))
 
 add-j : tie.Need-overflow-add-j invariant-loop decreases-loop invariant-loop2 decreases-loop2
 add-j c = search rules

@@ -3,9 +3,9 @@
 use Rattle.std.proofs.Common.{◌+◌, ◌-◌, ◌<◌, ◌≤◌, sym, ap, ◌∙◌, arith, rules}
 use Rattle.search.specs.Search.{named_by, Unnamed}
 use Rattle.search.proofs.From.{failing_more}
-use Rattle.search.proofs.Keys.{none-wide}
-use Rattle.search.proofs.Holders.{Lacking, lacking-more, holder-nobody, holder-none, holder-at}
-use Rattle.search.proofs.Anywhere.{found-anywhere, found_nowhere}
+use Rattle.search.proofs.Keys.{none_wide}
+use Rattle.search.proofs.Holders.{Lacking, lacking_more, holder_nobody, holder_none, holder_at}
+use Rattle.search.proofs.Anywhere.{found_anywhere, found_nowhere}
 use Rattle.search.proofs.find_holder.Statement.{statement}
 use Rattle.search.proofs.find_holder.Tie as tie
 
@@ -28,7 +28,7 @@ abbrev decreases-search : tie.decreases-search
 decreases-search table slots top from cell begin live start depth₀ depth = live + 1 - depth
 
 returns : tie.Need-returns invariant-loop decreases-loop invariant-loop2 decreases-loop2 invariant-search decreases-search
-returns c = sym (holder-none _ _ _ _ (λ d. none-wide _ _ d _ c.if1.true))
+returns c = sym (holder_none _ _ _ _ (λ d. none_wide _ _ d _ c.if1.true))
 
 shared_slice_read_live :
     tie.Need-shared-slice-read-live invariant-loop decreases-loop invariant-loop2 decreases-loop2 invariant-search decreases-search
@@ -104,12 +104,12 @@ search-again c =
     let p = c.before.before.before.before.before.before.before.before.before.before.before.before.before.requires in
     let turn = c.before.before.before.before.before.before.before.before.search in (
       omega (arith, turn.invariant.0),
-      lacking-more a.slots a.table.now a.from a.cell turn.depth turn.invariant.0 turn.invariant.1
+      lacking_more a.slots a.table.now a.from a.cell turn.depth turn.invariant.0 turn.invariant.1
           (found_nowhere a.slots a.table.now p.1 turn.depth a.cell _ (omega (arith, turn.invariant.0, p.0.4)) c.before.before.before.before.before.before.key_of.ensures a.top c.before.before.before.before.before.before.before.before.before.start-at.result c.before.before.before.before.loop.i c.before.loop2.j p.0.2 c.before.before.before.loop-test.false c.loop2-test.false c.before.before.before.before.loop.invariant.2 c.before.loop2.invariant.1),
     )
 
 returns-2 : tie.Need-returns-2 invariant-loop decreases-loop invariant-loop2 decreases-loop2 invariant-search decreases-search
-returns-2 c = sym (holder-nobody _ _ _ _ c.before.search.depth c.before.search.invariant.0 c.if2.true c.before.search.invariant.1)
+returns-2 c = sym (holder_nobody _ _ _ _ c.before.search.depth c.before.search.invariant.0 c.if2.true c.before.search.invariant.1)
 
 returns-3 : tie.Need-returns-3 invariant-loop decreases-loop invariant-loop2 decreases-loop2 invariant-search decreases-search
 returns-3 c =
@@ -119,8 +119,8 @@ returns-3 c =
     let here = c.before.before.before.before.loop in
     let inside : here.i < a.slots = omega (arith, c.before.before.before.loop-test.true, p.0.2.0) in
     sym
-    (holder-at a.slots a.table.now a.from a.cell turn.depth here.i turn.invariant.0 c.before.before.before.before.before.before.before.if2.false turn.invariant.1
-    (found-anywhere a.slots a.table.now p.1 turn.depth a.cell _ (omega (arith, turn.invariant.0, p.0.4)) c.before.before.before.before.before.before.key_of.ensures here.i inside
+    (holder_at a.slots a.table.now a.from a.cell turn.depth here.i turn.invariant.0 c.before.before.before.before.before.before.before.if2.false turn.invariant.1
+    (found_anywhere a.slots a.table.now p.1 turn.depth a.cell _ (omega (arith, turn.invariant.0, p.0.4)) c.before.before.before.before.before.before.key_of.ensures here.i inside
     (ap (named_by _) (sym c.before.before.first_word.ensures) ∙ sym c.before.is-named.ensures ∙ c.if3.true))
     inside)
 
@@ -132,8 +132,8 @@ returns-4 c =
     let here = c.before.before.before.before.loop2 in
     let inside : here.j < a.slots = omega (arith, c.before.before.before.loop2-test.true, c.before.before.before.before.before.before.before.before.before.before.before.before.start-at.ensures, p.0.2.0) in
     sym
-    (holder-at a.slots a.table.now a.from a.cell turn.depth here.j turn.invariant.0 c.before.before.before.before.before.before.before.before.before.before.if2.false turn.invariant.1
-    (found-anywhere a.slots a.table.now p.1 turn.depth a.cell _ (omega (arith, turn.invariant.0, p.0.4)) c.before.before.before.before.before.before.before.before.before.key_of.ensures here.j inside
+    (holder_at a.slots a.table.now a.from a.cell turn.depth here.j turn.invariant.0 c.before.before.before.before.before.before.before.before.before.before.if2.false turn.invariant.1
+    (found_anywhere a.slots a.table.now p.1 turn.depth a.cell _ (omega (arith, turn.invariant.0, p.0.4)) c.before.before.before.before.before.before.before.before.before.key_of.ensures here.j inside
     (ap (named_by _) (sym c.before.before.first-word2.ensures) ∙ sym c.before.is-named2.ensures ∙ c.if4.true))
     inside)
 

@@ -1,6 +1,6 @@
 -- `is_named` meets its contract. Assumes nothing.
 use Rattle.std.proofs.Common.{arith, rules}
-use Rattle.search.proofs.Keys.{near-test}
+use Rattle.search.proofs.Keys.{near_test}
 use Rattle.search.proofs.is_named.Statement.{statement}
 use Rattle.search.proofs.is_named.Tie as tie
 
@@ -14,7 +14,7 @@ cell-of-requires : tie.Need-cell-of-requires
 cell-of-requires c κs = search rules
 
 returns : tie.Need-returns
-returns c = rw (c.before.depth-of.ensures, c.cell-of.ensures) (near-test _ _ c.before.before.wrapping-sub-u32.result c.before.before.before.requires (omega arith) (omega arith) c.before.before.wrapping-sub-u32.ensures)
+returns c = rw (c.before.depth-of.ensures, c.cell-of.ensures) (near_test _ _ c.before.before.wrapping-sub-u32.result c.before.before.before.requires (omega arith) (omega arith) c.before.before.wrapping-sub-u32.ensures)
 
 pub is-named-spec : {M : Type 1} → statement M
 is-named-spec =

@@ -2,7 +2,7 @@
 -- (proofs/Writable.antt). Assumes nothing.
 use Rattle.std.proofs.Common.{◌≡◌, ℕ, ◌-◌, ◌<◌, ◌≤◌, length, refl, ◌∙◌, subst, arith, rules}
 use Rattle.marks.specs.Blocks.{Kept}
-use Rattle.search.proofs.Writable.{TakenOut, kept-none, take-fits, marked-there, kept_more, kept_free, kept-end}
+use Rattle.search.proofs.Writable.{TakenOut, kept_none, take_fits, marked_there, kept_more, kept_free, kept_end}
 use Rattle.search.proofs.keep_writable.Statement.{statement}
 use Rattle.search.proofs.keep_writable.Tie as tie
 
@@ -13,7 +13,7 @@ abbrev decreases-loop : tie.decreases-loop
 decreases-loop table slots top depth seen₀ i₀ seen i = top - i
 
 loop-holds : tie.Need-loop-init invariant-loop decreases-loop
-loop-holds c = (search rules, refl, kept-none _ _ _ _, c.before.before.requires.1.0)
+loop-holds c = (search rules, refl, kept_none _ _ _ _, c.before.before.requires.1.0)
 
 first-word-requires : tie.Need-first-word-requires invariant-loop decreases-loop
 first-word-requires c κs = search rules
@@ -27,8 +27,8 @@ keep-entry-requires c κs =
     rw c.first_word.ensures (
       p.0.4,
       turn.invariant.3,
-      take-fits a.slots a.table.now a.depth a.seen.now p.0.3 p.1.1 p.1.2 turn.i turn.seen more turn.invariant.2,
-      marked-there a.slots a.table.now a.depth a.seen.now p.0.3 p.1.1 p.1.2 turn.i turn.seen more turn.invariant.2,
+      take_fits a.slots a.table.now a.depth a.seen.now p.0.3 p.1.1 p.1.2 turn.i turn.seen more turn.invariant.2,
+      marked_there a.slots a.table.now a.depth a.seen.now p.0.3 p.1.1 p.1.2 turn.i turn.seen more turn.invariant.2,
     )
 
 add-i : tie.Need-overflow-add-i invariant-loop decreases-loop
@@ -59,7 +59,7 @@ returns c =
     let a = c.before.before.before.before.args in
     let p = c.before.before.before.before.requires in
     let last : turn.i ≡ a.top = omega arith in
-    kept-end a.slots a.table.now a.depth a.seen.now p.0.3 p.1.1 p.1.2 turn.seen
+    kept_end a.slots a.table.now a.depth a.seen.now p.0.3 p.1.1 p.1.2 turn.seen
     (kept_free a.slots a.table.now a.depth a.seen.now p.0.3 p.1.1 p.1.2 a.top a.slots turn.seen p.0.2.0 p.0.2.1
     (subst (λ (n : ℕ). TakenOut a.slots a.table.now a.depth a.seen.now n turn.seen) last turn.invariant.2))
 

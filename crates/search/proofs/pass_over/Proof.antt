@@ -3,7 +3,7 @@ use Rattle.std.proofs.Common.{◌-◌, ◌≤◌, arith, rules}
 use Rattle.table.specs.Entry.{word1}
 use Rattle.search.specs.Search.{named_by, Unnamed}
 use Rattle.search.proofs.From.{failing_none}
-use Rattle.search.proofs.Keys.{none-of-eight}
+use Rattle.search.proofs.Keys.{none_of_eight}
 use Rattle.search.proofs.pass_over.Statement.{statement}
 use Rattle.search.proofs.pass_over.Tie as tie
 
@@ -54,7 +54,7 @@ loop-again c =
     let a = c.before.before.before.before.before.before.before.before.before.before.args in (
       search rules,
       search rules,
-      none-of-eight (λ k. named_by a.key (word1 a.slots a.table.now k)) c.before.before.before.before.loop.i a.from _ _ c.before.before.before.before.loop.invariant.2 c.before.before.four-named.ensures c.before.four-named2.ensures c.if3.false,
+      none_of_eight (λ k. named_by a.key (word1 a.slots a.table.now k)) c.before.before.before.before.loop.i a.from _ _ c.before.before.before.before.loop.invariant.2 c.before.before.four-named.ensures c.before.four-named2.ensures c.if3.false,
     )
 
 returns-4 : tie.Need-returns-4 invariant-loop decreases-loop

@@ -1,5 +1,5 @@
 -- `store::ask_many` meets its contract. Assumes nothing.
-use Rattle.table.proofs.Marks.{room-many}
+use Rattle.table.proofs.Marks.{room_many}
 use borrow.Author.Rules.{rules}
 use Rattle.store.proofs.ask_many.Statement.{statement}
 use Rattle.store.proofs.ask_many.Tie as tie
@@ -17,7 +17,7 @@ slice-aggregate-open-marked-2 : tie.Need-slice-aggregate-open-marked-2
 slice-aggregate-open-marked-2 c = search rules
 
 open-marked-requires : tie.Need-open-marked-requires
-open-marked-requires c κs = rw (c.before.before.before.before.many-marks.ensures, c.before.before.before.no_bodies.ensures) (room-many _ _ _ c.before.before.before.before.before.before.requires)
+open-marked-requires c κs = rw (c.before.before.before.before.many-marks.ensures, c.before.before.before.no_bodies.ensures) (room_many _ _ _ c.before.before.before.before.before.before.requires)
 
 returns : tie.Need-returns
 returns c = rw c.before.before.before.before.before.if1.true c.before.before.open-marked.ensures
@@ -29,7 +29,7 @@ slice-aggregate-store-check-2 : tie.Need-slice-aggregate-store-check-2
 slice-aggregate-store-check-2 c = search rules
 
 store-check-requires : tie.Need-store-check-requires
-store-check-requires c κs = rw (c.before.before.before.before.many-marks.ensures, c.before.before.before.no_bodies.ensures) (room-many _ _ _ c.before.before.before.before.before.before.requires)
+store-check-requires c κs = rw (c.before.before.before.before.many-marks.ensures, c.before.before.before.no_bodies.ensures) (room_many _ _ _ c.before.before.before.before.before.before.requires)
 
 returns-2 : tie.Need-returns-2
 returns-2 c = rw c.before.before.before.before.before.if1.false c.before.before.store-check.ensures.0

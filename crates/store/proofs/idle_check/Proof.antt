@@ -3,7 +3,7 @@ use mathlib.Core.Path.{sym, ◌∙◌}
 use native.Mathlib.Omega.{arith}
 use borrow.Author.Tests.{eq-eqb, ne_eqb}
 use Rattle.store.specs.Checks.{idle_check}
-use Rattle.store.proofs.Checks.{shape-facts, ask_go, ask_stop, or_else_go, or_else_stop}
+use Rattle.store.proofs.Checks.{shape_facts, ask_go, ask_stop, or_else_go, or_else_stop}
 use borrow.Author.Rules.{rules}
 use Rattle.store.proofs.idle_check.Statement.{statement}
 use Rattle.store.proofs.idle_check.Tie as tie
@@ -16,7 +16,7 @@ unfolding idle_check
 returns c = c.before.shape-check.ensures ∙ sym (or_else_stop _ _ (λ e. c.if1.true (c.before.shape-check.ensures ∙ e)))
 
 shared-slice-read-if2 : tie.Need-shared-slice-read-if2
-shared-slice-read-if2 c = let f = shape-facts _ _ _ (sym c.before.before.shape-check.ensures ∙ c.before.if1.false) in
+shared-slice-read-if2 c = let f = shape_facts _ _ _ (sym c.before.before.shape-check.ensures ∙ c.before.if1.false) in
     omega arith
 
 returns-2 : tie.Need-returns-2

@@ -2,7 +2,7 @@
 use mathlib.Core.Path.{sym, ◌∙◌}
 use native.Mathlib.Omega.{arith}
 use Rattle.store.specs.Checks.{open_check, table_check}
-use Rattle.store.proofs.Checks.{shape-facts, ask_go, ask_stop, or_else_go, or_else_stop}
+use Rattle.store.proofs.Checks.{shape_facts, ask_go, ask_stop, or_else_go, or_else_stop}
 use borrow.Author.Rules.{rules}
 use Rattle.store.proofs.open_marked.Statement.{statement}
 use Rattle.store.proofs.open_marked.Tie as tie
@@ -24,7 +24,7 @@ bodies-of-requires : tie.Need-bodies-of-requires
 bodies-of-requires c κs = search rules
 
 table-ok-requires : tie.Need-table-ok-requires
-table-ok-requires c κs = let p = c.before.before.before.before.before.before.before.before.before.before.requires in let f = shape-facts _ _ _ (sym c.before.before.before.before.before.before.shape-check.ensures ∙ c.before.before.before.before.before.if1.false) in
+table-ok-requires c κs = let p = c.before.before.before.before.before.before.before.before.before.before.requires in let f = shape_facts _ _ _ (sym c.before.before.before.before.before.before.shape-check.ensures ∙ c.before.before.before.before.before.if1.false) in
     rw (c.before.before.before.before.Cells-of.ensures, c.before.before.before.slots-of.ensures, c.before.before.bodies_of.ensures) ((f.slots_high, f.table_exact, f.bodies_high, p.reached f.slots_low f.slots_high, p.room, omega (arith, f.bodies_high, p.bodies)), (p.no_cells, p.no_bodies))
 
 same_length : tie.Need-same-length

@@ -1,7 +1,7 @@
 use mathlib.Core.Path.{sym, ◌∙◌}
 use native.Mathlib.Omega.{arith}
 use borrow.Author.Tests.{not-true, not-false}
-use Rattle.table.proofs.Checks.{lengths-facts}
+use Rattle.table.proofs.Checks.{lengths_facts}
 use Rattle.store.specs.Checks.{shape_check}
 use Rattle.store.proofs.Checks.{ask_go, ask_stop}
 use borrow.Author.Rules.{rules}
@@ -24,7 +24,7 @@ returns c = sym (ask_stop _ _ _ (sym c.before.lengths-ok.ensures ∙ not-true _ 
 -- src/lib.rt:58:9
 header-ok-requires : tie.Need-header-ok-requires
 header-ok-requires c κs =
-    let f = lengths-facts _ _ _ (sym c.before.lengths-ok.ensures ∙ not-false _ c.if1.false) in
+    let f = lengths_facts _ _ _ (sym c.before.lengths-ok.ensures ∙ not-false _ c.if1.false) in
     omega arith
 
 -- src/lib.rt:59:9

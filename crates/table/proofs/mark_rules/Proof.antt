@@ -7,7 +7,7 @@ use borrow.Author.Tests.{not-true, not-false}
 use lib.ListN.{length}
 use Rattle.words.proofs.Scan.{true≢}
 use Rattle.table.specs.Marks.{RulesMarked}
-use Rattle.table.proofs.Passing.{rules-once, rules-end}
+use Rattle.table.proofs.Passing.{rules_once, rules_end}
 use Rattle.table.proofs.mark_rules.Statement.{statement}
 use Rattle.table.proofs.mark_rules.Tie as tie
 
@@ -47,7 +47,7 @@ returns-2 c =
     let turn = c.before.loop in
     let e : turn.i ≡ a.top = omega arith in
     let all = subst (λ (n : ℕ). RulesMarked a.slots a.table.now a.top n turn.seen) e turn.invariant.2 in (
-      (λ r. (rules-once a.slots a.table.now a.top _ c.before.before.before.before.requires.0.2 all, rules-end a.slots a.table.now a.top _ c.before.before.before.before.requires.0.2 all, all.kept)),
+      (λ r. (rules_once a.slots a.table.now a.top _ c.before.before.before.before.requires.0.2 all, rules_end a.slots a.table.now a.top _ c.before.before.before.before.requires.0.2 all, all.kept)),
       (λ r. absurd (true≢ refl r)),
     )
 

@@ -8,7 +8,7 @@ use lib.ListN.{length}
 use Rattle.words.proofs.Scan.{true≢, count_le}
 use Rattle.table.specs.Entry.{word1, via_of, pattern_of, is_pattern}
 use Rattle.table.specs.Marks.{Passed, NoVias, rules_below}
-use Rattle.table.proofs.Passing.{passed_none, passed-free, vias_free, vias_more, rules_free, rules_bit}
+use Rattle.table.proofs.Passing.{passed_none, passed_free, vias_free, vias_more, rules_free, rules_bit}
 use Rattle.table.proofs.pass_entries.Statement.{statement}
 use Rattle.table.proofs.pass_entries.Tie as tie
 
@@ -28,7 +28,7 @@ loop-holds c = let a = c.before.before.before.before.args in
       omega arith,
       refl,
       refl,
-      passed-free a.cells a.slots a.bodies a.table.now 0 a.seen.now a.used.now (passed_none a.cells a.slots a.bodies a.table.now a.seen.now a.used.now c.before.before.before.before.requires.1.0 c.before.before.before.before.requires.1.1 (omega (arith, c.before.before.before.before.requires.0.5))) c.next-entry.result run.0 run.2,
+      passed_free a.cells a.slots a.bodies a.table.now 0 a.seen.now a.used.now (passed_none a.cells a.slots a.bodies a.table.now a.seen.now a.used.now c.before.before.before.before.requires.1.0 c.before.before.before.before.requires.1.1 (omega (arith, c.before.before.before.before.requires.0.5))) c.next-entry.result run.0 run.2,
       vias_free a.slots a.table.now 0 c.next-entry.result 0 run.0 run.2 (λ none k l. absurd (omega (arith, l))),
       omega (arith, rules_free a.slots a.table.now 0 c.next-entry.result run.0 run.2, count_le 0 (λ k. is_pattern (word1 a.slots a.table.now k))),
     )
@@ -80,7 +80,7 @@ loop-again c = let turn = c.before.before.before.before.before.before.before.bef
       omega (arith, c.before.before.via-of.ensures, turn.invariant.1, run.0),
       c.before.before.before.before.before.before.before.before.before.pass-entry.auto.1.1.1.1.1.0 ∙ turn.invariant.2,
       c.before.before.before.before.before.before.before.before.before.pass-entry.auto.1.1.1.1.1.1.0 ∙ turn.invariant.3,
-      passed-free a.cells a.slots a.bodies a.table.now (turn.i + 1) _ _ next c.next-entry2.result run.0 run.2,
+      passed_free a.cells a.slots a.bodies a.table.now (turn.i + 1) _ _ next c.next-entry2.result run.0 run.2,
       rw via (vias_free a.slots a.table.now (turn.i + 1) c.next-entry2.result (turn.vias + via_of (word1 a.slots a.table.now turn.i)) run.0 run.2 (vias_more a.slots a.table.now turn.i turn.vias turn.invariant.5)),
       rw rule (ap (λ (x : ℕ). x + pattern_of (word1 a.slots a.table.now turn.i)) turn.invariant.6 ∙ rules_bit a.slots a.table.now turn.i ∙ sym (rules_free a.slots a.table.now (turn.i + 1) c.next-entry2.result run.0 run.2)),
     )
@@ -100,7 +100,7 @@ returns-2 c = let turn = c.before.loop in
     let free = rw (sym e) at ends.1 in
     let rules = rules_free a.slots a.table.now turn.i a.slots low free in (
       (λ r. record {
-        passed = passed-free a.cells a.slots a.bodies a.table.now turn.i _ _ turn.invariant.4 a.slots low free;
+        passed = passed_free a.cells a.slots a.bodies a.table.now turn.i _ _ turn.invariant.4 a.slots low free;
         alone = vias_free a.slots a.table.now turn.i a.slots turn.vias low free turn.invariant.5;
         counted = turn.invariant.6 ∙ sym rules;
         few = omega (arith, turn.invariant.4.few, rules, e);

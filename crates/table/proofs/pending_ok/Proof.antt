@@ -7,8 +7,8 @@ use Rattle.words.specs.Layout.{pairs_at}
 use Rattle.words.specs.Stores.{stores}
 use Rattle.words.specs.Journal.{pairs}
 use Rattle.marks.proofs.Blocks.{zeros_length}
-use Rattle.table.proofs.Agree.{rule-same}
-use Rattle.table.proofs.Pairs.{pairs-few, pairs-fine, effective_same}
+use Rattle.table.proofs.Agree.{rule_same}
+use Rattle.table.proofs.Pairs.{pairs_few, pairs_fine, effective_same}
 use borrow.Author.Rules.{rules}
 use Rattle.table.proofs.pending_ok.Statement.{statement}
 use Rattle.table.proofs.pending_ok.Tie as tie
@@ -38,11 +38,11 @@ slice-aggregate-put-pairs c = search rules
 put-pairs-requires : tie.Need-put-pairs-requires
 put-pairs-requires c κs = let a = c.before.before.before.before.before.before.before.before.before.before.before.args in
     let t = a.table.now in
-    let few = pairs-few a.slots t c.before.before.before.before.before.before.before.before.before.before.before.requires.0.3 in
+    let few = pairs_few a.slots t c.before.before.before.before.before.before.before.before.before.before.before.requires.0.3 in
     let long : length c.before.before.before.before.before.before.no_words.result ≡ 8208 = ap length c.before.before.before.before.before.before.no_words.ensures ∙ zeros_length 8208 in (
       (omega (arith, c.before.before.before.before.before.before.before.before.before.before.before.requires.0.1, c.before.before.before.before.before.before.before.pairs-at.ensures, c.before.wide.ensures), omega (arith, c.before.before.before.before.before.before.before.pairs-at.ensures, c.before.before.before.before.copy-words.auto.1.1.0)),
       (
-        (λ j l. rw c.before.before.before.before.before.before.before.pairs-at.ensures (pairs-fine a.slots t c.before.before.before.before.before.before.before.before.before.before.before.requires.0.3 j (rw c.before.wide.ensures at l)).0),
+        (λ j l. rw c.before.before.before.before.before.before.before.pairs-at.ensures (pairs_fine a.slots t c.before.before.before.before.before.before.before.before.before.before.before.requires.0.3 j (rw c.before.wide.ensures at l)).0),
         c.before.before.before.before.copy-words.ensures,
       ),
     )
@@ -63,7 +63,7 @@ returns : tie.Need-returns
 returns c = let a = c.before.before.before.before.before.before.before.before.before.before.before.before.before.before.before.before.before.before.before.before.before.args in
     let t = a.table.now in
     c.before.before.before.before.rule-ok.ensures.0
-    ∙ rule-same a.cells a.slots a.bodies _ _ (λ k l z.
+    ∙ rule_same a.cells a.slots a.bodies _ _ (λ k l z.
     c.before.before.before.before.before.before.before.before.before.put-pairs.ensures k (rw c.before.before.before.before.before.before.before.before.before.before.before.before.before.before.before.before.before.pairs-at.ensures l)
     ∙ ap (λ (n : ℕ). get_or (stores (pairs t n c.before.before.before.before.before.before.before.before.before.before.before.wide.result) t) k 0) c.before.before.before.before.before.before.before.before.before.before.before.before.before.before.before.before.before.pairs-at.ensures
     ∙ ap (λ (n : ℕ). get_or (stores (pairs t (pairs_at a.slots) n) t) k 0) c.before.before.before.before.before.before.before.before.before.before.before.wide.ensures

@@ -7,7 +7,7 @@ use borrow.Author.Rules.{rules}
 use lib.ListN.{length, get_or, set, length-set}
 use Rattle.words.specs.Stores.{stores}
 use Rattle.words.specs.Journal.{pairs}
-use Rattle.table.proofs.Pairs.{put_none, put-agree}
+use Rattle.table.proofs.Pairs.{put_none, put_agree}
 use Rattle.table.proofs.put_pairs.Statement.{statement}
 use Rattle.table.proofs.put_pairs.Tie as tie
 
@@ -76,7 +76,7 @@ loop-again c =
       ap length (ap (λ (y : ℕ). set s y v) c.wide.ensures) ∙ length-set s x v ∙ turn.invariant.1,
       λ k l.
           ap (λ (y : ℕ). get_or (set s y v) k 0) c.wide.ensures
-          ∙ put-agree t a.first j s (start.requires.1.0 j c.before.before.before.loop-test.true) (omega (arith, turn.invariant.1)) (omega arith) turn.invariant.2 k l,
+          ∙ put_agree t a.first j s (start.requires.1.0 j c.before.before.before.loop-test.true) (omega (arith, turn.invariant.1)) (omega arith) turn.invariant.2 k l,
     )
 
 same_length : tie.Need-same-length invariant-loop decreases-loop

@@ -7,7 +7,7 @@ use borrow.Author.Rules.{rules}
 use lib.ListN.{length, take, get_or, length-set}
 use Rattle.words.specs.Stores.{stores}
 use Rattle.words.specs.Journal.{pairs}
-use Rattle.words.proofs.Phases.{getD-pairs, apply-turn, apply_last, apply_cut}
+use Rattle.words.proofs.Phases.{get_or_pairs, apply_turn, apply_last, apply_cut}
 use Rattle.words.proofs.apply_pending.Statement.{statement}
 use Rattle.words.proofs.apply_pending.Tie as tie
 
@@ -23,7 +23,7 @@ word_below c =
     let a = c.before.before.before.before.args in
     let q = c.before.before.before.before.requires in
     let h : c.before.loop.j < a.p = omega arith in
-    rw (c.before.loop.invariant.1, getD-pairs a.table.now a.first a.p q.2 c.before.loop.j (a.first + 2 * c.before.loop.j) (omega arith)) (q.2 _ h)
+    rw (c.before.loop.invariant.1, get_or_pairs a.table.now a.first a.p q.2 c.before.loop.j (a.first + 2 * c.before.loop.j) (omega arith)) (q.2 _ h)
 
 least-requires : tie.Need-least-requires invariant-loop decreases-loop
 least-requires c κs = search rules
@@ -72,7 +72,7 @@ loop-again c =
     let b = c.before.before.before in
     let a = b.before.before.before.args in
     let h : b.loop.j < a.p = omega arith in
-    (omega arith, apply-turn a.table.now a.first a.p b.before.before.before.requires.2 _ _ h b.loop.invariant.1, simp length-set b.loop.invariant.2)
+    (omega arith, apply_turn a.table.now a.first a.p b.before.before.before.requires.2 _ _ h b.loop.invariant.1, simp length-set b.loop.invariant.2)
 
 slice-write-table-2 : tie.Need-slice-write-table-2 invariant-loop decreases-loop
 slice-write-table-2 c = omega arith
