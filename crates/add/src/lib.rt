@@ -7,6 +7,8 @@
 // entries whose label rises are staged in a pass of their own, which is left out where none can rise. What is staged is written at the end, by one
 // journal. The arrays for it are made after the questions, by how far entries may change, and the marks before, by how many blocks of cells the
 // entries may need.
+#![tactic(auto)]
+
 ghost use Rattle.std.specs.Prelude.{◌≡◌, true, cond, not, ◌||◌, [], ℕ, ◌+◌, ◌-◌, ◌*◌, ◌<◌, ◌≤◌, length, take, eqb};
 ghost use Rattle.words.specs.Layout.{cell_at, cells_of, bodies_of, slots_of, pairs_at, max_live, max_slots, max_cells, max_bodies, cell_size};
 ghost use Rattle.words.specs.Scan.{all, count};
@@ -51,7 +53,7 @@ use words::layout::{CELL_SIZE, LIVE_AT, bodies_of, cells_of, slots_of};
 use words::{copy_cell, least, remaining, same_cell, wide};
 
 // A range taken out of the list, and how many of those before it are to be asked whether they name one of its cells.
-#[derive(Drop)]
+#[derive(Clone, Copy)]
 pub struct Part {
     pub first: usize,
     pub count: usize,
@@ -62,7 +64,7 @@ pub struct Part {
 }
 
 // The number of the first no, or 0; how many cells are newly held, and how many of them by copy.
-#[derive(Drop)]
+#[derive(Clone, Copy)]
 pub struct Tally {
     pub no: u32,
     pub new: usize,
@@ -654,7 +656,7 @@ fn add_check(
 
 // Where taking stands: the cell, of a rising list how many ranges lie before it, the entry slot and the body to go on from, and how many bytes
 // there were.
-#[derive(Drop)]
+#[derive(Clone, Copy)]
 pub struct Cursors {
     pub at: usize,
     pub next: usize,

@@ -10,6 +10,8 @@
 // the entries lists the slots of those that advance in the order of their cells. Along the list each cell is copied into the lowest body that is
 // free, and its entry is staged with that body. Where the marks say that the parent lacks the cell, the old words are staged besides, for the lowest
 // slot that is free. Then the staged words are written by the journal.
+#![tactic(auto)]
+
 ghost use Rattle.std.specs.Prelude.{◌≡◌, true, cond, ℕ, ◌+◌, ◌*◌, ◌≤◌, ◌<◌, min, eqb, length, take, get_or};
 ghost use Rattle.words.specs.Layout.{cell_at, cells_of, bodies_of, slots_of, pairs_at, max_slots, max_cells, max_bodies, max_live, cell_size, group_at, group_of};
 ghost use Rattle.words.specs.Scan.{all, count, nth};
@@ -47,7 +49,7 @@ use words::{copy_cell, remaining, wide};
 // ---- the questions: 0, or the number of the first no
 
 // What the questions find: 0, or the number of the first no; and, where it is 0, how many cells are given outwards.
-#[derive(Drop)]
+#[derive(Clone, Copy)]
 struct Asked {
     no: u32,
     given: usize,

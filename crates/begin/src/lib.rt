@@ -1,5 +1,7 @@
 // The calls that know no holdings: make, open, create and list. Their definitions and the laws of their meaning stand in `store`, beside those that serve
 // every call.
+#![tactic(auto)]
+
 ghost use Rattle.std.specs.Prelude.{◌≡◌, ◌≤◌, ◌<◌, length, take, get_or};
 ghost use Rattle.words.specs.Layout.{slots_of, table_words, max_slots, max_live, handle_at};
 ghost use Rattle.words.specs.Stores.{stores, tab};

@@ -2,6 +2,8 @@
 // journal is known there. Then one writer stores all of it by the journal, in rising order of word number, under the budget.
 //
 // The new words of entry i stand at 2i and 2i + 1 of one run of words, and bit i of a run of bits says that they are there.
+#![tactic(auto)]
+
 ghost use Rattle.std.specs.Prelude.{◌≡◌, true, [], ◌∷◌, ◌++◌, ℕ, ◌+◌, ◌*◌, ◌≤◌, ◌<◌, length, take};
 ghost use Rattle.words.specs.Layout.{table_words, handle_at, max_live, max_slots, group_size, group_at};
 ghost use Rattle.words.specs.Stores.{◌≔◌, stores};
@@ -20,7 +22,7 @@ use words::{finish_journal, least, remaining, write_pair};
 pub const HEAD_ROOM: usize = 10;
 
 // The changes of the head's words: the first `count` numbers and values.
-#[derive(Drop)]
+#[derive(Clone, Copy)]
 pub struct Head {
     pub count: usize,
     pub numbers: [u32; HEAD_ROOM],

@@ -5,6 +5,8 @@
 // depth which cells it holds read-write, and another stages each entry's change by them, so that no entry is compared with another. Both end
 // with the last entry in use, or before. What is staged is then written. The outermost domain has nobody to move its cells to: its entries are
 // freed, and nothing is asked of the marks.
+#![tactic(auto)]
+
 ghost use Rattle.std.specs.Prelude.{◌≡◌, true, cond, ◌+◌, ◌*◌, ◌≤◌, ◌<◌, min, length};
 ghost use Rattle.store.specs.Checks.{lent};
 ghost use Rattle.words.specs.Layout.{cells_of, pairs_at, slots_of, table_words, max_slots, max_live, max_cells, group_size, group_at};

@@ -3,6 +3,8 @@
 // The questions come first, in one function that only reads. Then one pass over the entries stages those that are freed, and what is staged
 // is written. No body is stored: a free body means nothing. Each pass ends with the last entry in use, or before, and what is staged has room
 // for no more.
+#![tactic(auto)]
+
 ghost use Rattle.std.specs.Prelude.{◌≡◌, true, not, ℕ, ◌+◌, ◌*◌, ◌≤◌, ◌<◌, min, length};
 ghost use Rattle.store.specs.Checks.{lent};
 ghost use Rattle.words.specs.Layout.{cells_of, pairs_at, table_words, max_slots, max_cells, group_size, group_at};

@@ -1,1 +1,2 @@
 // No code: sessions over lent buffers, the three demands, and the starred edges. The definitions are in specs/.
+#![tactic(auto)]

@@ -1,5 +1,7 @@
 // The calls as functions of C, thin: each makes the call and tells its answer as a number and through out parameters, which are set in every
 // case. The budget is a number of the run from the caller on down to the stores.
+#![tactic(auto)]
+
 ghost use Rattle.std.specs.Prelude.{◌≡◌, length};
 ghost use Rattle.ranges.specs.Ranges.{one_range};
 ghost use Rattle.ranges.specs.Batch.{batch_ranges};

@@ -4,6 +4,8 @@
 // is, and `play` performs it.
 //
 // Each number of steps and each refusal is a call's answer. Memory is read byte by byte; what a domain holds is read from the table and the bodies.
+#![tactic(auto)]
+
 mod advances;
 mod api;
 mod calls;

@@ -4,7 +4,7 @@ use store::{Answer, Listing};
 
 // Whether text is written, the code of what was said, the lent lengths as LEND has them, the row of the store, the next call's budget, a sweep's
 // budget, and how acts stand in lines.
-#[derive(Drop)]
+#[derive(Clone, Copy)]
 pub struct Play {
     pub loud: bool,
     pub code: u64,

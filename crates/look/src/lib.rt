@@ -1,5 +1,7 @@
 // Look: the 64 bytes that restore would leave in a cell, shown as a part of the lent bodies or of the lent memory, or told as a rule's number.
 // It changes nothing.
+#![tactic(auto)]
+
 ghost use Rattle.std.specs.Prelude.{◌≡◌, ◌≤◌, length};
 ghost use Rattle.store.specs.Checks.{lent};
 ghost use Rattle.words.specs.Layout.{pairs_at, max_slots, max_live};
@@ -18,7 +20,7 @@ use words::wide;
 
 // Where the 64 bytes stand: refused by a question's number, or at this offset of the lent memory, or of the lent bodies; or the rule that they
 // follow, which has none.
-#[derive(Drop)]
+#[derive(Clone, Copy)]
 pub enum Place {
     Refused(u32),
     Memory(usize),
@@ -27,7 +29,7 @@ pub enum Place {
 }
 
 // Look's answer: refused by a question's number; done, with bytes to show; or done, with a rule to tell.
-#[derive(Drop)]
+#[derive(Clone, Copy)]
 pub enum LookAnswer {
     Refused(u32),
     Bytes,

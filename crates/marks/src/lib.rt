@@ -3,6 +3,8 @@
 // They are kept in blocks of 64 that are taken as cells are marked, so that a call costs what the table has and not what memory has. In front
 // stands the directory, in numbers of two bytes: how many blocks are taken, then for each group of 64 cells the number of its block, 0 where it
 // has none. The blocks stand behind it; block 0 belongs to no group and is blank. How marks are kept is known here alone.
+#![tactic(auto)]
+
 ghost use Rattle.std.specs.Prelude.{◌≡◌, true, false, not, ℕ, ◌+◌, ◌*◌, ◌/◌, ◌<◌, ◌≤◌, min, length, get_or, set};
 ghost use Rattle.std.specs.Int.Bits.{bit_and};
 ghost use Rattle.words.specs.Layout.{max_cells, max_live, group_size, group_of, in_group};

@@ -1,5 +1,7 @@
 // Cells that follow a pattern: the byte of a rule at an index, and the 64 bytes of a rule. What stores, compares and shows a pattern rests on
 // these two.
+#![tactic(auto)]
+
 ghost use Rattle.std.specs.Prelude.{◌≡◌, ◌<◌};
 ghost use Rattle.words.specs.Layout.{cell_size};
 ghost use Rattle.patterns.specs.Pattern.{pattern_byte, pattern};

@@ -6,6 +6,8 @@
 // A list is stored in the order of the cells and not of the records, so it is told in segments: cells that lie beside each other and of which
 // the same is asked. The records are put into the order of their first cells. Where, so ordered, each ends before the next one begins, the
 // segments are the records; else each is looked for among all of them.
+#![tactic(auto)]
+
 ghost use Rattle.std.specs.Prelude.{◌≡◌, ℕ, ◌+◌, ◌*◌, ◌%◌, ◌<◌, ◌≤◌, max, true, false, List, length};
 ghost use Rattle.ranges.specs.Ranges.{covers, named, label_for, max_ranges};
 ghost use Rattle.ranges.specs.Batch.{range_at, ranges_in, record_size, Listed, no_batch, kept, gathered, Within, NoneEmpty, record_by, Orders, RisingBy, Passed, Lowest, NextNamed, FirstNaming, AllOrNone, Next};
@@ -16,7 +18,7 @@ use words::{least, wide};
 // What an add names: `count` cells from `first` on, to be held as copies (kind 0), via parent (kind 1) or by a rule (kind 2), which other kinds
 // ignore, read-only (label 0) or read-write (label 1).
 #[repr(C)]
-#[derive(Drop)]
+#[derive(Clone, Copy)]
 pub struct Range {
     pub first: u32,
     pub count: u32,
@@ -39,7 +41,7 @@ pub struct Batch {
 }
 
 // Cells from `at` to before `end`, which the list asks to be held with this kind, rule and label; `next` records of a rising list are passed.
-#[derive(Drop)]
+#[derive(Clone, Copy)]
 pub struct Segment {
     pub at: usize,
     pub end: usize,

@@ -5,6 +5,8 @@
 // that have no marks, and past runs of 8 in which no mark has a domain from the named one inwards, with one search for the value of each cell that
 // is put back. The mark tells the holder whose value that is, and notes tell where its entry stands. Memory is whole before any word of the table changes. Where domains end, their
 // entries and the head's words are staged, and one writer stores them.
+#![tactic(auto)]
+
 ghost use Rattle.std.specs.Prelude.{◌≡◌, true, false, ℕ, ◌+◌, ◌*◌, ◌≤◌, ◌<◌, min, length, take};
 ghost use Rattle.store.specs.Checks.{lent};
 ghost use Rattle.words.specs.Layout.{cell_at, cells_of, bodies_of, pairs_at, slots_of, table_words, max_slots, max_live, max_cells, cell_size, group_size, group_at, in_group};

@@ -1,5 +1,7 @@
 // What a table means: which entry is found for a depth and a cell, the first holder from a domain inwards, the copy or the rule behind a via
 // parent chain; and which entry slots and bodies are free.
+#![tactic(auto)]
+
 pub mod notes;
 
 ghost use Rattle.std.specs.Prelude.{◌≡◌, ℕ, ◌+◌, ◌/◌, ◌^◌, ◌<◌, ◌≤◌, false, length};
@@ -21,14 +23,14 @@ use words::layout::{LIVE_AT, handle_at};
 use words::wide;
 
 // The first holder of a cell in a search inwards: its depth and its entry.
-#[derive(Drop)]
+#[derive(Clone, Copy)]
 pub enum Holder {
     At(u32, usize),
     Nobody,
 }
 
 // The value that the first holder of a cell has: its depth, and the body at the end of its chain, or the rule there.
-#[derive(Drop)]
+#[derive(Clone, Copy)]
 pub enum Held {
     Nowhere,
     InBody(u32, u32),
@@ -254,7 +256,7 @@ pub fn find_value(
 // ---- free entry slots and free bodies
 
 // How many entries are in use, and how many of these have a body.
-#[derive(Drop)]
+#[derive(Clone, Copy)]
 pub struct InUse {
     pub entries: usize,
     pub copies: usize,

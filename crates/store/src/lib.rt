@@ -3,6 +3,8 @@
 // Every call may be given any buffers and any numbers. It puts document 01's questions first, in one function that only reads, and
 // refuses with the number of the first no. A changing call takes a budget of steps; it makes as many of its stores as the budget
 // allows, and whether it was done or stopped is decided once, at the end.
+#![tactic(auto)]
+
 ghost use Rattle.std.specs.Prelude.{◌≡◌, cond, ◌≤◌, ◌<◌, length};
 ghost use Rattle.words.specs.Layout.{cells_of, slots_of, max_live, handle_at};
 ghost use Rattle.table.specs.Entry.{live};
@@ -20,7 +22,7 @@ use words::layout::{LIVE_AT, PENDING_AT, bodies_of, cells_of, slots_of};
 
 // What a call answers: the number of the question that refused it; or done, with its steps and, from create, the new handle; or stopped
 // by its budget, with that many steps made.
-#[derive(Drop)]
+#[derive(Clone, Copy)]
 pub enum Answer {
     Refused(u32),
     Done { steps: usize, handle: u32 },
@@ -28,7 +30,7 @@ pub enum Answer {
 }
 
 // What list answers: how many domains are live, and their handles, outermost first, with zeros after them.
-#[derive(Drop)]
+#[derive(Clone, Copy)]
 pub struct Listing {
     pub answer: Answer,
     pub count: u32,

@@ -4,6 +4,8 @@
 // does not compare each entry with each; it passes over them again only to ask via parent entries for their parent. Entries that follow a rule
 // are marked after that, in a pass of their own, since via parent never rests on one. The caller lends the room for marks and has the marks
 // afterwards. While pairs are pending it looks at a copy in which they are in place.
+#![tactic(auto)]
+
 pub mod domains;
 pub mod fields;
 
@@ -379,7 +381,7 @@ fn pass_entry(
 
 // What the pass over the entries found: whether they are right, by themselves and beside each other; and how many of them are via parent, and
 // how many follow a rule.
-#[derive(Drop)]
+#[derive(Clone, Copy)]
 pub struct Pass {
     pub right: bool,
     pub vias: usize,

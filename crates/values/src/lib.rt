@@ -1,5 +1,7 @@
 // Values compared with memory: has memory in a cell other bytes than a domain holds of it? Advance asks it of every read-write entry of the innermost
 // domain.
+#![tactic(auto)]
+
 ghost use Rattle.std.specs.Prelude.{◌≡◌, true, false, ◌+◌, ◌<◌, ◌≤◌, length};
 ghost use Rattle.words.specs.Layout.{cell_at, cells_of, bodies_of, pairs_at, max_slots, cell_size};
 ghost use Rattle.words.specs.Cells.{cell_bytes, same_cell};

@@ -3,6 +3,8 @@
 // A function that stores under a budget makes the first `budget` stores of its plan, and all of them where the budget suffices. Nothing
 // asks whether a phase was stopped: the next one is passed what remains, which is 0 then. The budget stays a number of the run down to
 // each table word, so that no store is dead to the compiler.
+#![tactic(auto)]
+
 ghost use Rattle.std.specs.Prelude.{◌≡◌, ℕ, ◌+◌, ◌-◌, ◌*◌, ◌≤◌, ◌<◌, min, List, length, take, get_or};
 ghost use Rattle.words.specs.Layout.{cell_at, pending_at, cell_size, max_pairs, max_slots};
 ghost use Rattle.words.specs.Stores.{stores};
