@@ -1,0 +1,14 @@
+-- `commit_entries` meets its contract. The loop's invariant: the groups passed are staged; the entries behind them are free.
+-- Assumes nothing.
+use Prim.Native.Nat.{◌+◌, ◌-◌, ◌*◌, ◌≤◌, min}
+use mathlib.Core.Path.{◌≡◌}
+use lib.ListN.{length}
+use Rattle.changes.specs.Staged.{Stages}
+use Rattle.commit.specs.Commit.{commit_change}
+use Rattle.commit.proofs.commit_entries.Given as goal
+
+abbrev pub invariant-loop-k : goal.invariant-loop-k
+invariant-loop-k l = (64 * l.k ≤ l.top + 63) × (length l.words ≡ length l.initial.words) × (length l.changed ≡ length l.initial.changed) × Stages (min l.top (64 * l.k)) (commit_change l.slots l.table l.live) l.words l.changed
+
+abbrev pub decreases-loop-k : goal.decreases-loop-k
+decreases-loop-k l = l.top + 64 - 64 * l.k

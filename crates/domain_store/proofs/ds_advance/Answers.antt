@@ -1,0 +1,7 @@
+use Rattle.domain_store.proofs.Telling.{told}
+use Rattle.domain_store.proofs.ds_advance.Lts as lts
+use Rattle.domain_store.proofs.ds_advance.Goals as goal
+
+-- src/lib.rt:186:1
+pub returns : goal.returns
+returns c = told _ _ _ _ _ c.tell.ensures.number c.tell.ensures.steps c.advance-answer.ensures.made

@@ -1,0 +1,24 @@
+-- `memory_noted` meets its contract: the marks tell who holds which cell, and the held ones are put back; of notes nothing is asked. Assumes nothing.
+use mathlib.Core.List.{List}
+use mathlib.Core.Path.{ap, ◌∙◌}
+use native.Mathlib.Omega.{arith}
+use lib.ListN.{length, take}
+use Rattle.words.specs.Layout.{cells_of, slots_of}
+use Rattle.words.specs.Stores.{Store, stores}
+use Rattle.restore.proofs.Finding.{bytes_are}
+use Rattle.restore.proofs.Marking.{marks_tell}
+use Rattle.restore.proofs.memory_noted.Goals as goal
+
+pub put_back-requires : goal.put_back-requires
+put_back-requires c =
+    let a = c.args in
+    let q = c.slots_of-slots.ensures in
+    let tell = marks_tell (slots_of (length a.table.now)) a.table.now a.depth c.requires.table_bound.3 c.requires.table_bound.4 a.seen.now c.requires.table_value.1 in
+    record { slots_le_max_slots = (omega (arith, q, c.requires.table_bound.0), omega (arith, q, c.requires.table_bound.1), c.requires.table_bound.3, c.requires.table_bound.5, c.requires.table_bound.6); table_value = (rw q c.requires.table_value.0, rw (q, c.inwards_of-mask.ensures) tell, rw q c.requires.table_bound.2) }
+
+pub returns : goal.returns
+returns c =
+    let a = c.args in
+    let bs = bytes_are (cells_of (length a.memory.now)) a.depth c.slots_of-slots.result a.bodies.now a.table.now c.slots_of-slots.ensures in
+    let r = (c.put_back.ensures.made, (c.put_back.ensures.few, c.put_back.ensures.bytes)) in
+    record { made = r.0 ∙ ap length bs; few = r.1.0; bytes = r.1.1 ∙ ap (λ (ps : List Store). stores (take a.budget ps) a.memory.now) bs }

@@ -1,0 +1,10 @@
+-- `restore::past_unheld` meets its contract. The loop's invariant: in none of the runs passed has a mark any of the mask. Assumes nothing.
+use Prim.Native.Nat.{◌-◌}
+use Rattle.restore.specs.Marks.{Unheld}
+use Rattle.restore.proofs.past_unheld.Given as goal
+
+abbrev pub invariant-loop-r : goal.invariant-loop-r
+invariant-loop-r l = Unheld l.mask l.seen l.from l.runs l.r
+
+abbrev pub decreases-loop-r : goal.decreases-loop-r
+decreases-loop-r l = l.runs - l.r

@@ -1,0 +1,6 @@
+use Rattle.table.proofs.first_word.Lts as lts
+use Rattle.table.proofs.first_word.Goals as goal
+
+-- src/lib.rt:65:1
+pub returns : goal.returns
+returns c = rw c.first_at.ensures

@@ -1,0 +1,6 @@
+use Rattle.table.proofs.second_word.Lts as lts
+use Rattle.table.proofs.second_word.Goals as goal
+
+-- src/lib.rt:73:1
+pub returns : goal.returns
+returns c = rw c.second_at.ensures
