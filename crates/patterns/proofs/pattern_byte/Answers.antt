@@ -26,5 +26,5 @@ returns-in-3 c = scale_of c.args.rule c.args.i 3 (omega arith) c.in-3.is
 
 pub returns-in_default-k : goal.returns-in_default-k
 returns-in_default-k c =
-    scale_zero (c.args.i % 4) (omega arith) c.in_default-k.rest.0.1 c.in_default-k.rest.1
+    scale_zero (c.args.i % 4) (omega arith) c.in_default-k.in_default-k-own.rest.0.1 c.in_default-k.in_default-k-own.rest.1
     ∙ scale_of c.args.rule c.args.i (c.args.i % 4) (omega arith) refl
