@@ -1,3 +1,4 @@
+use mathlib.Core.List.{[]}
 use mathlib.Core.List.{◌∷◌}
 use Rattle.words.specs.Layout.{first_at, second_at}
 use Rattle.words.specs.Stores.{◌≔◌}
