@@ -217,15 +217,24 @@ pub restore_counted_late : (cells : ℕ) (memory : List ℕ) (l : List Observati
     → (q : Tracked) × (tracked_at (named h s) (history_after begun l).domains ≡ some q)
     × (q.excluded ≡ false
     → count_event (opened j is_done (suc i)) m' (observe (observed (called (restore h) k is_stopped) m') (history_after begun l)) ≡ mismatches m' q ∷ [])
-restore_counted_late cells memory l s m m' h k j i r o t (call_late {new = new} {bytes = b} {words = u} room f e) =
-    let qs : List Tracked = (history_after begun l).domains in
-    let a : SameDomains s.domains qs = (history_agrees cells memory l s m nothing_due t).same_domains in
-    let d : Named h s qs = named_domain h s qs (passed _ _ _ _ b u _ _ new e).yes_to_all a in
-    let after : named_among h (exclude_inside (named_among h qs) qs) ≡ named_among h qs =
-    sym (agree_named h s (exclude_inside (named_among h qs) qs) (agree_inside (named_among h qs) a)) ∙ agree_named h s qs a in
-    let there : tracked_at (named_among h (exclude_inside (named_among h qs) qs)) (exclude_inside (named_among h qs) qs) ≡ some d.domain =
-    ap (λ (n : ℕ). tracked_at n (exclude_inside (named_among h qs) qs)) after ∙ still_named (named_among h qs) qs ∙ d.by_history in (
-      d.domain,
-      d.by_state,
-      λ g. ap (count_of m') there ∙ ap (λ (b : Bool). cond b [] (mismatches m' d.domain ∷ [])) g,
-    )
+restore_counted_late cells memory l s m m' h k j i r o t move = late s m h k r o m' t move
+  where
+    late : (s : State) (m : List ℕ) (h k : ℕ) (r : Report) (o : Option State) (m' : List ℕ)
+        → Session cells (after_make memory) l (world (some s) m nothing_due)
+        → Move cells (world (some s) m nothing_due) (call (restore h) k) r (world o m' finish_due)
+        → (q : Tracked) × (tracked_at (named h s) (history_after begun l).domains ≡ some q)
+        × (q.excluded ≡ false
+        → count_event (opened j is_done (suc i)) m' (observe (observed (called (restore h) k is_stopped) m') (history_after begun l)) ≡ mismatches m' q ∷ [])
+    late s m h k r o m' t (call_late {new = new} {bytes = b} {words = u} room f e) =
+        let qs : List Tracked = (history_after begun l).domains in
+        let a : SameDomains s.domains qs = (history_agrees cells memory l s m nothing_due t).same_domains in
+        let d : Named h s qs = named_domain h s qs (passed _ _ _ _ b u _ _ new e).yes_to_all a in
+        let after : named_among h (exclude_inside (named_among h qs) qs) ≡ named_among h qs =
+        sym (agree_named h s (exclude_inside (named_among h qs) qs) (agree_inside (named_among h qs) a)) ∙ agree_named h s qs a in
+        let there : tracked_at (named_among h (exclude_inside (named_among h qs) qs)) (exclude_inside (named_among h qs) qs) ≡ some d.domain =
+        ap (λ (n : ℕ). tracked_at n (exclude_inside (named_among h qs) qs)) after ∙ still_named (named_among h qs) qs ∙ d.by_history in (
+          d.domain,
+          d.by_state,
+          λ g. ap (count_of m') there ∙ ap (λ (b : Bool). cond b [] (mismatches m' d.domain ∷ [])) g,
+        )
+    
