@@ -7,7 +7,7 @@ use Rattle.add.proofs.Added.{add_means_lem}
 use Rattle.add.proofs.add_batch.Goals as goal
 
 pub add_list-requires : goal.add_list-requires
-add_list-requires c = λ z. omega (arith, z, slice-aggregate-add-list c)
+add_list-requires c = λ z. omega (arith, z)
 
 pub returns : goal.returns
 returns c =

@@ -12,7 +12,7 @@ use Rattle.add.proofs.add_marked.Goals as goal
 pub returns-then-tally-ne0 : goal.returns-then-tally-ne0
 returns-then-tally-ne0 c =
     let a = c.args in
-    add_refused a.memory.now a.bodies.now a.table.now a.handle (ranges_in a.n a.list.now) a.budget _ c.add_check-tally.ensures.no c.if-tally-ne0.true
+    record { made = add_refused a.memory.now a.bodies.now a.table.now a.handle (ranges_in a.n a.list.now) a.budget _ c.add_check-tally.ensures.no c.if-tally-ne0.true }
 
 pub add_stores-steps-requires : goal.add_stores-steps-requires
 add_stores-steps-requires c =
@@ -21,10 +21,9 @@ add_stores-steps-requires c =
     let good = sym c.add_check-tally.ensures.no ∙ c.if-tally-ne0.false in
     let ready = add_ready a.memory.now a.bodies.now a.table.now a.handle (ranges_in a.n a.list.now) good in
     let marks = c.add_check-tally.ensures.marks c.if-tally-ne0.false in
-    let f = list_facts a.memory.now a.bodies.now a.table.now a.handle a.n a.list.now good in record { able = record { ready = ready; marks = marks; cells = omega (arith, kept_cells _ marks.kept); places = c.add_check-tally.kept.1.1.1.1.1.0 ∙ p.0.bodies }; list = ((f.1, p.1 f.1), f.2, f.3); new = (checked_ends _ _ a.table.now ready.store a.top p.0.reached, (c.add_check-tally.ensures.counted c.if-tally-ne0.false).cells) }
+    let f = list_facts a.memory.now a.bodies.now a.table.now a.handle a.n a.list.now good in record { able = record { ready = ready; marks = marks; cells = omega (arith, kept_cells _ marks.kept); places = c.add_check-tally.auto.used ∙ p.0.bodies }; list = ((f.1, p.1 f.1), f.2, f.3); new = (checked_ends _ _ a.table.now ready.store a.top p.0.reached, (c.add_check-tally.ensures.counted c.if-tally-ne0.false).cells) }
 
 pub returns : goal.returns
 returns c =
     let a = c.args in
-    let s = (c.add_stores-steps.ensures.steps, (c.add_stores-steps.ensures.bytes, c.add_stores-steps.ensures.words)) in
-    add_performed a.memory.now a.bodies.now a.table.now a.handle (ranges_in a.n a.list.now) a.budget c.add_stores-steps.result _ _ _ (sym c.add_check-tally.ensures.no ∙ c.if-tally-ne0.false) s.0 s.1.0 s.1.1 c.answer_of.ensures
+    record { made = add_performed a.memory.now a.bodies.now a.table.now a.handle (ranges_in a.n a.list.now) a.budget c.add_stores-steps.result _ _ _ (sym c.add_check-tally.ensures.no ∙ c.if-tally-ne0.false) c.add_stores-steps.ensures.steps c.add_stores-steps.ensures.bytes c.add_stores-steps.ensures.words c.answer_of.ensures }

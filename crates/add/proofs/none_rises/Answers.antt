@@ -15,12 +15,8 @@ use Rattle.words.proofs.Scan.{is_false}
 use Rattle.add.specs.Walking.{lacks}
 use Rattle.add.proofs.Asking.{or_right}
 use borrow.Author.Rules.{rules}
+use Rattle.add.proofs.none_rises.Invariants.{Still}
 use Rattle.add.proofs.none_rises.Goals as goal
-
--- the i-th range is read-only, or lacks all its cells
-abbrev Still : List ℕ → ℕ → List ℕ → ℕ → Type 0
-Still held depth ws i =
-    (not (eqb (range_at ws i).label 1) || all (range_at ws i).count (λ j. lacks held depth ((range_at ws i).first + j))) ≡ true
 
 -- so no cell of a read-write range is held
 none : (held ws : List ℕ) (depth n : ℕ) → ((i : ℕ) → i < n → Still held depth ws i) → (c : ℕ) → label_for (ranges_in n ws) c ≡ 1 → lacks held depth c ≡ true

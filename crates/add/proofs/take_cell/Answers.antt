@@ -9,11 +9,13 @@ use Rattle.add.proofs.take_cell.Goals as goal
 pub returns-then-not-is_lacking : goal.returns-then-not-is_lacking
 returns-then-not-is_lacking c =
     let no-new = sym c.is_lacking.ensures ∙ not-true _ c.if-not-is_lacking.true-raw in
-    let facts = rw no-new (refl, (stores_none (c.args.budget - c.args.walk.made) c.args.bodies.now, record { put = λ z. absurd (true≢false (sym z)); kept = λ _. (refl, refl) })) in record { next = facts.0; bytes = facts.1.0; staged = facts.1.1 }
+    record { next = rw no-new; bytes = rw no-new (stores_none (c.args.budget - c.args.walk.made) c.args.bodies.now); staged = rw no-new (record { put = λ z. absurd (true≢false (sym z)); kept = λ _. (refl, refl) }) }
 
 pub take_new-requires : goal.take_new-requires
 take_new-requires c =
     record { small = c.requires.small; cell = c.requires.cell; places = c.requires.places; room = c.requires.room (sym c.is_lacking.ensures ∙ not-false _ c.if-not-is_lacking.false-raw) }
 
 pub returns : goal.returns
-returns c = let facts = rw (sym c.is_lacking.ensures ∙ not-false _ c.if-not-is_lacking.false-raw) (c.take_new.ensures.next, (c.take_new.ensures.bytes, c.take_new.ensures.staged)) in record { next = facts.0; bytes = facts.1.0; staged = facts.1.1 }
+returns c =
+    let new = sym c.is_lacking.ensures ∙ not-false _ c.if-not-is_lacking.false-raw in
+    record { next = rw new c.take_new.ensures.next; bytes = rw new c.take_new.ensures.bytes; staged = rw new c.take_new.ensures.staged }

@@ -5,15 +5,11 @@ use lib.ListN.{length}
 use Rattle.words.specs.Layout.{cells_of}
 use Rattle.ranges.specs.Batch.{ranges_in}
 use Rattle.store.proofs.Checks.{store_lengths}
-use Rattle.add.specs.declared.Cursors.{Cursors}
+use Rattle.add.proofs.take_cells.Invariants.{begins}
 use Rattle.add.proofs.Taken.{same_able, same_room, same_stands, start_stands, copied_none, copied_join, copied_length}
 use Rattle.add.proofs.Storing.{taken_all, bytes_made, bytes_stored}
 use borrow.Author.Rules.{rules}
 use Rattle.add.proofs.take_cells.Goals as goal
-
--- where taking begins
-abbrev begins : Cursors
-begins = record { at = 0; next = 0; slot = 0; body = 0; made = 0 }
 
 pub order_of-order-requires : goal.order_of-order-requires
 order_of-order-requires c =
@@ -51,14 +47,13 @@ pub loop-walk-preserved : goal.loop-walk-preserved
 loop-walk-preserved c =
     let a = c.args in
     let i = c.loop-walk.invariant in
-    let y = (c.take_part-walk.ensures.stands, (c.take_part-walk.ensures.copied, c.take_part-walk.ensures.moved)) in
-    let long = copied_length a.memory.now a.table.now (ranges_in a.n a.list.now) a.budget c.loop-walk.walk c.take_part-walk.result c.loop-walk.bodies _ y.1.0 in (
-      same_stands a.memory.now c.loop-walk.bodies a.table.now (ranges_in a.n a.list.now) _ long c.take_part-walk.result _ _ y.0,
-      copied_join a.memory.now a.table.now (ranges_in a.n a.list.now) a.budget begins c.loop-walk.walk c.take_part-walk.result a.bodies.now c.loop-walk.bodies _ i.1 y.1.0,
+    let long = copied_length a.memory.now a.table.now (ranges_in a.n a.list.now) a.budget c.loop-walk.walk c.take_part-walk.result c.loop-walk.bodies _ c.take_part-walk.ensures.copied in (
+      same_stands a.memory.now c.loop-walk.bodies a.table.now (ranges_in a.n a.list.now) _ long c.take_part-walk.result _ _ c.take_part-walk.ensures.stands,
+      copied_join a.memory.now a.table.now (ranges_in a.n a.list.now) a.budget begins c.loop-walk.walk c.take_part-walk.result a.bodies.now c.loop-walk.bodies _ i.1 c.take_part-walk.ensures.copied,
       long ∙ i.2,
       search rules,
       search rules,
-      y.1.1.1,
+      c.take_part-walk.ensures.moved.1,
     )
 
 pub returns : goal.returns

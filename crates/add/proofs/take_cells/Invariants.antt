@@ -5,7 +5,12 @@ use lib.ListN.{length}
 use Rattle.words.specs.Layout.{cells_of}
 use Rattle.ranges.specs.Batch.{ranges_in, Passed}
 use Rattle.add.specs.Walking.{Standing, Copied}
+use Rattle.add.specs.declared.Cursors.{Cursors}
 use Rattle.add.proofs.take_cells.Given as goal
+
+-- where taking begins
+abbrev pub begins : Cursors
+begins = record { at = 0; next = 0; slot = 0; body = 0; made = 0 }
 
 abbrev pub invariant-loop-walk : goal.invariant-loop-walk
 invariant-loop-walk l = Standing l.memory l.bodies l.table (ranges_in l.n l.list) l.walk l.words l.changed × Copied l.memory l.table (ranges_in l.n l.list) l.budget begins l.walk l.initial.bodies l.bodies

@@ -15,7 +15,7 @@ use Rattle.add.proofs.take_part.Goals as goal
 pub next_segment-part-requires : goal.next_segment-part-requires
 next_segment-part-requires c =
     let l = c.requires.list in
-    let facts = rw c.cells_of.ensures ((l.2, l.3, l.4, l.5, l.6), (omega (arith, l.1), l.7)) in record { listed = facts.0; from_le_cells = facts.1 }
+    record { listed = rw c.cells_of.ensures (l.2, l.3, l.4, l.5, l.6); from_le_cells = rw c.cells_of.ensures (omega (arith, l.1), l.7) }
 
 pub loop-w-init : goal.loop-w-init
 loop-w-init c =
@@ -58,8 +58,8 @@ loop-w-smaller c =
     let asks = x.asks c.loop-w.w.at i.0 c.loop-w-test.true in
     let able = same_able a.memory.now a.bodies.now c.loop-w.bodies a.table.now a.held.now a.used.now (ranges_in a.n a.list.now) i.5 c.requires.able in
     let slots = c.requires.list.0 in
-    let y = rw slots at (c.take_cell-w.ensures.next, (c.take_cell-w.ensures.bytes, c.take_cell-w.ensures.staged)) in
-    let turn = cell_turn a.memory.now c.loop-w.bodies a.table.now a.held.now a.used.now (ranges_in a.n a.list.now) able c.loop-w.w c.loop-w.words c.loop-w.changed i.3 c.next_segment-part.result asks a.budget c.take_cell-w.result _ _ _ y.0 y.1.0 y.1.1 in
+    let y = c.take_cell-w.ensures in
+    let turn = cell_turn a.memory.now c.loop-w.bodies a.table.now a.held.now a.used.now (ranges_in a.n a.list.now) able c.loop-w.w c.loop-w.words c.loop-w.changed i.3 c.next_segment-part.result asks a.budget c.take_cell-w.result _ _ _ (rw slots at y.next) y.bytes (rw slots at y.staged) in
     omega (arith, turn.2, c.loop-w-test.true)
 
 pub loop-w-preserved : goal.loop-w-preserved
@@ -70,8 +70,8 @@ loop-w-preserved c =
     let asks = x.asks c.loop-w.w.at i.0 c.loop-w-test.true in
     let able = same_able a.memory.now a.bodies.now c.loop-w.bodies a.table.now a.held.now a.used.now (ranges_in a.n a.list.now) i.5 c.requires.able in
     let slots = c.requires.list.0 in
-    let y = rw slots at (c.take_cell-w.ensures.next, (c.take_cell-w.ensures.bytes, c.take_cell-w.ensures.staged)) in
-    let turn = cell_turn a.memory.now c.loop-w.bodies a.table.now a.held.now a.used.now (ranges_in a.n a.list.now) able c.loop-w.w c.loop-w.words c.loop-w.changed i.3 c.next_segment-part.result asks a.budget c.take_cell-w.result _ _ _ y.0 y.1.0 y.1.1 in
+    let y = c.take_cell-w.ensures in
+    let turn = cell_turn a.memory.now c.loop-w.bodies a.table.now a.held.now a.used.now (ranges_in a.n a.list.now) able c.loop-w.w c.loop-w.words c.loop-w.changed i.3 c.next_segment-part.result asks a.budget c.take_cell-w.result _ _ _ (rw slots at y.next) y.bytes (rw slots at y.staged) in
     let long = copied_length a.memory.now a.table.now (ranges_in a.n a.list.now) a.budget c.loop-w.w c.take_cell-w.result c.loop-w.bodies _ turn.1 in (
       omega (arith, turn.2, i.0),
       λ h. omega (arith, turn.2, c.loop-w-test.true),

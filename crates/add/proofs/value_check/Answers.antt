@@ -34,4 +34,4 @@ returns-in_default c =
     let a = c.args in
     let new : ℕ → Bool = fresh_to a.held.now (live a.table.now) (ranges_in a.part.seen a.list.now) in
     c.rule_check.ensures
-    ∙ value_rule a.memory.now a.bodies.now (slots_of (length a.table.now)) a.table.now new a.part.first a.part.count a.part.kind a.part.rule c.in_default.rest.0.1 c.in_default.rest.1
+    ∙ value_rule a.memory.now a.bodies.now (slots_of (length a.table.now)) a.table.now new a.part.first a.part.count a.part.kind a.part.rule c.in_default.in_default-own.rest.0.1 c.in_default.in_default-own.rest.1

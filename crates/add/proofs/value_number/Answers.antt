@@ -29,7 +29,7 @@ returns-in-Nowhere c =
 pub returns-in-InBody : goal.returns-in-InBody
 returns-in-InBody c =
     let a = c.args in
-    body_number a.memory.now a.bodies.now a.slots a.table.now a.depth a.cell c.requires.slots_le_max_slots.2 c.requires.cell_lt_max_cells.2 _ c.find_value.ensures _ _ c.in-InBody.is _ c.wide.ensures _ c.same_cell.ensures _ c.number_of_lem.ensures
+    body_number a.memory.now a.bodies.now a.slots a.table.now a.depth a.cell c.requires.slots_le_max_slots.2 c.requires.cell_lt_max_cells.2 _ c.find_value.ensures _ _ c.in-InBody.is _ c.wide.ensures _ c.same_cell.ensures _ c.number_of.ensures
 
 pub returns-in-ByRule : goal.returns-in-ByRule
 returns-in-ByRule c =

@@ -20,16 +20,13 @@ list_slots-n-requires c = let a = c.args in
     let x = by_group a.seen.now a.bits.now in
     let number = ready_count a.memory.now a.bodies.now a.table.now a.used.now ready x told.cells in
     let reach : cells_of (length a.memory.now) ≤ group_at c.group_of-groups.result = omega (arith, c.group_of-groups.ensures, c.cells_of.ensures) in
-    let facts = rw c.slots_of-slots.ensures (
-      (f.slots_high, omega (arith, f.table_exact), told.ends),
-      (
-        (told.blocks, list.0),
-        (
-          (omega (arith, c.group_of-groups.ensures, c.cells_of.ensures, f.cells_high), ready_inside a.memory.now a.bodies.now a.table.now a.used.now ready x told.cells c.group_of-groups.result reach),
-          (omega (arith, number, few, f.slots_high, told.ends.0, list.1), (ready_once a.memory.now a.bodies.now a.table.now a.used.now ready, ready.lives)),
-        ),
-      ),
-    ) in record { small = facts.0; sized = facts.1.0; inside = facts.1.1.0; room = facts.1.1.1.0; once = facts.1.1.1.1 }
+    record {
+      small = rw c.slots_of-slots.ensures (f.slots_high, omega (arith, f.table_exact), told.ends);
+      sized = (told.blocks, list.0);
+      inside = (omega (arith, c.group_of-groups.ensures, c.cells_of.ensures, f.cells_high), ready_inside a.memory.now a.bodies.now a.table.now a.used.now ready x told.cells c.group_of-groups.result reach);
+      room = omega (arith, number, few, f.slots_high, told.ends.0, list.1);
+      once = rw c.slots_of-slots.ensures (ready_once a.memory.now a.bodies.now a.table.now a.used.now ready, ready.lives);
+    }
 
 pub store_listed-requires : goal.store_listed-requires
 store_listed-requires c = let a = c.args in

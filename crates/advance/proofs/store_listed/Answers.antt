@@ -15,10 +15,13 @@ copy_listed-requires c =
     let free = ready_free a.memory.now a.bodies.now a.table.now a.used.now c.requires.ready.0 in
     let number = c.requires.counted in
     let list = c.requires.listed.0 in
-    let facts = rw q (
-      (f.slots_high, omega (arith, f.table_exact), omega (arith, few, number), c.requires.listed.1),
-      ((f.bodies_high, c.requires.ready.1, omega (arith, free, number)), ((list, ready_cells a.memory.now a.bodies.now a.table.now a.used.now c.requires.ready.0 a.n a.places.now list), (c.requires.room, c.requires.blank))),
-    ) in record { small = facts.0; free = facts.1.0; listed = facts.1.1.0; room = facts.1.1.1.0; blank = facts.1.1.1.1 }
+    record {
+      small = rw q (f.slots_high, omega (arith, f.table_exact), omega (arith, few, number), c.requires.listed.1);
+      free = (f.bodies_high, c.requires.ready.1, omega (arith, free, number));
+      listed = rw q (list, ready_cells a.memory.now a.bodies.now a.table.now a.used.now c.requires.ready.0 a.n a.places.now list);
+      room = c.requires.room;
+      blank = c.requires.blank;
+    }
 
 pub give_listed-requires : goal.give_listed-requires
 give_listed-requires c =
@@ -31,11 +34,11 @@ give_listed-requires c =
     let words = c.copy_listed.auto.words in
     let changed = c.copy_listed.auto.changed in
     let out = outwards_kept a.memory.now a.bodies.now a.table.now a.used.now ready a.given a.seen.now a.changed.now _ changed c.requires.outwards in
-    let facts = rw q (
-      (f.slots_high, omega (arith, f.table_exact), omega (arith, few, number), c.requires.listed.1),
-      ready_givable a.memory.now a.bodies.now a.table.now a.used.now ready a.n a.places.now c.requires.listed.0 number a.given a.seen.now _ _ out
-          (omega (arith, words, changed, c.requires.room.1)),
-    ) in record { small = facts.0; listed = facts.1 }
+    record {
+      small = rw q (f.slots_high, omega (arith, f.table_exact), omega (arith, few, number), c.requires.listed.1);
+      listed = rw q (ready_givable a.memory.now a.bodies.now a.table.now a.used.now ready a.n a.places.now c.requires.listed.0 number a.given a.seen.now _ _ out
+          (omega (arith, words, changed, c.requires.room.1)));
+    }
 
 pub overflow_mul-n : goal.overflow_mul-n
 overflow_mul-n c =
@@ -54,7 +57,7 @@ write_staged-steps-requires c =
     let changed = c.give_listed.auto.changed ∙ copied in
     let out = outwards_kept a.memory.now a.bodies.now a.table.now a.used.now ready a.given a.seen.now a.changed.now _ copied c.requires.outwards in
     let stages = ready_given a.memory.now a.bodies.now a.table.now a.used.now ready a.n a.places.now c.requires.listed.0 c.requires.counted a.given a.seen.now _ _ _ _ out
-    (rw q at c.give_listed.ensures) (rw q at (c.copy_listed.ensures.bytes, c.copy_listed.ensures.staged)).1 in
+    (rw q at c.give_listed.ensures) (rw q at c.copy_listed.ensures.staged) in
     record { small = (omega (arith, q, f.slots_high), rw q f.table_exact, omega (arith, words, changed, c.requires.room.1)); heads = c.no_head.ensures.right; inside = rw q (stages_inside stages) }
 
 pub overflow_mul-n-2 : goal.overflow_mul-n-2
@@ -74,10 +77,10 @@ returns c =
     let a = c.args in
     let q = c.slots_of-slots.ensures in
     let ready = c.requires.ready.0 in
-    let copied = rw q at (c.copy_listed.ensures.bytes, c.copy_listed.ensures.staged) in
+    let copied = c.copy_listed.ensures.bytes in
     let out = outwards_kept a.memory.now a.bodies.now a.table.now a.used.now ready a.given a.seen.now a.changed.now _ c.copy_listed.auto.changed c.requires.outwards in
     let stages = ready_given a.memory.now a.bodies.now a.table.now a.used.now ready a.n a.places.now c.requires.listed.0 c.requires.counted a.given a.seen.now _ _ _ _ out
-    (rw q at c.give_listed.ensures) copied.1 in
+    (rw q at c.give_listed.ensures) (rw q at c.copy_listed.ensures.staged) in
     let written = rw (q, c.remaining-left.ensures) at c.write_staged-steps.ensures in
     ready_performed a.memory.now a.bodies.now a.table.now a.used.now ready a.n a.places.now c.requires.listed.0 a.budget _ _ _ _ _ _ _ c.requires.counted
-    copied.0 stages c.no_head.ensures.stored written.made written.words c.answer_of.ensures
+    copied stages c.no_head.ensures.stored written.made written.words c.answer_of.ensures

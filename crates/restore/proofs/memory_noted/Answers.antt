@@ -20,5 +20,4 @@ pub returns : goal.returns
 returns c =
     let a = c.args in
     let bs = bytes_are (cells_of (length a.memory.now)) a.depth c.slots_of-slots.result a.bodies.now a.table.now c.slots_of-slots.ensures in
-    let r = (c.put_back.ensures.made, (c.put_back.ensures.few, c.put_back.ensures.bytes)) in
-    record { made = r.0 ∙ ap length bs; few = r.1.0; bytes = r.1.1 ∙ ap (λ (ps : List Store). stores (take a.budget ps) a.memory.now) bs }
+    record { made = c.put_back.ensures.made ∙ ap length bs; few = c.put_back.ensures.few; bytes = c.put_back.ensures.bytes ∙ ap (λ (ps : List Store). stores (take a.budget ps) a.memory.now) bs }

@@ -70,12 +70,11 @@ loop-r-preserved c =
     let whole : gather (8 * s.r + c.least.result) plan ≡ gather (min cells (8 * c.past_unheld-r-in-loop-r.result)) plan = ap (λ (x : ℕ). gather x plan) next ∙ put_passed _ a.slots a.table.now a.depth a.bodies.now c.requires.table_value.0 c.requires.slots_le_max_slots.2 a.mask a.seen.now c.requires.table_value.1 cells (s.r + 1) _ _ u in
     let made = s.invariant.3 ∙ ap (λ (x : ℕ). length (gather x plan)) so_far in
     let stored = s.invariant.4 ∙ ap (λ (x : ℕ). stores (take a.budget (gather x plan)) a.memory.now) so_far in
-    let r = (c.put_run-bytes.ensures.made, (c.put_run-bytes.ensures.few, c.put_run-bytes.ensures.bytes)) in
-    let e₂ = rw c.remaining.ensures at r.1.1 in (
+    let e₂ = rw c.remaining.ensures at c.put_run-bytes.ensures.bytes in (
       u.high,
-      omega (arith, r.1.0, n, h, u.low, s.invariant.1),
+      omega (arith, c.put_run-bytes.ensures.few, n, h, u.low, s.invariant.1),
       c.put_run-bytes.auto.memory ∙ s.invariant.2,
-      block_length plan (8 * s.r) c.least.result s.bytes c.put_run-bytes.result made r.0 ∙ ap length whole,
+      block_length plan (8 * s.r) c.least.result s.bytes c.put_run-bytes.result made c.put_run-bytes.ensures.made ∙ ap length whole,
       block_turn plan store a.budget (8 * s.r) c.least.result s.bytes a.memory.now s.memory _ made stored e₂ ∙ ap (λ (l : List Store). stores (take a.budget l) a.memory.now) whole,
     )
 

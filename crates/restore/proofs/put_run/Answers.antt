@@ -40,16 +40,15 @@ pub loop-j-preserved : goal.loop-j-preserved
 loop-j-preserved c = let a = c.args in let s = c.loop-j in let here = c.loop-j-test.true in
     let small : a.mask < 256 = omega arith in
     let plan : ℕ → List Store = λ j. back_plan a.slots a.table.now a.depth a.bodies.now (a.from + j) in
-    let r = (c.put_held-bytes.ensures.made, (c.put_held-bytes.ensures.few, c.put_held-bytes.ensures.bytes)) in
-    let e₂ = rw c.remaining.ensures at r.1.1 in
+    let e₂ = rw c.remaining.ensures at c.put_held-bytes.ensures.bytes in
     let q : 8 - s.j ≡ suc (7 - s.j) = omega (arith, here, c.requires.slots_le_max_slots.4) in
     let next : suc (a.from + s.j) ≡ a.from + (s.j + 1) = omega arith in
     let left : 7 - s.j ≡ 8 - (s.j + 1) = omega arith in
     let others = ap (λ (x : ℕ). x / 256) (rw q at s.invariant.5) ∙ (held_first a.seen.now a.mask small (a.from + s.j) (7 - s.j)).1 in (
       omega arith,
-      omega (arith, r.1.0),
+      omega (arith, c.put_held-bytes.ensures.few),
       c.put_held-bytes.auto.memory ∙ s.invariant.2,
-      gather_length plan s.j s.bytes c.put_held-bytes.result s.invariant.3 r.0,
+      gather_length plan s.j s.bytes c.put_held-bytes.result s.invariant.3 c.put_held-bytes.ensures.made,
       gather_turn plan store a.budget s.j s.bytes a.memory.now s.memory _ s.invariant.3 s.invariant.4 e₂,
       rw (next, left) at others,
     )

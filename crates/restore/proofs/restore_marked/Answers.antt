@@ -49,5 +49,4 @@ pub returns : goal.returns
 returns c =
     let a = c.args in
     let passed = sym c.restore_check-no.ensures.no ∙ c.if-no-ne0.false in
-    let mem = (c.restore_memory-bytes.ensures.made, (c.restore_memory-bytes.ensures.few, c.restore_memory-bytes.ensures.bytes)) in
-    restore_performed a.memory.now a.bodies.now a.table.now a.handle a.budget _ _ _ _ _ _ _ passed c.find_domain-depth.ensures mem.0 mem.1.1 c.remaining.ensures c.restore_words-words.ensures c.answer_of.ensures
+    restore_performed a.memory.now a.bodies.now a.table.now a.handle a.budget _ _ _ _ _ _ _ passed c.find_domain-depth.ensures c.restore_memory-bytes.ensures.made c.restore_memory-bytes.ensures.bytes c.remaining.ensures c.restore_words-words.ensures c.answer_of.ensures
