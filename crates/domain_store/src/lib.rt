@@ -1,5 +1,5 @@
-// The calls as functions of C, thin: each makes the call and tells its answer as a number and through out parameters, which are set in every
-// case. The budget is a number of the run from the caller on down to the stores.
+// The calls as functions that C can call, thin: each makes the call and tells its answer as a number and through out parameters, which are set in every
+// case. The budget is a number of the run from the caller on down to the stores. `domain_store_c` exports them.
 #![tactic(auto)]
 
 ghost use Rattle.std.specs.Prelude.{◌≡◌, length};
@@ -70,14 +70,7 @@ fn handle_of(answer: Answer) -> u32
 }
 
 // Makes a fresh store.
-#[unsafe(no_mangle)]
-pub extern "C" fn ds_make(
-    memory: &[u8],
-    bodies: &[u8],
-    table: &mut [u32],
-    budget: u64,
-    steps: &mut u64,
-) -> u32
+pub fn ds_make(memory: &[u8], bodies: &[u8], table: &mut [u32], budget: u64, steps: &mut u64) -> u32
     ensures { Returns make_call budget (buffers memory.now bodies.now table.old)
         result steps.new (buffers memory.now bodies.now table.new) }
 {
@@ -86,14 +79,7 @@ pub extern "C" fn ds_make(
 }
 
 // Puts the pending pairs in place.
-#[unsafe(no_mangle)]
-pub extern "C" fn ds_open(
-    memory: &[u8],
-    bodies: &[u8],
-    table: &mut [u32],
-    budget: u64,
-    steps: &mut u64,
-) -> u32
+pub fn ds_open(memory: &[u8], bodies: &[u8], table: &mut [u32], budget: u64, steps: &mut u64) -> u32
     ensures { Returns open_call budget (buffers memory.now bodies.now table.old)
         result steps.new (buffers memory.now bodies.now table.new) }
 {
@@ -102,8 +88,7 @@ pub extern "C" fn ds_open(
 }
 
 // Adds a domain inside the innermost, and names its handle.
-#[unsafe(no_mangle)]
-pub extern "C" fn ds_create(
+pub fn ds_create(
     memory: &[u8],
     bodies: &[u8],
     table: &mut [u32],
@@ -123,8 +108,7 @@ pub extern "C" fn ds_create(
 }
 
 // Holds cells in the innermost domain.
-#[unsafe(no_mangle)]
-pub extern "C" fn ds_add(
+pub fn ds_add(
     memory: &[u8],
     bodies: &mut [u8],
     table: &mut [u32],
@@ -172,10 +156,8 @@ fn ds_add_batch(
     tell(answer, steps)
 }
 
-// The same for the ranges of a lent list. Proved by hand, since the borrow checker covers no slice of structs: it does no more than gather
-// the list and hand it on.
-#[unsafe(no_mangle)]
-pub extern "C" fn ds_add_ranges(
+// The same for the ranges of a lent list: it does no more than gather the list and hand it on.
+pub fn ds_add_ranges(
     memory: &[u8],
     bodies: &mut [u8],
     table: &mut [u32],
@@ -192,8 +174,7 @@ pub extern "C" fn ds_add_ranges(
 }
 
 // Frees cells of a domain.
-#[unsafe(no_mangle)]
-pub extern "C" fn ds_delete(
+pub fn ds_delete(
     memory: &[u8],
     bodies: &[u8],
     table: &mut [u32],
@@ -211,8 +192,7 @@ pub extern "C" fn ds_delete(
 }
 
 // Ends the innermost domain.
-#[unsafe(no_mangle)]
-pub extern "C" fn ds_commit(
+pub fn ds_commit(
     memory: &[u8],
     bodies: &[u8],
     table: &mut [u32],
@@ -228,8 +208,7 @@ pub extern "C" fn ds_commit(
 }
 
 // Gives the read-write cells of the innermost domain memory's bytes.
-#[unsafe(no_mangle)]
-pub extern "C" fn ds_advance(
+pub fn ds_advance(
     memory: &[u8],
     bodies: &mut [u8],
     table: &mut [u32],
@@ -245,8 +224,7 @@ pub extern "C" fn ds_advance(
 }
 
 // Puts memory back as a domain and those inside it hold it.
-#[unsafe(no_mangle)]
-pub extern "C" fn ds_restore(
+pub fn ds_restore(
     memory: &mut [u8],
     bodies: &[u8],
     table: &mut [u32],
@@ -263,8 +241,7 @@ pub extern "C" fn ds_restore(
 
 // Gives the number of live domains and their handles. What it promises of the handles says of the array what the array's type says already, that
 // it has eight words.
-#[unsafe(no_mangle)]
-pub extern "C" fn ds_list(
+pub fn ds_list(
     memory: &[u8],
     bodies: &[u8],
     table: &[u32],
@@ -286,8 +263,7 @@ pub extern "C" fn ds_list(
 }
 
 // Tells where the 64 bytes stand that restore would leave in a cell: they lie inside the buffer named.
-#[unsafe(no_mangle)]
-pub extern "C" fn ds_look(
+pub fn ds_look(
     memory: &[u8],
     bodies: &[u8],
     table: &[u32],

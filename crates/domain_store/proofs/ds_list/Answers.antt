@@ -26,7 +26,7 @@ returns c =
     let b = c.loop-k in
     let l = c.list-listing in
     let full : b.k ≡ 8 = omega arith in record {
-      listed = listed _ _ l.result.handles _ l.ensures _ c.number_of_lem.ensures;
+      listed = listed _ _ l.result.handles _ l.ensures _ c.number_of.ensures;
       handles = λ z. handles_listed _ _ l.result.handles _ l.ensures b.handles
           (subst (λ (n : ℕ). (j : ℕ) → j < n → get_or b.handles j 0 ≡ get_or l.result.handles j 0) full (b.invariant.1 z).1);
     }
