@@ -1324,8 +1324,7 @@ pub fn add(
     add_list(memory, bodies, table, handle, &list, 1, budget)
 }
 
-// Adds the ranges of a lent list to the innermost domain: all of them, or none. Proved by hand, since the borrow checker covers no slice of
-// structs: it does no more than gather the list and hand it on.
+// Adds the ranges of a lent list to the innermost domain: all of them, or none. It does no more than gather the list and hand it on.
 pub fn add_ranges(
     memory: &[u8],
     bodies: &mut [u8],

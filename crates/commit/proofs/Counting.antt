@@ -1,5 +1,5 @@
 -- Commit replaces as many words as the model says: two for each cell that the innermost domain holds, and two for each that its parent
--- holds read_only and it read-write. Assumes nothing.
+-- holds read-only and it read-write. Assumes nothing.
 use Prim.Native.Nat.{ℕ, ◌+◌, ◌-◌, ◌≤◌}
 use mathlib.Core.Bool.{Bool, true, not, ◌&&◌, ◌||◌, and-true}
 use mathlib.Core.List.{List}
@@ -25,7 +25,7 @@ module _ (e : ℕ) (t : List ℕ) (d : ℕ) where
   abbrev of_inner : ℕ → Bool
   of_inner i = eqb (depth_of (word1 e t i)) d
 
-  -- read_only, of a cell that the innermost domain holds read-write
+  -- read-only, of a cell that the innermost domain holds read-write
   abbrev stale : ℕ → Bool
   stale w = eqb (writable_of w) 0 && writes_in e t d (cell_of w)
 

@@ -1,5 +1,5 @@
 -- Laws of marks that are kept in blocks: what taking a block and storing a mark do to the marks of all cells. Assumes nothing.
-use Prim.Native.Nat.{ℕ, zero, suc, ◌+◌, ◌-◌, ◌*◌, ◌/◌, ◌%◌, ◌<◌, ◌≤◌, min}
+use Prim.Native.Nat.{ℕ, zero, suc, ◌+◌, ◌-◌, ◌*◌, ◌/◌, ◌%◌, ◌<◌, ◌≤◌}
 use mathlib.Core.Bool.{Bool, true, false, cond, not, ◌||◌}
 use mathlib.Core.List.{List, [], ◌∷◌}
 use mathlib.Core.Path.{◌≡◌, refl, sym, ap, ap₂, ◌∙◌}
@@ -9,9 +9,9 @@ use lib.Bits.{bit_and, and_zero_l, and_le_r, and_block}
 use lib.Dec.{eqb, ltb, leb}
 use lib.ListN.{length, get_or, set, take, drop, replicate, length-set, length-replicate}
 use lib.Seq.{get_or-set_same, get_or-set_other, get_or-take, get_or-drop}
-use Rattle.words.specs.Layout.{max_cells, group_size, group_of}
+use Rattle.words.specs.Layout.{max_cells, group_of}
 use Rattle.words.specs.Scan.{count}
-use Rattle.words.proofs.Scan.{by_bool, by_le, or_split, is_false, true≢, count_le, count_flip, count_ext, count_none}
+use Rattle.words.proofs.Scan.{by_bool, by_le, or_split, is_false, count_le, count_flip, count_ext, count_none}
 use Rattle.marks.specs.Blocks.{number, put_number, taken, block_of, owns, max_groups, groups_for, directory_end, block_at, place_of, mark_of, cells_in, Kept, Outside, with_block, mark_cell, Spare, Room, OneMark, Blank, zeros, with_depth, packed, spread, run_held}
 
 -- ---- where marks stand

@@ -237,4 +237,3 @@ restore_counted_late cells memory l s m m' h k j i r o t move = late s m h k r o
           d.by_state,
           λ g. ap (count_of m') there ∙ ap (λ (b : Bool). cond b [] (mismatches m' d.domain ∷ [])) g,
         )
-    

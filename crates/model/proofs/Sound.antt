@@ -16,7 +16,7 @@ use Rattle.model.specs.Holdings.{Room, named, is_live, is_via, is_some, rule_of,
 use Rattle.model.specs.Holdings.{advance as advanceState, commit as commitState}
 use Rattle.model.specs.Restore.{restored_byte, restored_memory, restored, restore_checks}
 use Rattle.model.specs.History.{create, add, delete, advance, commit, Request, restore, change_line, Tracked, History, with_domains, with_waiting, named_among, at_depth, at_innermost, begun, add_tracked, add_line, add_lines, line, down_to, exclude_inside, stop_line, tracked_at, count_of, completed}
-use Rattle.model.specs.Session.{Mixed, next, AllZero, SameDomains, none_left, Agrees}
+use Rattle.model.specs.Session.{Mixed, AllZero, SameDomains, none_left, Agrees}
 use Rattle.model.proofs.Byte.{back_at}
 use Rattle.model.proofs.Agree.{agree_length, agree_named, agree_create, at_length, Matched, agree_add, agree_delete, agree_advance, agree_commit, agree_take, agree_inside}
 use Rattle.model.proofs.Bytes.{kept_at, agree_bytes, restored_byte_lem}

@@ -1,6 +1,6 @@
 // What an add names: a lent list of records, each with first cell, count, kind, rule and label (document 02, A.3).
 //
-// The borrow checker does not cover a slice of structs, so one thin walk, proved by hand, reads it: it takes each record apart and gives its
+// One thin walk reads the lent slice of structs: it takes each record apart and gives its
 // numbers to `keep`, which puts them into a batch, five numbers for each record. All that follows reads these numbers. No table is known here.
 //
 // A list is stored in the order of the cells and not of the records, so it is told in segments: cells that lie beside each other and of which

@@ -1,5 +1,5 @@
 -- Scans over the numbers below a bound.
-use Rattle.std.specs.Prelude.{ℕ, zero, suc, ◌+◌, Bool, true, false, cond, ◌&&◌, eqb}
+use Rattle.std.specs.Prelude.{ℕ, zero, suc, Bool, true, cond, ◌&&◌, eqb}
 
 -- does f hold of every number below n?
 unfoldable pub all : ℕ → (ℕ → Bool) → Bool

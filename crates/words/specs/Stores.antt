@@ -1,6 +1,6 @@
 -- Stores as data: a store is an index and a new value; a plan is a list of stores in the order in which they are made.
 -- Document 01, "Steps and cuts": a step stores one table word, one body byte or one memory byte.
-use Rattle.std.specs.Prelude.{ℕ, zero, suc, ◌+◌, List, [], ◌∷◌, ◌++◌, set}
+use Rattle.std.specs.Prelude.{ℕ, zero, suc, List, [], ◌∷◌, ◌++◌, set}
 
 -- the elements f at, f (at + 1), .., n of them
 abbrev pub tab_from : {A : Type 0} → (ℕ → A) → ℕ → ℕ → List A

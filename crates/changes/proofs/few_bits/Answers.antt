@@ -1,6 +1,5 @@
 use mathlib.Core.Path.{refl}
 use Rattle.table.specs.Marks.{zeros}
-use Rattle.changes.proofs.few_bits.Lts as lts
 use Rattle.changes.proofs.few_bits.Goals as goal
 
 -- src/lib.rt:70:1

@@ -2,7 +2,6 @@ use native.Mathlib.Omega.{arith}
 use lib.Count.{trailing_le}
 use Rattle.changes.proofs.Bits.{lowest_found}
 use borrow.Author.Rules.{rules}
-use Rattle.changes.proofs.lowest.Lts as lts
 use Rattle.changes.proofs.lowest.Goals as goal
 
 -- src/lib.rt:145:5

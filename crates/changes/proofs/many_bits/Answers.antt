@@ -1,6 +1,5 @@
 use mathlib.Core.Path.{refl}
 use Rattle.table.specs.Marks.{zeros}
-use Rattle.changes.proofs.many_bits.Lts as lts
 use Rattle.changes.proofs.many_bits.Goals as goal
 
 -- src/lib.rt:80:1

@@ -2,7 +2,6 @@ use mathlib.Core.Path.{refl}
 use native.Mathlib.Nat.{not-suc-le-zero}
 use native.Mathlib.Omega.{arith}
 use Rattle.changes.specs.Staged.{head_stores}
-use Rattle.changes.proofs.no_head.Lts as lts
 use Rattle.changes.proofs.no_head.Goals as goal
 
 -- src/lib.rt:35:1

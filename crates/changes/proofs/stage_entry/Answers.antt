@@ -1,5 +1,4 @@
 use Rattle.changes.proofs.Staging.{entry_marked}
-use Rattle.changes.proofs.stage_entry.Lts as lts
 use Rattle.changes.proofs.stage_entry.Goals as goal
 
 -- src/lib.rt:108:1

@@ -2,7 +2,6 @@ use mathlib.Core.Bool.{Bool}
 use mathlib.Core.Path.{sym, ap, ◌∙◌}
 use Rattle.changes.specs.Staged.{with_bit}
 use Rattle.changes.proofs.Bits.{bit_kept, bit_shifted}
-use Rattle.changes.proofs.with_bit.Lts as lts
 use Rattle.changes.proofs.with_bit.Goals as goal
 
 -- src/lib.rt:92:9

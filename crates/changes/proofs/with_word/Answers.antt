@@ -4,7 +4,6 @@ use lib.ListN.{set}
 use Rattle.changes.specs.declared.Head.{Head}
 use Rattle.changes.proofs.Staging.{word_staged, head_more}
 use borrow.Author.Rules.{rules}
-use Rattle.changes.proofs.with_word.Lts as lts
 use Rattle.changes.proofs.with_word.Goals as goal
 
 -- src/lib.rt:48:1

@@ -1,5 +1,4 @@
 use Rattle.changes.proofs.Bits.{lowest_cleared, cleared_less}
-use Rattle.changes.proofs.without_lowest.Lts as lts
 use Rattle.changes.proofs.without_lowest.Goals as goal
 
 -- src/lib.rt:149:1

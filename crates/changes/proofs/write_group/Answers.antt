@@ -2,7 +2,6 @@ use mathlib.Core.Path.{refl, ◌∙◌}
 use native.Mathlib.Omega.{arith}
 use Rattle.changes.proofs.Bits.{lowest_cleared}
 use Rattle.changes.proofs.Groups.{begun_start, begun_here, begun_room, begun_turn, begun_count, begun_made}
-use Rattle.changes.proofs.write_group.Lts as lts
 use Rattle.changes.proofs.write_group.Goals as goal
 
 -- src/lib.rt:175:5

@@ -1,7 +1,6 @@
 use mathlib.Core.Path.{◌≡◌}
 use lib.ListN.{length}
 use Rattle.changes.proofs.Groups.{Begun}
-use Rattle.changes.proofs.write_group.Lts as lts
 use Rattle.changes.proofs.write_group.Given as goal
 
 abbrev pub invariant-loop-rest : goal.invariant-loop-rest

@@ -1,5 +1,5 @@
 use mathlib.Core.Path.{◌≡◌, refl, ap, ◌∙◌}
-use Prim.Native.Nat.{ℕ, ◌-◌}
+use Prim.Native.Nat.{ℕ}
 use native.Mathlib.Omega.{arith}
 use lib.ListN.{take}
 use Rattle.words.specs.Stores.{stores}
@@ -8,7 +8,6 @@ use Rattle.words.proofs.Plans.{stores_none}
 use Rattle.changes.specs.Staged.{head_stores}
 use Rattle.changes.proofs.Writing.{head_upto, head_turn}
 use borrow.Author.Rules.{rules}
-use Rattle.changes.proofs.write_head.Lts as lts
 use Rattle.changes.proofs.write_head.Goals as goal
 
 -- src/lib.rt:128:5

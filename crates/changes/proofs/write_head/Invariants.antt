@@ -4,7 +4,6 @@ use lib.ListN.{length, take}
 use Rattle.words.specs.Stores.{stores}
 use Rattle.words.specs.Journal.{pair_plans}
 use Rattle.changes.proofs.Writing.{head_upto}
-use Rattle.changes.proofs.write_head.Lts as lts
 use Rattle.changes.proofs.write_head.Given as goal
 
 abbrev pub invariant-loop-j : goal.invariant-loop-j

@@ -1,7 +1,6 @@
 use native.Mathlib.Omega.{arith}
 use Rattle.changes.specs.Staged.{head_stores}
 use Rattle.changes.proofs.Writing.{head_count, head_below, pairs_ready, pairs_done}
-use Rattle.changes.proofs.write_head_words.Lts as lts
 use Rattle.changes.proofs.write_head_words.Goals as goal
 
 -- src/lib.rt:234:5

@@ -3,7 +3,6 @@ use native.Mathlib.Omega.{arith}
 use Rattle.table.specs.Changes.{entry_changes}
 use Rattle.changes.specs.Staged.{staged, head_stores}
 use Rattle.changes.proofs.Writing.{pairs_ready, pairs_done, all_number, all_few, all_below, all_written}
-use Rattle.changes.proofs.write_staged.Lts as lts
 use Rattle.changes.proofs.write_staged.Goals as goal
 
 -- src/lib.rt:256:9

@@ -1,4 +1,3 @@
-use Prim.Native.Nat.{◌-◌}
 use native.Mathlib.Omega.{arith}
 use Rattle.marks.proofs.Blocks.{bytes_more}
 use Rattle.marks.proofs.any_byte.Goals as goal

@@ -1,11 +1,10 @@
-use Prim.Native.Nat.{◌-◌}
 use mathlib.Core.Path.{refl, sym, ◌∙◌}
 use native.Mathlib.Omega.{arith}
 use borrow.Author.Rules.{rules}
 use borrow.Author.Count.{below_none, below_more}
 use lib.Seq.{ext_get_or, get_or-set_same, get_or-set_other}
 use lib.ListN.{length-set}
-use Rattle.patterns.specs.Pattern.{pattern_byte, pattern}
+use Rattle.patterns.specs.Pattern.{pattern}
 use Rattle.patterns.proofs.Bytes.{pattern_length, pattern_at}
 use Rattle.patterns.proofs.pattern_bytes.Goals as goal
 

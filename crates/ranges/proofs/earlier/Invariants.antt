@@ -1,5 +1,5 @@
 -- `ranges::earlier` meets its contract. The loop's invariant: of the records before the i-th, those from j on name none of its cells. Assumes nothing.
-use Rattle.std.proofs.Common.{◌≡◌, ℕ, ◌-◌, ◌≤◌, true}
+use Rattle.std.proofs.Common.{◌≡◌, ℕ, ◌≤◌, true}
 use Rattle.ranges.specs.Ranges.{covers, named}
 use Rattle.ranges.specs.Batch.{range_at, ranges_in}
 use Rattle.ranges.proofs.earlier.Given as goal

@@ -1,4 +1,4 @@
-use Rattle.std.proofs.Common.{◌-◌, false, sym, ◌∙◌, rules, below_none, below_more}
+use Rattle.std.proofs.Common.{sym, ◌∙◌, rules, below_none, below_more}
 use Rattle.words.proofs.Scan.{not_lt}
 use Rattle.ranges.proofs.Ranges.{named_none}
 use Rattle.ranges.proofs.first_naming.Goals as goal

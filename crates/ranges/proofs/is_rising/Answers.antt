@@ -1,4 +1,4 @@
-use Rattle.std.proofs.Common.{ℕ, ◌+◌, ◌-◌, ◌<◌, ◌≤◌, sym, arith, rules, below_none, below_more}
+use Rattle.std.proofs.Common.{ℕ, ◌+◌, ◌<◌, ◌≤◌, sym, arith, rules, below_none, below_more}
 use mathlib.Core.Bool.{false≢true}
 use Rattle.ranges.specs.Batch.{range_at, record_by}
 use Rattle.ranges.proofs.Segments.{rising_more}

@@ -1,4 +1,4 @@
-use Rattle.std.proofs.Common.{ℕ, ◌-◌, ◌%◌, refl, ap, ◌∙◌, arith, length-set, get_or-set_other, get_or-set_same, rules, below_none, below_more}
+use Rattle.std.proofs.Common.{ℕ, ◌%◌, refl, ap, ◌∙◌, arith, length-set, get_or-set_other, get_or-set_same, rules, below_none, below_more}
 use Rattle.ranges.proofs.Segments.{orders_keys}
 use Rattle.ranges.proofs.keys_of.Goals as goal
 

@@ -1,4 +1,4 @@
-use Rattle.std.proofs.Common.{◌-◌, false, sym, arith, rules, below_none, below_more}
+use Rattle.std.proofs.Common.{sym, arith, rules, below_none, below_more}
 use Rattle.ranges.proofs.Ranges.{label_make, label_none}
 use Rattle.ranges.proofs.label_for.Goals as goal
 

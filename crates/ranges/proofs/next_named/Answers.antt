@@ -1,4 +1,4 @@
-use Rattle.std.proofs.Common.{ℕ, ◌-◌, subst, arith, rules, below_none}
+use Rattle.std.proofs.Common.{ℕ, subst, arith, rules, below_none}
 use Rattle.ranges.specs.Batch.{NextNamed}
 use Rattle.ranges.proofs.Ranges.{named_none}
 use Rattle.ranges.proofs.Segments.{lowest_next}

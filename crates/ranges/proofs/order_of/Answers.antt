@@ -1,4 +1,4 @@
-use Rattle.std.proofs.Common.{◌-◌, rules}
+use Rattle.std.proofs.Common.{rules}
 use Rattle.ranges.proofs.order_of.Goals as goal
 
 pub loop-j-init : goal.loop-j-init

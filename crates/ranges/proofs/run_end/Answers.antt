@@ -1,4 +1,4 @@
-use Rattle.std.proofs.Common.{◌-◌, arith, rules, below_none, below_more}
+use Rattle.std.proofs.Common.{arith, rules, below_none, below_more}
 use Rattle.ranges.proofs.run_end.Goals as goal
 
 pub loop-i-init : goal.loop-i-init

@@ -1,5 +1,5 @@
 -- `ranges::sink` meets its contract. The loop's invariant: the key stands at place k, and what the keys name is kept. Assumes nothing.
-use Rattle.std.proofs.Common.{◌≡◌, ℕ, ◌-◌, ◌<◌, ◌≤◌, length, get_or}
+use Rattle.std.proofs.Common.{◌≡◌, ℕ, ◌<◌, ◌≤◌, length, get_or}
 use Rattle.ranges.specs.Batch.{Orders}
 use Rattle.ranges.proofs.sink.Given as goal
 

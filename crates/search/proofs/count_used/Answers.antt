@@ -1,4 +1,4 @@
-use Rattle.std.proofs.Common.{◌≡◌, ℕ, ◌-◌, not, eqb, refl, ap, ◌∙◌, arith, rules}
+use Rattle.std.proofs.Common.{◌≡◌, ℕ, not, eqb, refl, ap, ◌∙◌, arith, rules}
 use Rattle.words.specs.Scan.{count}
 use Rattle.words.proofs.Scan.{count_le}
 use Rattle.table.specs.Entry.{owns_body}

@@ -2,7 +2,7 @@
 -- Assumes nothing.
 use Rattle.std.proofs.Common.{◌≡◌, ◌-◌, ◌≤◌, not}
 use Rattle.words.specs.Scan.{count}
-use Rattle.search.specs.Free.{slot_free, is_copy, copies}
+use Rattle.search.specs.Free.{slot_free, is_copy}
 use Rattle.search.proofs.count_used.Given as goal
 
 abbrev pub invariant-loop-i : goal.invariant-loop-i

@@ -1,4 +1,4 @@
-use Rattle.std.proofs.Common.{ℕ, ◌-◌, false, get_or, sym, ap, ◌∙◌, arith, rules, below_none, below_more, ne_eqb}
+use Rattle.std.proofs.Common.{ℕ, get_or, sym, ap, ◌∙◌, arith, rules, below_none, below_more, ne_eqb}
 use Rattle.words.specs.Layout.{handle_at}
 use Rattle.search.proofs.Domain.{named_innermost, named_at, named_none}
 use Rattle.search.proofs.find_domain.Goals as goal

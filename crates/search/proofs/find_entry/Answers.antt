@@ -1,4 +1,4 @@
-use Rattle.std.proofs.Common.{◌-◌, sym, ap, ◌∙◌, arith}
+use Rattle.std.proofs.Common.{sym, ap, ◌∙◌, arith}
 use Rattle.search.specs.Search.{named_by}
 use Rattle.search.proofs.From.{failing_more}
 use Rattle.search.proofs.Keys.{none_beyond, within}

@@ -1,4 +1,4 @@
-use Rattle.std.proofs.Common.{◌-◌, ◌<◌, sym, ap, ◌∙◌, arith, rules}
+use Rattle.std.proofs.Common.{◌<◌, sym, ap, ◌∙◌, arith, rules}
 use Rattle.search.specs.Search.{named_by}
 use Rattle.search.proofs.From.{failing_more}
 use Rattle.search.proofs.Keys.{none_wide}

@@ -1,4 +1,4 @@
-use Rattle.std.proofs.Common.{◌≡◌, ℕ, ◌-◌, ◌<◌, refl, ◌∙◌, subst, arith, rules}
+use Rattle.std.proofs.Common.{◌≡◌, ℕ, ◌<◌, refl, ◌∙◌, subst, arith, rules}
 use Rattle.search.proofs.Writable.{TakenOut, kept_none, take_fits, marked_there, kept_more, kept_free, kept_end}
 use Rattle.search.proofs.keep_writable.Goals as goal
 

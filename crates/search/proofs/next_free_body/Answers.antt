@@ -1,4 +1,4 @@
-use Rattle.std.proofs.Common.{◌-◌, not, sym, ap, rules, eq-eqb, ne_eqb}
+use Rattle.std.proofs.Common.{not, sym, ap, rules, eq-eqb, ne_eqb}
 use Rattle.words.proofs.Scan.{not_lt}
 use Rattle.search.specs.Free.{unmarked, unmarked_from}
 use Rattle.search.proofs.From.{failing_none, failing_more, from_at}

@@ -1,4 +1,4 @@
-use Rattle.std.proofs.Common.{◌-◌, arith, rules}
+use Rattle.std.proofs.Common.{arith, rules}
 use Rattle.table.specs.Entry.{word1}
 use Rattle.search.specs.Search.{named_by}
 use Rattle.search.proofs.From.{failing_none}

@@ -1,4 +1,3 @@
-use Rattle.table.proofs.first_word.Lts as lts
 use Rattle.table.proofs.first_word.Goals as goal
 
 -- src/lib.rt:65:1

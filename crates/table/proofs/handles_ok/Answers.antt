@@ -1,12 +1,9 @@
-use Prim.Native.Nat.{◌-◌}
 use mathlib.Core.Path.{sym, ◌∙◌}
-use mathlib.Core.Bool.{true}
 use native.Mathlib.Omega.{arith}
 use borrow.Author.Tests.{not-true, not-false}
 use borrow.Author.Rules.{rules}
 use borrow.Author.Count.{below_none, below_more}
 use Rattle.words.proofs.Scan.{all_make, all_not}
-use Rattle.table.specs.Rule.{handle_ok}
 use Rattle.table.proofs.handles_ok.Goals as goal
 
 pub loop-k-init : goal.loop-k-init

@@ -1,4 +1,3 @@
-use Rattle.table.proofs.second_word.Lts as lts
 use Rattle.table.proofs.second_word.Goals as goal
 
 -- src/lib.rt:73:1

@@ -1,4 +1,3 @@
-use Prim.Native.Nat.{◌-◌}
 use native.Mathlib.Omega.{arith}
 use Rattle.table.proofs.Passing.{run_more}
 use Rattle.table.proofs.sixteen_free.Goals as goal

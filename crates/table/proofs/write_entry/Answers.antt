@@ -3,7 +3,6 @@ use mathlib.Core.List.{◌∷◌}
 use Rattle.words.specs.Layout.{first_at, second_at}
 use Rattle.words.specs.Stores.{◌≔◌}
 use Rattle.words.proofs.Phases.{pair_more}
-use Rattle.table.proofs.write_entry.Lts as lts
 use Rattle.table.proofs.write_entry.Goals as goal
 
 -- src/lib.rt:418:1

@@ -1,8 +1,7 @@
 use mathlib.Core.Path.{◌≡◌, refl, ◌∙◌}
-use Prim.Native.Nat.{◌+◌, ◌-◌, ◌*◌, ◌≤◌, ◌<◌}
+use Prim.Native.Nat.{◌+◌, ◌*◌, ◌≤◌, ◌<◌}
 use native.Mathlib.Omega.{arith}
 use lib.ListN.{get_or, length-set}
-use Rattle.words.specs.Journal.{pairs}
 use Rattle.words.proofs.Phases.{get_or_pairs, apply_turn, apply_last, apply_cut}
 use Rattle.words.proofs.apply_pending.Goals as goal
 use Rattle.words.proofs.apply_pending.Goals.{In-loop-j}
