@@ -42,7 +42,7 @@ const NESTED: [[u64; 5]; 23] = [
     [STATE, 0, 0, 0, 0],
 ];
 
-pub fn show(m: &mut [u8], b: &mut [u8], t: &mut [u32]) {
+pub fn show(rt: HostRuntime, m: &mut [u8], b: &mut [u8], t: &mut [u32]) {
     let text = b"
 1100 Inner first, outer after: restoring a channel or a tile, and then the cycle, leaves what restoring the cycle alone leaves. m = 4 and E = B = 8
 1101 Cycle 1 keeps scales of 1 in cell 0, tile 2 keeps cell 1, and channel 3 scales of 2 in cell 0 and zeros in cell 2, by a rule. A fault leaves other bytes there, and in cell 3, which nobody holds:
@@ -57,5 +57,5 @@ pub fn show(m: &mut [u8], b: &mut [u8], t: &mut [u32]) {
 1110 The tile alone:
 1111 The tile's restore with each budget from 0 to 213; then an opening, and the tile again:
 ";
-    play(m, b, t, &NESTED, text);
+    play(rt, m, b, t, &NESTED, text);
 }
