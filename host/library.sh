@@ -1,6 +1,6 @@
 #!/usr/bin/env bash
 # Proves the library and builds it as host/lib/libdomain_store.a, unless that stands there already for the sources as they are. The copy is kept
-# outside target/, which the gate removes.
+# outside crates/, whose out/ folders may go at any time.
 set -euo pipefail
 cd "$(dirname "$0")/.."
 
@@ -17,11 +17,11 @@ fi
 
 command -v rt >/dev/null || fail "the Rattle kit is not on the path: its command 'rt' proves and builds the library"
 
-# The crates that the library is made of: domain_store, and all that it rests on in this repository.
-[ -d crates/domain_store ] || fail "there is no crate domain_store in crates/"
-crates=(domain_store)
+# The crates that the library is made of: domain_store_c, which exports the functions of C, and all that it rests on in this repository.
+[ -d crates/domain_store_c ] || fail "there is no crate domain_store_c in crates/"
+crates=(domain_store_c)
 for ((i = 0; i < ${#crates[@]}; i++)); do
-    read -ra below < <(sed -n "s/^${crates[i]}:\([^#]*\).*/\1/p" crates.txt; echo)
+    read -ra below < <(sed -n "s/^${crates[i]}\( staticlib\)\{0,1\}:\([^#]*\).*/\2/p" crates.txt; echo)
     for crate in "${below[@]}"; do
         case " ${crates[*]} " in *" $crate "*) continue ;; esac
         # A library of the kit has no folder here.
@@ -52,17 +52,17 @@ mkdir -p host/lib
 rm -f host/lib/sources
 echo "library: the library is proved before it is built, with all that it rests on: ${crates[*]}"
 if [ -f host/lib/seconds ]; then
-    echo "library: that took up to $(minutes "$(cat host/lib/seconds)") here; what has not changed since target/ was filled is not proved again"
+    echo "library: that took up to $(minutes "$(cat host/lib/seconds)") here; what has not changed since is not proved again"
 else
     echo "library: from nothing that takes some 7 minutes; a line appears for each crate when it is proved"
 fi
 begin=$SECONDS
 # A line for each crate is enough to follow; the log has a line for each function.
-rt staticlib domain_store 2>&1 | tee host/lib/log | sed -un 's/^rt: /library:   /p' ||
+(cd crates/domain_store_c && rt lib) 2>&1 | tee host/lib/log | awk '/^crate / { sub(":", "", $2); crate = $2 } /^logic=proved/ { print "library:   " crate " is proved"; fflush() }' ||
     fail "the library is not proved, so it is not built; host/lib/log has all that was said, and ends with:
 $(tail -15 host/lib/log)"
 took=$((SECONDS - begin))
-cp target/staticlib/libdomain_store.a "$archive.new"
+cp crates/domain_store_c/out/libdomain_store_c.a "$archive.new"
 # An equal archive keeps its time, so that nothing is linked again.
 if cmp -s "$archive.new" "$archive"; then rm "$archive.new"; else mv "$archive.new" "$archive"; fi
 echo "$sources" >host/lib/sources

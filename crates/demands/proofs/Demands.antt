@@ -84,5 +84,4 @@ demands M = record {
   demand_2 = demand_2;
   demand_3 = demand_3;
   counted = counted;
-  inner_first = inner_first;
 }

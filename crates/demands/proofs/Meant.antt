@@ -20,7 +20,7 @@ use Rattle.model.specs.History.{Request}
 use Rattle.model.specs.Session.{memory_after, Mixed}
 use Rattle.model.proofs.Views.{memory_whole, memory_mixed}
 use Rattle.model.proofs.Told.{Halted}
-use Rattle.store.specs.Outcome.{Buffers, buffers, in_table, perform, Outcome, outcome}
+use Rattle.store.specs.Outcome.{Buffers, in_table, perform, Outcome, outcome}
 use Rattle.store.specs.Checks.{make_check}
 use Rattle.store.specs.State.{state_of, standing, slots}
 use Rattle.store.specs.Calls.{make_plan, make_call, open_call}

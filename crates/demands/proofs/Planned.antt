@@ -7,7 +7,7 @@ use lib.Dec.{leb-zero}
 use lib.ListN.{length}
 use lib.Seq.{take-nil}
 use Rattle.words.specs.Layout.{cells_of, bodies_of, pairs_at}
-use Rattle.words.specs.Stores.{Store, stores}
+use Rattle.words.specs.Stores.{Store}
 use Rattle.ranges.specs.declared.Range.{Range}
 use Rattle.table.specs.Entry.{next_handle}
 use Rattle.search.specs.Domain.{depth_named}

@@ -18,7 +18,6 @@ use Rattle.model.specs.Holdings.{add_range, add_ranges, newly_held, new_bodies, 
 use Rattle.model.specs.Restore.{restore_checks, look_checks}
 use Rattle.store.specs.Outcome.{Buffers}
 use Rattle.store.specs.Checks.{shape_check, table_check, make_check, open_check, store_check, lent_of}
-use Rattle.store.specs.State.{slots}
 use Rattle.demands.specs.Demands.{lengths_right, header_right, table_right, is_question}
 
 -- ---- questions: 0 goes on, and every other number is that of a question

@@ -17,7 +17,7 @@ use Rattle.model.specs.Calls.{Effect, refuse, change, fresh, make_steps, open_st
 use Rattle.model.specs.History.{Request}
 use Rattle.model.specs.Session.{Input, make, call, opening, write, effect_of, memory_at}
 use Rattle.model.proofs.Told.{Finished}
-use Rattle.store.specs.Outcome.{Buffers, buffers, outcome}
+use Rattle.store.specs.Outcome.{Buffers, outcome}
 use Rattle.store.specs.Checks.{open_check, store_check, lent}
 use Rattle.store.specs.State.{state_of, slots}
 use Rattle.store.specs.Calls.{make_call, open_call}

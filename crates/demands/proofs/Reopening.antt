@@ -5,11 +5,10 @@ use mathlib.Core.Path.{◌≡◌, refl, sym, ap, subst, ◌∙◌}
 use lib.ListN.{length}
 use Rattle.words.specs.Layout.{cells_of}
 use Rattle.words.specs.Journal.{pending}
-use Rattle.words.proofs.Journal as law
 use Rattle.model.specs.Answer.{is_done, is_stopped, View}
 use Rattle.model.specs.History.{Request}
 use Rattle.model.proofs.Told.{Halted}
-use Rattle.store.specs.Outcome.{Buffers, buffers, Outcome, outcome}
+use Rattle.store.specs.Outcome.{Buffers, Outcome, outcome}
 use Rattle.store.specs.State.{standing}
 use Rattle.store.specs.Calls.{open_call, after_openings, opening_after}
 use Rattle.store.specs.Means.{Reopens}

@@ -11,7 +11,7 @@ use Rattle.model.specs.Answer.{is_refused, refused, ended}
 use Rattle.model.specs.History.{Request}
 use Rattle.model.specs.Session.{Input, make, call, opening, write}
 use Rattle.model.proofs.Told.{Answered}
-use Rattle.store.specs.Outcome.{Buffers, buffers, Step, in_memory, in_bodies, in_table, step, steps, Outcome, outcome, Call, refuse, perform}
+use Rattle.store.specs.Outcome.{Buffers, Step, in_memory, in_bodies, in_table, step, steps, Outcome, outcome, Call, refuse, perform}
 use Rattle.store.specs.Checks.{open_check, lent_of}
 use Rattle.store.specs.State.{standing}
 use Rattle.demands.specs.Session.{call_on, input_on}

@@ -3,7 +3,7 @@
 use Prim.Native.Nat.{ℕ, suc}
 use mathlib.Core.Bool.{Bool, true, false, not, ◌||◌}
 use mathlib.Core.List.{List, [], ◌∷◌, ◌++◌, append_assoc, append-nil}
-use mathlib.Core.Option.{Option, none, some}
+use mathlib.Core.Option.{Option, some}
 use mathlib.Core.Path.{◌≡◌, refl, sym, ap, subst, ◌∙◌}
 use native.Mathlib.Omega.{arith}
 use borrow.Author.Tests.{leb-true, le-leb}
@@ -13,7 +13,7 @@ use Rattle.words.specs.Layout.{cells_of}
 use Rattle.words.specs.Journal.{pending}
 use Rattle.words.proofs.Scan.{by_bool, and_split}
 use Rattle.model.specs.State.{State}
-use Rattle.model.specs.Answer.{Status, is_done, is_stopped, is_refused, Report, done, stopped, refused, ended, View, steps_of}
+use Rattle.model.specs.Answer.{Status, is_done, is_stopped, is_refused, Report, done, refused, ended, View, steps_of}
 use Rattle.model.specs.Calls.{Effect, refuse, change, fresh, make_steps, make_view, viewed_with}
 use Rattle.model.specs.Holdings.{named}
 use Rattle.model.specs.History.{restore, Event, called, opened, Observation, observed, Tracked, History, begun, observe, tracked_at, mismatches, count_event, counts, history_after}

@@ -414,7 +414,7 @@ pub record InnerFirst : Type 0 where
       → Suffices (restore_on h k (restore_on h j b).buffers)
       → IsDone (restore_on h j b) × IsDone (restore_on h k (restore_on h j b).buffers) × ((restore_on h k (restore_on h j b).buffers).buffers ≡ (restore_on h j b).buffers)
 
--- ---- the whole: the contracts of the calls and of the functions of C, the demands and the promise
+-- ---- the whole: the contracts of the calls and of the functions of C, and the demands
 
 pub record Demands (M : Type 1) : Type 2 where
   pub proved : Proved M
@@ -422,4 +422,3 @@ pub record Demands (M : Type 1) : Type 2 where
   pub demand_2 : Demand2
   pub demand_3 : Demand3
   pub counted : Counted
-  pub inner_first : InnerFirst

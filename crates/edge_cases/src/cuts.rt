@@ -8,9 +8,9 @@ use crate::play::play;
 const TWO: u64 = FRESH + 2 * E + 2 * B + 7 * Y;
 
 const CUTS: [[u64; 5]; 48] = [
-    [STORE + 0x0505_0500 * V, SCALES, 0, 0, 0],
+    [STORE + 0x0505_0500 * V, WRITE + 0x3f80_0000 * V, 0, 0, 0],
     [CREATE, ADD + N + RW, CREATE, ADD + N + VIA + RW, CREATE],
-    [ADD + N + RW, DOUBLED, KEEP, 0, 0],
+    [ADD + N + RW, WRITE + 0x4000_0000 * V, KEEP, 0, 0],
     [ADVANCE + 3 * H, WHOLE, 0, 0, 0],
     [TEXT + T, 0, 0, 0, 0],
     [SWEEP + 73 * S + R, ADVANCE + 3 * H, OPEN, SAME, WRITE],

@@ -95,22 +95,6 @@ pub fn say_same(p: Play, bodies: &[u8], table: &[u32], words: usize) -> Play {
     say(p, b"neither as before nor as the whole call leaves it")
 }
 
-// Are memory, bodies and table as the call leaves them that was kept as the whole one, here a restore by itself, or all but the pairs?
-pub fn say_alike(p: Play, memory: &[u8], bodies: &[u8], table: &[u32], words: usize) -> Play {
-    let bytes = same_bytes(memory, 0, SET_MEMORY * LEFT, SET_MEMORY)
-        & same_bytes(bodies, 0, SET_BODIES * LEFT, SET_BODIES);
-    if bytes & same_words(table, 0, SET_TABLE * LEFT, words) {
-        return say(p, b"each word and byte as that restore alone leaves it");
-    }
-    if bytes & same_words(table, 0, SET_TABLE * LEFT, front_of(words)) {
-        return say(
-            p,
-            b"each word and byte but unused pairs as that restore alone leaves it",
-        );
-    }
-    say(p, b"not as that restore alone leaves it")
-}
-
 // Has memory, or have the bodies, of which a set has as many bytes, the first n of the whole call's, and else those that were kept?
 pub fn say_prefix(p: Play, bytes: &[u8], n: usize, done: &[u8]) -> Play {
     if SET_MEMORY < n {

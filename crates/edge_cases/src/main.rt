@@ -1,7 +1,6 @@
 // Plays document 01's edges, the use cases of the containment domain API of 2012, the sequencer's accident, refusals, calls stopped at every
-// budget, cells that follow a pattern, advances that copy only what changed, several ranges in one add, inner advances that keep the outer point,
-// and inner domains restored before outer ones, and prints what they give. A section has a table of acts and their text; `ops` says what an act
-// is, and `play` performs it.
+// budget, cells that follow a pattern, advances that copy only what changed, several ranges in one add, and inner advances that keep the outer point,
+// and prints what they give. A section has a table of acts and their text; `ops` says what an act is, and `play` performs it.
 //
 // Each number of steps and each refusal is a call's answer. Memory is read byte by byte; what a domain holds is read from the table and the bodies.
 #![tactic(auto)]
@@ -13,7 +12,6 @@ mod cuts;
 mod edges;
 mod holdings;
 mod lists;
-mod nested;
 mod ops;
 mod outer;
 mod play;
@@ -58,5 +56,4 @@ fn main(rt: HostRuntime) {
     advances::show(rt, &mut m, &mut b, &mut t);
     several::show(rt, &mut m, &mut b, &mut t);
     outer::show(rt, &mut m, &mut b, &mut t);
-    nested::show(rt, &mut m, &mut b, &mut t);
 }

@@ -38,8 +38,7 @@ pub const RISE: u64 = 26;
 pub const BYTE: u64 = 27;
 
 // ---- what is read: list and look; memory and what each live domain holds; whether the store is the one that was kept or the one that the whole
-// call left; whether memory, or the bodies, have as many bytes of the whole call as there were steps, up to N, and else those that were kept;
-// whether all is as the whole call left it, a restore by itself, or all but the pairs
+// call left; whether memory, or the bodies, have as many bytes of the whole call as there were steps, up to N, and else those that were kept
 
 pub const LIST: u64 = 12;
 
@@ -52,8 +51,6 @@ pub const SAME: u64 = 15;
 pub const PREFIX: u64 = 16;
 
 pub const STORED: u64 = 29;
-
-pub const ALIKE: u64 = 30;
 
 // ---- stores: a fresh one with m = 4, or 8 where E is above 8, or 16 where it is 16, E entries and B bodies, in which cell 0 has V's lowest byte and
 // cell 3 its highest, and the others as these four in turn; a copy of a set of buffers, by which the store is kept, or kept as what the whole call
@@ -152,6 +149,3 @@ pub const FOUR: u64 = STORE + 0x0505_ff00 * V;
 
 // 16 scales of 1: what rule 3 repeats.
 pub const SCALES: u64 = WRITE + 0x3f80_0000 * V;
-
-// 16 scales of 2.
-pub const DOUBLED: u64 = WRITE + 0x4000_0000 * V;

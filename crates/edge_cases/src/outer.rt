@@ -8,8 +8,10 @@ use crate::play::play;
 // The inner of two domains advances.
 const INNER: u64 = ADVANCE + 2 * H;
 
-// A channel's cell, held by rule 3, and a store for it with cells of 5 beside it.
+// A channel's cell: held by rule 3, with scales of 2, and a store for it with cells of 5 beside it.
 const CHANNEL: u64 = ADD + N + BY + 3 * P + RW;
+
+const DOUBLED: u64 = WRITE + 0x4000_0000 * V;
 
 const FIVES: u64 = FRESH + 0x0505_0505 * V;
 

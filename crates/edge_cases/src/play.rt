@@ -443,7 +443,6 @@ fn told(m: &mut [u8], b: &mut [u8], t: &mut [u32], p: Play, row: u64) -> Play {
     let op = row % 0x100;
     match op {
         SAME => say_same(p, b, t, words_of(p.fresh)),
-        ALIKE => say_alike(p, m, b, t, words_of(p.fresh)),
         PREFIX => say_prefix(p, m, least(p.cut, field(row, N)), b"put back"),
         STORED => say_prefix(p, b, least(p.cut, field(row, N)), b"copied"),
         WRITE | RISE | BYTE => write(m, p, row),

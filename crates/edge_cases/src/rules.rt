@@ -85,7 +85,7 @@ const RULES: [[u64; 5]; 69] = [
     [HARM + 26 * T + 18 * W + 0x1200_0000 * V, 0, 0, 0, 0],
     // cuts
     [STORE + 0x0505_0500 * V + 30 * T, SCALES, CREATE, CHANNEL, 0],
-    [CREATE, CHANNEL, DOUBLED, KEEP, 0],
+    [CREATE, CHANNEL, WRITE + 0x4000_0000 * V, KEEP, 0],
     [ADVANCE + 2 * H, WHOLE, TEXT + 31 * T, 0, 0],
     [SWEEP + 73 * S + R, ADVANCE + 2 * H, OPEN, SAME, WRITE],
     [RESTORE + 2 * H, STATE, WRITE, RESTORE + H, STATE],

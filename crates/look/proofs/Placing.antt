@@ -34,7 +34,6 @@ use Rattle.look.specs.Look.{look_check, place_shown, place_in, placed_by, look_p
 use Rattle.look.specs.declared.Place.{Place}
 use Rattle.look.specs.declared.Place.TheVariants.{Refused, Memory, Bodies, Rule}
 use Rattle.look.specs.declared.LookAnswer.{LookAnswer}
-use Rattle.look.specs.declared.LookAnswer.TheVariants as answers
 
 -- ---- the place in the words of a table
 

@@ -26,7 +26,7 @@ use Rattle.table.proofs.Entries.{first_staged, second_staged}
 use Rattle.search.specs.Domain.{depth_named}
 use Rattle.search.proofs.Domain.{depth_small}
 use Rattle.model.specs.Answer.{is_done, is_stopped, ended, steps_of}
-use Rattle.model.specs.Holdings.{named, is_live}
+use Rattle.model.specs.Holdings.{is_live}
 use Rattle.store.specs.Outcome.{Buffers, buffers, Outcome, outcome, leaves}
 use Rattle.store.specs.Checks.{store_check, lent, lent_of}
 use Rattle.store.specs.State.{state_of, slots}

@@ -21,7 +21,6 @@ use Rattle.words.proofs.Plans.{Each, each_take, length_stores, stores_none, each
 use Rattle.words.proofs.Cells.{Outside, cell_kept}
 use Rattle.words.proofs.Copies.{copy_of, copies_outside}
 use Rattle.words.proofs.Pairs.{length_journal, journal_some, journal_none}
-use Rattle.words.proofs.Journal as law
 use Rattle.table.specs.Entry.{word2}
 use Rattle.table.proofs.Rule.{Rule}
 use Rattle.search.specs.Free.{body_free}

@@ -1,11 +1,10 @@
 use Prim.Native.Nat.{ℕ, ◌+◌, ◌-◌, ◌<◌}
 use mathlib.Core.Path.{◌≡◌, sym, ap, subst, ◌∙◌}
-use mathlib.Core.Bool.{true, not, ◌||◌, true≢false}
+use mathlib.Core.Bool.{true, not, true≢false}
 use native.Mathlib.Omega.{arith}
 use borrow.Author.Tests.{not-false}
 use borrow.Author.Count.{below_none, below_more}
 use lib.Dec.{eqb}
-use Rattle.words.specs.Scan.{all}
 use Rattle.words.proofs.Scan.{by_bool, true≢, and_split, all_at}
 use Rattle.ranges.specs.Ranges.{covers, label_for}
 use Rattle.ranges.specs.Batch.{range_at, ranges_in}

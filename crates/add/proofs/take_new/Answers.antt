@@ -4,7 +4,6 @@ use Prim.Native.Nat.{ℕ}
 use native.Mathlib.Omega.{arith}
 use lib.ListN.{length}
 use Rattle.words.specs.Layout.{bodies_of}
-use Rattle.table.specs.Changes.{put}
 use Rattle.add.proofs.Taken.{body_small, took_body, took_bytes, took_is}
 use Rattle.add.proofs.take_new.Goals as goal
 

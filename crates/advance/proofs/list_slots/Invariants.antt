@@ -2,7 +2,6 @@
 use Prim.Native.Nat.{◌-◌, ◌≤◌}
 use mathlib.Core.Path.{◌≡◌}
 use lib.ListN.{length}
-use Rattle.table.specs.Entry.{live}
 use Rattle.advance.specs.Notes.{has_bit, ListedSlots}
 use Rattle.advance.proofs.list_slots.Given as goal
 

@@ -3,7 +3,6 @@ use native.Mathlib.Omega.{arith}
 use Rattle.store.proofs.Checks.{create_store, create_live, create_next, store_lengths}
 use Rattle.store.proofs.Means.{visible_of}
 use Rattle.store.proofs.Created.{create_means_lem, create_refused, create_performed}
-use Rattle.begin.proofs.create.Lts as lts
 use Rattle.begin.proofs.create.Goals as goal
 
 -- src/lib.rt:269:9

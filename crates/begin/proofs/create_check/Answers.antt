@@ -3,7 +3,6 @@ use native.Mathlib.Omega.{arith}
 use borrow.Author.Tests.{lt-ltb, le-ltb}
 use Rattle.store.specs.Checks.{create_check}
 use Rattle.store.proofs.Checks.{ask_go, ask_stop, or_else_go, or_else_stop, store_lengths}
-use Rattle.begin.proofs.create_check.Lts as lts
 use Rattle.begin.proofs.create_check.Goals as goal
 
 -- src/lib.rt:112:9

@@ -1,4 +1,3 @@
-use Rattle.begin.proofs.create_head.Lts as lts
 use Rattle.begin.proofs.create_head.Goals as goal
 
 -- src/lib.rt:304:1

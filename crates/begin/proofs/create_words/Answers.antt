@@ -1,5 +1,4 @@
 use Rattle.store.specs.Calls.{create_words}
-use Rattle.begin.proofs.create_words.Lts as lts
 use Rattle.begin.proofs.create_words.Goals as goal
 
 -- src/lib.rt:315:1

@@ -1,6 +1,5 @@
 use borrow.Author.Tests.{eq-eqb, ne_eqb}
 use Rattle.store.specs.Calls.{fresh_word}
-use Rattle.begin.proofs.fresh_word.Lts as lts
 use Rattle.begin.proofs.fresh_word.Goals as goal
 
 -- src/lib.rt:82:9

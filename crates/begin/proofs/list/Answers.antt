@@ -2,7 +2,6 @@ use mathlib.Core.Path.{refl, sym, ◌∙◌}
 use native.Mathlib.Omega.{arith}
 use Rattle.store.proofs.Checks.{store_lengths}
 use Rattle.store.proofs.Handles.{list_refused_lem, list_done}
-use Rattle.begin.proofs.list.Lts as lts
 use Rattle.begin.proofs.list.Goals as goal
 
 -- src/lib.rt:299:9

@@ -1,10 +1,8 @@
 use mathlib.Core.Path.{◌≡◌, ◌∙◌}
-use Prim.Native.Nat.{◌-◌}
 use native.Mathlib.Omega.{arith}
 use lib.ListN.{length-set}
 use Rattle.words.specs.Layout.{pairs_at}
 use Rattle.store.proofs.Making.{make_turn, make_stopped, make_ended}
-use Rattle.begin.proofs.make_words.Lts as lts
 use Rattle.begin.proofs.make_words.Goals as goal
 
 -- src/lib.rt:110:9

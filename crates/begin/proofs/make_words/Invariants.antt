@@ -4,7 +4,6 @@ use lib.ListN.{length, take}
 use Rattle.words.specs.Layout.{pairs_at}
 use Rattle.words.specs.Stores.{stores}
 use Rattle.store.proofs.Making.{middle_plan}
-use Rattle.begin.proofs.make_words.Lts as lts
 use Rattle.begin.proofs.make_words.Given as goal
 
 abbrev pub invariant-loop-i : goal.invariant-loop-i

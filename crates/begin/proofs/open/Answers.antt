@@ -5,7 +5,6 @@ use lib.ListN.{length}
 use Rattle.table.proofs.Pairs.{pairs_few, pairs_fine}
 use Rattle.store.proofs.Checks.{shape_facts, open_shape, open_table, table_pairs}
 use Rattle.store.proofs.Means.{visible_of, open_means_lem, open_refused, open_none, open_performed}
-use Rattle.begin.proofs.open.Lts as lts
 use Rattle.begin.proofs.open.Goals as goal
 
 -- src/lib.rt:210:9

@@ -1,12 +1,11 @@
 use mathlib.Core.Path.{◌≡◌, refl, ap, subst, ◌∙◌}
-use Prim.Native.Nat.{ℕ, ◌-◌, ◌<◌}
+use Prim.Native.Nat.{ℕ, ◌<◌}
 use native.Mathlib.Nat.{not-suc-le-zero}
 use native.Mathlib.Omega.{arith}
 use lib.ListN.{get_or, length-set}
 use Rattle.words.specs.Layout.{max_live}
 use Rattle.table.specs.Entry.{handle}
 use Rattle.store.proofs.Handles.{handles_turn, handles_end}
-use Rattle.begin.proofs.read_handles.Lts as lts
 use Rattle.begin.proofs.read_handles.Goals as goal
 
 -- src/lib.rt:286:5

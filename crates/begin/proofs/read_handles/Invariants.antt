@@ -3,7 +3,6 @@ use Prim.Native.Nat.{ℕ, ◌-◌, ◌≤◌, ◌<◌}
 use lib.ListN.{length, get_or}
 use Rattle.words.specs.Layout.{max_live}
 use Rattle.table.specs.Entry.{handle}
-use Rattle.begin.proofs.read_handles.Lts as lts
 use Rattle.begin.proofs.read_handles.Given as goal
 
 abbrev pub invariant-loop-k : goal.invariant-loop-k

@@ -1,5 +1,4 @@
 use Rattle.domain_store.proofs.Telling.{told}
-use Rattle.domain_store.proofs.ds_add.Lts as lts
 use Rattle.domain_store.proofs.ds_add.Goals as goal
 
 -- src/lib.rt:119:1

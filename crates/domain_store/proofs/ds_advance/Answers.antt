@@ -1,5 +1,4 @@
 use Rattle.domain_store.proofs.Telling.{told}
-use Rattle.domain_store.proofs.ds_advance.Lts as lts
 use Rattle.domain_store.proofs.ds_advance.Goals as goal
 
 -- src/lib.rt:186:1

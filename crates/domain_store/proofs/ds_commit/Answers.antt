@@ -1,5 +1,4 @@
 use Rattle.domain_store.proofs.Telling.{told}
-use Rattle.domain_store.proofs.ds_commit.Lts as lts
 use Rattle.domain_store.proofs.ds_commit.Goals as goal
 
 -- src/lib.rt:169:1

@@ -1,5 +1,4 @@
 use Rattle.domain_store.proofs.Telling.{told, named}
-use Rattle.domain_store.proofs.ds_create.Lts as lts
 use Rattle.domain_store.proofs.ds_create.Goals as goal
 
 -- src/lib.rt:100:1

@@ -1,5 +1,4 @@
 use Rattle.domain_store.proofs.Telling.{told}
-use Rattle.domain_store.proofs.ds_delete.Lts as lts
 use Rattle.domain_store.proofs.ds_delete.Goals as goal
 
 -- src/lib.rt:150:1

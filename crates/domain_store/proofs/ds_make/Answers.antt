@@ -1,5 +1,4 @@
 use Rattle.domain_store.proofs.Telling.{told}
-use Rattle.domain_store.proofs.ds_make.Lts as lts
 use Rattle.domain_store.proofs.ds_make.Goals as goal
 
 -- src/lib.rt:68:1

@@ -1,5 +1,4 @@
 use Rattle.domain_store.proofs.Telling.{told}
-use Rattle.domain_store.proofs.ds_open.Lts as lts
 use Rattle.domain_store.proofs.ds_open.Goals as goal
 
 -- src/lib.rt:84:1

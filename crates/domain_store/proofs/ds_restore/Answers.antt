@@ -1,5 +1,4 @@
 use Rattle.domain_store.proofs.Telling.{told}
-use Rattle.domain_store.proofs.ds_restore.Lts as lts
 use Rattle.domain_store.proofs.ds_restore.Goals as goal
 
 -- src/lib.rt:204:1

@@ -1,6 +1,4 @@
-use Prim.Native.Nat.{◌-◌}
 use native.Mathlib.Omega.{arith}
-use Rattle.table.specs.Entry.{depth_of}
 use Rattle.restore.proofs.Writing.{deeper_more}
 use Rattle.restore.proofs.any_deeper.Goals as goal
 

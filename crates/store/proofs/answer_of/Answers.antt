@@ -1,6 +1,5 @@
 use borrow.Author.Tests.{le-leb, lt-leb}
 use Rattle.model.specs.Answer.{ended}
-use Rattle.store.proofs.answer_of.Lts as lts
 use Rattle.store.proofs.answer_of.Goals as goal
 
 -- src/lib.rt:65:1

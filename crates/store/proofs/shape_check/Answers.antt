@@ -4,7 +4,6 @@ use borrow.Author.Tests.{not-true, not-false}
 use Rattle.table.proofs.Checks.{lengths_facts}
 use Rattle.store.specs.Checks.{shape_check}
 use Rattle.store.proofs.Checks.{ask_go, ask_stop}
-use Rattle.store.proofs.shape_check.Lts as lts
 use Rattle.store.proofs.shape_check.Goals as goal
 
 -- src/lib.rt:56:9
