@@ -171,7 +171,6 @@ def main():
                 shared[n] = t + "_lem"
     own = set(os.listdir(os.path.join(root, "crates")))
     fields = {n for n in where if any(k == "field" for w, k in where[n])}
-    fields = {n for n in where if any(k == "field" for w, k in where[n])}
     if "--list" in sys.argv:
         for n in sorted(shared):
             print(n, shared[n], *sorted({w for w, k in where[n]}))

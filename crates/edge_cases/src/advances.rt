@@ -97,7 +97,7 @@ const ADVANCES: [[u64; 5]; 73] = [
     [WRITE + 2 * C, WRITE + 4 * C, RESTORE + 2 * H, STATE, 0],
 ];
 
-pub fn show(rt: HostRuntime, m: &mut [u8], b: &mut [u8], t: &mut [u32]) {
+pub fn show(m: &mut [u8], b: &mut [u8], t: &mut [u32]) {
     let text = b"
 800 Advances that copy only what changed: a read-write cell in which memory differs from the value held. m = 4 and E = B = 8 unless said
 801 Nothing changed: 1 copies three cells, 2 holds them by copy, via parent and by rule 0. Then with each budget from 0 to 3:
@@ -116,5 +116,5 @@ pub fn show(rt: HostRuntime, m: &mut [u8], b: &mut [u8], t: &mut [u32]) {
 820 m = 8, E = 13 and B = 12. 2 holds a copy changed and one unchanged, the same via parent and by rule 3, and a read-only cell that was written; 1 holds the first six too:
 821 With each budget from 0 to 213; then an opening, zeros in the cells that changed, and restore 2:
 ";
-    play(rt, m, b, t, &ADVANCES, text);
+    play(m, b, t, &ADVANCES, text);
 }

@@ -51,7 +51,7 @@ const CASES: [[u64; 5]; 36] = [
     [TEXT + 17 * T, WRITE + Y, COMMIT + H, STATE, 0],
 ];
 
-pub fn show(rt: HostRuntime, m: &mut [u8], b: &mut [u8], t: &mut [u32]) {
+pub fn show(m: &mut [u8], b: &mut [u8], t: &mut [u32]) {
     let text = b"
 200 The use cases of the containment domain API of 2012. Cells 0, 1 and 2 are x, y and z; a cell that a case does not use is filled with 5
 201 One domain recovers a loop. x is the data and starts as 10, y is the flag \"done\" and starts as 0. Domain 1 copies both read-write:
@@ -72,5 +72,5 @@ pub fn show(rt: HostRuntime, m: &mut [u8], b: &mut [u8], t: &mut [u32]) {
 216 The calculator returned; x rises to 1, an error, restore:
 217 x rises to 1, no error, commit:
 ";
-    play(rt, m, b, t, &CASES, text);
+    play(m, b, t, &CASES, text);
 }

@@ -54,7 +54,7 @@ const CALLS: [[u64; 5]; 49] = [
     [AGAIN + 22 * T, RESTORE + 3 * H, STATE, 0, 0],
 ];
 
-pub fn show(rt: HostRuntime, m: &mut [u8], b: &mut [u8], t: &mut [u32]) {
+pub fn show(m: &mut [u8], b: &mut [u8], t: &mut [u32]) {
     let text = b"
 400 Labels, kinds and values, with m = 4 and E = B = 8; memory is 7 throughout
 401 A copy of its own:
@@ -78,5 +78,5 @@ pub fn show(rt: HostRuntime, m: &mut [u8], b: &mut [u8], t: &mut [u32]) {
 421 Restore 2 leaves what look showed with handle 2:
 422 Restore 3 leaves what look showed with handle 3:
 ";
-    play(rt, m, b, t, &CALLS, text);
+    play(m, b, t, &CALLS, text);
 }

@@ -58,7 +58,7 @@ const CUTS: [[u64; 5]; 48] = [
     [SWEEP + 73 * S, ADVANCE, OPEN, SAME, STATE],
 ];
 
-pub fn show(rt: HostRuntime, m: &mut [u8], b: &mut [u8], t: &mut [u32]) {
+pub fn show(m: &mut [u8], b: &mut [u8], t: &mut [u32]) {
     let text = b"
 300 A channel's scales, and a card that drops out inside an advance. Cycle 1 keeps 16 scales of 1, tile 2 relies on it, channel 3 keeps a copy of its own and sets them to 2:
 301 The advance with each budget from 0 to 73; then an opening, a cell of zeros, restore 3, a cell of zeros again, and restore 1:
@@ -78,5 +78,5 @@ pub fn show(rt: HostRuntime, m: &mut [u8], b: &mut [u8], t: &mut [u32]) {
 325 Commit a domain, of which one cell moves, with each budget from 0 to 15:
 326 Advance over one read-write cell, copied as 7 and now 9, with each budget from 0 to 73:
 ";
-    play(rt, m, b, t, &CUTS, text);
+    play(m, b, t, &CUTS, text);
 }

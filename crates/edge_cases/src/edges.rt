@@ -56,7 +56,7 @@ const MEMORIES: u64 = LEND + 64 * BB + 42 * TW;
 
 const BODY_RUNS: u64 = LEND + 64 * MB + 42 * TW;
 
-pub fn show(rt: HostRuntime, m: &mut [u8], b: &mut [u8], t: &mut [u32]) {
+pub fn show(m: &mut [u8], b: &mut [u8], t: &mut [u32]) {
     let text = b"
 100 The edges of document 01; * marks the proved set. m = 4 and E = B = 8 unless said; memory is 7 1 2 3, or 7 throughout where E or B is small
 101 * Domain 1 copies cell 0 = 7 read-write; write 9; restore 1: 7.
@@ -77,5 +77,5 @@ pub fn show(rt: HostRuntime, m: &mut [u8], b: &mut [u8], t: &mut [u32]) {
 116 Memory of 64m bytes, m from 1 to 65,536.
 117 Bodies of 64B bytes, B from 1 to 4,096.
 ";
-    play(rt, m, b, t, &EDGES, text);
+    play(m, b, t, &EDGES, text);
 }

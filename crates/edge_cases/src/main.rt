@@ -23,13 +23,6 @@ mod text;
 
 ghost use Rattle.std.specs.Prelude.{◌≡◌, length};
 
-// The four sets of `sets`.
-fn memory() -> [u8; 4096]
-    ensures { 4096 ≡ length result }
-{
-    [0; 4096]
-}
-
 // One body and one entry more than allowed.
 fn bodies() -> [u8; 262208]
     ensures { 262208 ≡ length result }
@@ -43,17 +36,17 @@ fn tables() -> [u32; 24618]
     [0; 24618]
 }
 
-fn main(rt: HostRuntime) {
-    let mut m = memory();
+fn main() {
+    let mut m = io::buffer();
     let mut b = bodies();
     let mut t = tables();
-    edges::show(rt, &mut m, &mut b, &mut t);
-    api::show(rt, &mut m, &mut b, &mut t);
-    cuts::show(rt, &mut m, &mut b, &mut t);
-    calls::show(rt, &mut m, &mut b, &mut t);
-    refusals::show(rt, &mut m, &mut b, &mut t);
-    rules::show(rt, &mut m, &mut b, &mut t);
-    advances::show(rt, &mut m, &mut b, &mut t);
-    several::show(rt, &mut m, &mut b, &mut t);
-    outer::show(rt, &mut m, &mut b, &mut t);
+    edges::show(&mut m, &mut b, &mut t);
+    api::show(&mut m, &mut b, &mut t);
+    cuts::show(&mut m, &mut b, &mut t);
+    calls::show(&mut m, &mut b, &mut t);
+    refusals::show(&mut m, &mut b, &mut t);
+    rules::show(&mut m, &mut b, &mut t);
+    advances::show(&mut m, &mut b, &mut t);
+    several::show(&mut m, &mut b, &mut t);
+    outer::show(&mut m, &mut b, &mut t);
 }

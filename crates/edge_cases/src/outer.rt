@@ -146,7 +146,7 @@ const ROOM: [[u64; 5]; 59] = [
     [WRITE + 2 * C, WRITE + 6 * C, RESTORE + H, STATE, 0],
 ];
 
-fn show_room(rt: HostRuntime, m: &mut [u8], b: &mut [u8], t: &mut [u32]) {
+fn show_room(m: &mut [u8], b: &mut [u8], t: &mut [u32]) {
     let text = b"
 1040 E = B = 1, cell 0 held read-write by 2 only; advance: done. After a write: 16, which comes before 17, and with a budget of 0 too:
 1041 E = 1 and B = 2, and the write: 16. After a commit 1 holds the cell; the outermost domain gives nothing, and its advance is done:
@@ -168,10 +168,10 @@ fn show_room(rt: HostRuntime, m: &mut [u8], b: &mut [u8], t: &mut [u32]) {
 1070 m = 8; E = 13 and B = 12 are exactly enough. In 2 the cells 0, 2 and 6 changed, which 1 lacks, and 1 and 3, which 1 holds; 4 and 5 did not, and 7 is read-only. Its entries are not in the order of their cells, and places 0, 2 and 12 are free:
 1071 With each budget from 0 to 371; then an opening, zeros in the cells that are given, restore 2, the zeros again, and restore 1:
 ";
-    play(rt, m, b, t, &ROOM, text);
+    play(m, b, t, &ROOM, text);
 }
 
-pub fn show(rt: HostRuntime, m: &mut [u8], b: &mut [u8], t: &mut [u32]) {
+pub fn show(m: &mut [u8], b: &mut [u8], t: &mut [u32]) {
     let text = b"
 1000 Inner advances that keep the outer point: a read-write cell that changed is given to the next domain out, as it was held, where that one lacks it. m = 4 and E = B = 8 unless said
 1001 * Cycle 1 holds nothing, tile 2 copies cell 0 = 7 read-write, write 9, advance 2, write 11, restore 1: 7.
@@ -193,6 +193,6 @@ pub fn show(rt: HostRuntime, m: &mut [u8], b: &mut [u8], t: &mut [u32]) {
 1031 The advance with each budget from 0 to 73; then an opening, a write, restore 2, a write again, and restore 1:
 1032 2 holds cell 0 via parent and cell 1 by rule 0, read-only, and 3 copies both read-write; writes, advance 3: nothing is given. Restore 3, and restore 2:
 ";
-    play(rt, m, b, t, &GIVEN, text);
-    show_room(rt, m, b, t);
+    play(m, b, t, &GIVEN, text);
+    show_room(m, b, t);
 }

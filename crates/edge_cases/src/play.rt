@@ -20,9 +20,8 @@ const FIRST_OF_LINE: u32 = 1;
 
 const IN_LINE: u32 = 2;
 
-fn start(rt: HostRuntime) -> Play {
+fn start() -> Play {
     Play {
-        rt,
         loud: true,
         code: 0,
         lent: 0,
@@ -687,15 +686,8 @@ fn lines_of(row: u64) -> usize
     1
 }
 
-pub fn play(
-    rt: HostRuntime,
-    m: &mut [u8],
-    b: &mut [u8],
-    t: &mut [u32],
-    x: &[[u64; 5]],
-    text: &[u8],
-) {
-    let mut p = start(rt);
+pub fn play(m: &mut [u8], b: &mut [u8], t: &mut [u32], x: &[[u64; 5]], text: &[u8]) {
+    let mut p = start();
     let mut i: usize = 0;
     while i < x.len() {
         let n = lines_of(x[i][0]);

@@ -108,7 +108,7 @@ const QUESTIONS: [[u64; 5]; 41] = [
     [FRESH + E + B + 7 * Y + 28 * T, CREATE, ADD + 2 * N, 0, 0],
 ];
 
-fn show_damages(rt: HostRuntime, m: &mut [u8], b: &mut [u8], t: &mut [u32]) {
+fn show_damages(m: &mut [u8], b: &mut [u8], t: &mut [u32]) {
     let text = b"
 500 A sound store with two domains, m = 4 and E = B = 8, and then one thing wrong in it at a time
 501 As it was
@@ -149,11 +149,11 @@ fn show_damages(rt: HostRuntime, m: &mut [u8], b: &mut [u8], t: &mut [u32]) {
 574 A pair that sets word 4 to 9
 575 Word 4 is 9, and a pair sets it to 2
 ";
-    play(rt, m, b, t, &DAMAGES, text);
+    play(m, b, t, &DAMAGES, text);
 }
 
-pub fn show(rt: HostRuntime, m: &mut [u8], b: &mut [u8], t: &mut [u32]) {
-    show_damages(rt, m, b, t);
+pub fn show(m: &mut [u8], b: &mut [u8], t: &mut [u32]) {
+    show_damages(m, b, t);
     let text = b"
 600 A sound store with two domains, in which 3 was committed, and cell 1 was written since 1 copied it
 605 Question 5, the handle:
@@ -173,5 +173,5 @@ pub fn show(rt: HostRuntime, m: &mut [u8], b: &mut [u8], t: &mut [u32]) {
 627 E = 2 and B = 1, add two cells:
 628 E = B = 1, add two cells; 16 comes before 17:
 ";
-    play(rt, m, b, t, &QUESTIONS, text);
+    play(m, b, t, &QUESTIONS, text);
 }

@@ -97,7 +97,7 @@ const RULES: [[u64; 5]; 69] = [
     [SWEEP + 129 * S, RESTORE + H, PREFIX + 128 * N, STATE, OPEN],
 ];
 
-pub fn show(rt: HostRuntime, m: &mut [u8], b: &mut [u8], t: &mut [u32]) {
+pub fn show(m: &mut [u8], b: &mut [u8], t: &mut [u32]) {
     let text = b"
 700 Cells that follow a pattern: by rule 0 a cell is filled with 0, by rule 1 with 255, by rule 2 it has 0..63, by rule 3 it repeats 0.0.128.63. m = 4 and E = B = 8 unless said
 701 Each rule, read-only: added, written over, looked at, left as it is by an advance, restored:
@@ -123,5 +123,5 @@ pub fn show(rt: HostRuntime, m: &mut [u8], b: &mut [u8], t: &mut [u32]) {
 732 Add cell 0 by rule 0, with each budget from 0 to 9, and then an opening:
 733 A restore of cells by rules 2 and 3, with each budget from 0 to 129, and then an opening:
 ";
-    play(rt, m, b, t, &RULES, text);
+    play(m, b, t, &RULES, text);
 }

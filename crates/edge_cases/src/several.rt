@@ -87,7 +87,7 @@ const RANGES: [[u64; 5]; 54] = [
     [RESTORE + 2 * H, STATE, 0, 0, 0],
 ];
 
-pub fn show(rt: HostRuntime, m: &mut [u8], b: &mut [u8], t: &mut [u32]) {
+pub fn show(m: &mut [u8], b: &mut [u8], t: &mut [u32]) {
     let text = b"
 900 Several ranges in one add: all are held or none, and a range finds held what one before it took. m = 4 and E = B = 8 unless said
 901 One range, after the plain add of it; then with each budget from 0 to 143:
@@ -108,5 +108,5 @@ pub fn show(rt: HostRuntime, m: &mut [u8], b: &mut [u8], t: &mut [u32]) {
 920 Nine ranges of a tile. m = E = 16 and B = 8; cycle 1 holds cells 2 and 3, and an entry and a body in front of theirs are free:
 921 With each budget from 0 to 389; then an opening, writes to two cells of the tile, and restore 2:
 ";
-    play(rt, m, b, t, &RANGES, text);
+    play(m, b, t, &RANGES, text);
 }

@@ -1,16 +1,11 @@
 // What is printed. A sweep asks first whether two budgets give the same text: so text is told to a Play, which is loud and writes it, or only
 // keeps a code of it.
-ghost use Rattle.std.specs.Prelude.{◌≤◌};
-
-use std::io;
-use std::io::Write;
 use store::{Answer, Listing};
 
-// Where text goes, whether it is written, the code of what was said, the lent lengths as LEND has them, the row of the store, the next call's
-// budget, a sweep's budget, and how acts stand in lines.
+// Whether text is written, the code of what was said, the lent lengths as LEND has them, the row of the store, the next call's budget, a sweep's
+// budget, and how acts stand in lines.
 #[derive(Clone, Copy)]
 pub struct Play {
-    pub rt: HostRuntime,
     pub loud: bool,
     pub code: u64,
     pub lent: u64,
@@ -35,36 +30,19 @@ pub fn wide(byte: u8) -> u64 {
     byte as u64
 }
 
-// A write that fails stops nothing: what is missing shows where the output is compared with the file `stdout`.
 pub fn say(mut p: Play, text: &[u8]) -> Play {
     p.code = coded(p.code, text);
     if p.loud {
-        let _ = io::writer(&p.rt).write_all(text);
+        io::write_all(1, text);
     }
     p
-}
-
-// Puts the digits of a number last in these places, of which a number of 64 bits needs twenty at most, and gives the place of the first.
-fn decimal(n: u64, digits: &mut [u8; 20]) -> usize
-    ensures { result ≤ 20 }
-{
-    let mut rest = n;
-    for i in 0..20 {
-        let place = 19 - i;
-        digits[place] = 48 + (rest % 10) as u8;
-        rest /= 10;
-        if rest == 0 {
-            return place;
-        }
-    }
-    0
 }
 
 // A text, and a number after it.
 pub fn say_long(p: Play, name: &[u8], n: u64) -> Play {
     let mut digits = [0u8; 20];
-    let first = decimal(n, &mut digits);
-    say(say(p, name), &digits[first..])
+    let k = io::decimal(n, &mut digits);
+    say(say(p, name), &digits[..k])
 }
 
 pub fn say_field(p: Play, name: &[u8], n: u32) -> Play {
