@@ -5,7 +5,8 @@ usage: python3 tools/respell.py [--list]     at the top of the repository, once,
 
 The names are gathered from the definitions, fields and constructors of specs/ and proofs/. They are replaced in .antt files, in the clauses
 and the comments of .rt files, and in must-fail edits; in a comment a name with a dash only where it stands in backticks. Names of functions,
-types and constants of src/, exported names, strings and the labels of clauses stay. With --list it writes what it would do, and nothing else.
+types and constants of src/, exported names, strings and the labels of clauses stay, but for those labels that port.py made up. With --list it
+writes what it would do, and nothing else.
 """
 import collections
 import glob
@@ -23,6 +24,12 @@ NOT_OURS = {"goal", "tie", "arith", "rules"}
 LOCAL = {"crates/advance/proofs/Turning.antt": {"turns_at": "turned_here"}}
 # Lemmas that port.py had given the name that a definition now gets, and a field that would have the name of a definition in its type.
 OTHERWISE = {"by_number": "by_number_lem", "cut_inside": "cut_inside_lem", "kept_byte": "kept_byte_lem", "advance-steps": "advance_step_count"}
+# Labels that port.py made of a clause's first fact, where a function has several clauses of a kind and had named none.
+LABELS = {
+    "slots_le_max_slots": "sizes", "i_lt_slots": "sizes", "i_lt_top": "sizes", "table_bound": "sizes", "k_bound": "sizes", "count_in_bounds": "sizes",
+    "cell_lt_max_cells": "cell", "cell_size_in_bounds": "cell", "cell_size_in_bounds_2": "body", "from_le_cells": "passed", "table_value": "rule",
+    "seen_len_bound": "blank", "ends_at": "stages", "vias_markable": "vias", "by_index": "pairs",
+}
 TYPES = {"allStopped": "AllStopped", "offsetWithin": "OffsetWithin", "placeWithin": "PlaceWithin", "wrOk": "WrOk"}
 
 
@@ -194,7 +201,7 @@ def main():
         open(p, "w", encoding="utf-8").write(new)
     for p in files(root, ["src/**/*.rt"]):
         t = open(p, encoding="utf-8").read()
-        new = rt(t, shared)
+        new = re.sub(r"(?m)^(\s+(?:requires|ensures) )(\w+)(?= \{)", lambda m: m.group(1) + LABELS.get(m.group(2), m.group(2)), rt(t, shared))
         if new != t:
             open(p, "w", encoding="utf-8").write(new)
     for p in files(root, ["must-fail/*.edit"]):

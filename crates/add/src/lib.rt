@@ -169,9 +169,9 @@ fn value_number(
     depth: u32,
     cell: usize,
 ) -> u32
-    requires slots_le_max_slots { (slots ≤ max_slots) × (pairs_at slots ≤ length table.now) × (depth ≤ live table.now) × (live table.now ≤ max_live)
+    requires sizes { (slots ≤ max_slots) × (pairs_at slots ≤ length table.now) × (depth ≤ live table.now) × (live table.now ≤ max_live)
         × CellsOnce slots table.now slots × EndsAt slots table.now top }
-    requires cell_lt_max_cells { (cell < max_cells) × (cell_at cell + cell_size ≤ length memory.now) × Source slots table.now bodies.now depth cell }
+    requires cell { (cell < max_cells) × (cell_at cell + cell_size ≤ length memory.now) × Source slots table.now bodies.now depth cell }
     ensures { result ≡ value_number memory.now bodies.now slots table.now depth cell }
 {
     match find_value(table, slots, top, depth, cell as u32, last, before) {
@@ -199,9 +199,9 @@ fn cell_number(
     seen: usize,
     cell: usize,
 ) -> u32
-    requires slots_le_max_slots { (slots ≤ max_slots) × (pairs_at slots ≤ length table.now) × (1 ≤ depth) × (depth ≤ live table.now) × (live table.now ≤ max_live)
+    requires sizes { (slots ≤ max_slots) × (pairs_at slots ≤ length table.now) × (1 ≤ depth) × (depth ≤ live table.now) × (live table.now ≤ max_live)
         × CellsOnce slots table.now slots × EndsAt slots table.now top }
-    requires cell_lt_max_cells { (cell < max_cells) × (cell_at cell + cell_size ≤ length memory.now) × (cell < cells_in held.now) × Listed seen list.now }
+    requires cell { (cell < max_cells) × (cell_at cell + cell_size ≤ length memory.now) × (cell < cells_in held.now) × Listed seen list.now }
     requires source { fresh_to held.now depth (ranges_in seen list.now) cell ≡ true → Source slots table.now bodies.now (parent depth) cell }
     ensures { result ≡ cell_number memory.now bodies.now slots table.now depth
         (fresh_to held.now depth (ranges_in seen list.now)) cell }

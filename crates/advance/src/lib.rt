@@ -80,7 +80,7 @@ fn mark_changed(
     bits: &mut [u64],
 ) -> usize
     requires comparable { Comparable memory.now bodies.now slots table.now top live seen.now }
-    requires seen_len_bound { (length seen.now ≤ block_at (length bits.old)) × Blank bits.old }
+    requires blank { (length seen.now ≤ block_at (length bits.old)) × Blank bits.old }
     ensures counted { result ≡ count slots (entry_changed memory.now bodies.now slots table.now live) }
     ensures bits { ChangedBits memory.now bodies.now slots table.now live seen.now bits.new }
 {
@@ -107,7 +107,7 @@ fn changed_plain(
     bits: &mut [u64],
 ) -> usize
     requires comparable { Comparable memory.now bodies.now slots table.now top live seen.now }
-    requires seen_len_bound { (length seen.now ≤ block_at (length bits.old)) × Blank bits.old }
+    requires blank { (length seen.now ≤ block_at (length bits.old)) × Blank bits.old }
     ensures counted { result ≡ count slots (entry_changed memory.now bodies.now slots table.now live) }
     ensures bits { ChangedBits memory.now bodies.now slots table.now live seen.now bits.new }
 {
@@ -129,7 +129,7 @@ fn changed_few(
     bits: &mut [u64],
 ) -> usize
     requires comparable { Comparable memory.now bodies.now slots table.now top live seen.now }
-    requires seen_len_bound { (length seen.now ≤ block_at (length bits.old)) × Blank bits.old }
+    requires blank { (length seen.now ≤ block_at (length bits.old)) × Blank bits.old }
     ensures counted { result ≡ count slots (entry_changed memory.now bodies.now slots table.now live) }
     ensures bits { ChangedBits memory.now bodies.now slots table.now live seen.now bits.new }
 {
@@ -153,7 +153,7 @@ fn changed_many(
     bits: &mut [u64],
 ) -> usize
     requires comparable { Comparable memory.now bodies.now slots table.now top live seen.now }
-    requires seen_len_bound { (length seen.now ≤ block_at (length bits.old)) × Blank bits.old }
+    requires blank { (length seen.now ≤ block_at (length bits.old)) × Blank bits.old }
     ensures counted { result ≡ count slots (entry_changed memory.now bodies.now slots table.now live) }
     ensures bits { ChangedBits memory.now bodies.now slots table.now live seen.now bits.new }
 {
@@ -191,7 +191,7 @@ fn changed_cells(
     bits: &mut [u64],
 ) -> usize
     requires comparable { Comparable memory.now bodies.now slots table.now top live seen.now }
-    requires seen_len_bound { (length seen.now ≤ block_at (length bits.old)) × Blank bits.old }
+    requires blank { (length seen.now ≤ block_at (length bits.old)) × Blank bits.old }
     ensures counted { result ≡ count slots (entry_changed memory.now bodies.now slots table.now live) }
     ensures bits { ChangedBits memory.now bodies.now slots table.now live seen.now bits.new }
 {
@@ -269,7 +269,7 @@ fn entries_check(
     bits: &mut [u64],
 ) -> Asked
     requires comparable { Comparable memory.now bodies.now slots table.now top (live table.now) seen.now }
-    requires seen_len_bound { (length seen.now ≤ block_at (length bits.old)) × Blank bits.old }
+    requires blank { (length seen.now ≤ block_at (length bits.old)) × Blank bits.old }
     ensures no { result.no ≡ entries_check memory.now bodies.now slots table.now }
     ensures given { result.given ≡ count slots (entry_given memory.now bodies.now slots table.now) }
     ensures bits { ChangedBits memory.now bodies.now slots table.now (live table.now) seen.now bits.new }

@@ -59,7 +59,7 @@ fn commit_check(
 // Has the marks tell of the innermost depth which cells it holds read-write. The outermost domain has no parent whose entries could be
 // raised, so that nothing is asked of its marks.
 fn tell_writable(table: &[u32], slots: usize, top: usize, live: u32, seen: &mut [u8])
-    requires slots_le_max_slots { (slots ≤ max_slots) × (pairs_at slots ≤ length table.now) × EndsAt slots table.now top × (1 ≤ live) × (live ≤ max_live) }
+    requires sizes { (slots ≤ max_slots) × (pairs_at slots ≤ length table.now) × EndsAt slots table.now top × (1 ≤ live) × (live ≤ max_live) }
     requires kept { Kept seen.old × Marked slots table.now slots seen.old × CellsOnce slots table.now slots }
     ensures { TellsBoth slots table.now live seen.new }
 {

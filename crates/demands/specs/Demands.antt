@@ -55,7 +55,7 @@ use Rattle.domain_store.proofs.ds_list.Statement as ds_list_contract
 use Rattle.domain_store.proofs.ds_look.Statement as ds_look_contract
 use Rattle.demands.specs.Session.{plain_add, call_on, input_on, session, buffers_after, was_stopped, opening_rule}
 
--- ---- the proved contract of each exported call, and of the eleven functions of C
+-- ---- the proved contract of each exported call, and of the eleven functions that the exports of C call (domain_store_c, with the same contracts)
 
 pub record Proved (M : Type 1) : Type 2 where
   pub of_make : make_contract.statement M

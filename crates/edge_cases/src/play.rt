@@ -157,8 +157,7 @@ fn batch_of(list: u32) -> Batch {
     batch
 }
 
-// A program in Rattle gathers the ranges itself, since the checker covers no function that makes a slice of structs: `add_ranges` and the C function
-// put theirs into such a batch. These two are tried from C and from Rust.
+// The ranges are gathered here into such a batch as `add_ranges` and the C function make of theirs. These two are tried from C and from Rust.
 fn call_adds(m: &[u8], b: &mut [u8], t: &mut [u32], row: u64, n: usize) -> Answer {
     let batch = batch_of(field(row, C));
     add::add_batch(m, b, t, field(row, H), batch, n)

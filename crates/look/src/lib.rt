@@ -63,7 +63,7 @@ fn look_check(
 
 // The place of a cell's bytes in a table that passed the questions. The entries from `top` on are free.
 fn find_place(table: &[u32], slots: usize, top: usize, depth: u32, cell: u32) -> Place
-    requires slots_le_max_slots { (slots ≤ max_slots) × (pairs_at slots ≤ length table.now) × EndsAt slots table.now top × (live table.now ≤ max_live) × (1 ≤ depth) }
+    requires sizes { (slots ≤ max_slots) × (pairs_at slots ≤ length table.now) × EndsAt slots table.now top × (live table.now ≤ max_live) × (1 ≤ depth) }
     requires cells_once { CellsOnce slots table.now slots × HasSource slots table.now depth cell }
     ensures { result ≡ place_in slots table.now depth cell }
 {

@@ -1,7 +1,7 @@
 // What an add names: a lent list of records, each with first cell, count, kind, rule and label (document 02, A.3).
 //
-// One thin walk reads the lent slice of structs: it takes each record apart and gives its
-// numbers to `keep`, which puts them into a batch, five numbers for each record. All that follows reads these numbers. No table is known here.
+// One thin walk reads the lent slice of structs: it takes each record apart and gives its numbers to `keep`, which puts them into a batch, five
+// numbers for each record. All that follows reads these numbers. No table is known here.
 //
 // A list is stored in the order of the cells and not of the records, so it is told in segments: cells that lie beside each other and of which
 // the same is asked. The records are put into the order of their first cells. Where, so ordered, each ends before the next one begins, the
@@ -419,7 +419,7 @@ pub fn next_segment(
     cells: usize,
 ) -> Segment
     requires listed { Listed n list.now × Within cells n list.now × NoneEmpty n list.now × Orders n order.now × (rising ≡ true → RisingBy n list.now order.now) }
-    requires from_le_cells { (from ≤ cells) × Passed n list.now order.now rising next from }
+    requires passed { (from ≤ cells) × Passed n list.now order.now rising next from }
     ensures { Next cells n list.now order.now rising from result }
 {
     if rising {

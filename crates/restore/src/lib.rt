@@ -143,8 +143,8 @@ fn put_held(
     before: &[u16],
     budget: usize,
 ) -> usize
-    requires slots_le_max_slots { (slots ≤ max_slots) × (pairs_at slots ≤ length table.now) × (1 ≤ depth) × (cell < max_cells) × (cell_at cell + cell_size ≤ length memory.old) }
-    requires table_value { (rule_ok (cells_of (length memory.old)) slots (bodies_of (length bodies.now)) table.now ≡ true) × Holders slots table.now depth cell held × EndsAt slots table.now top }
+    requires sizes { (slots ≤ max_slots) × (pairs_at slots ≤ length table.now) × (1 ≤ depth) × (cell < max_cells) × (cell_at cell + cell_size ≤ length memory.old) }
+    requires rule { (rule_ok (cells_of (length memory.old)) slots (bodies_of (length bodies.now)) table.now ≡ true) × Holders slots table.now depth cell held × EndsAt slots table.now top }
     ensures made { result ≡ length (back_plan slots table.now depth bodies.now cell) }
     ensures few { result ≤ cell_size }
     ensures bytes { memory.new ≡ stores (take budget (back_plan slots table.now depth bodies.now cell)) memory.old }
@@ -191,9 +191,9 @@ fn put_run(
     before: &[u16],
     budget: usize,
 ) -> usize
-    requires slots_le_max_slots { (slots ≤ max_slots) × (pairs_at slots ≤ length table.now) × (1 ≤ depth) × (cells_of (length memory.old) ≤ max_cells)
+    requires sizes { (slots ≤ max_slots) × (pairs_at slots ≤ length table.now) × (1 ≤ depth) × (cells_of (length memory.old) ≤ max_cells)
         × (n ≤ run_size) × (from < max_cells) × (in_group from + run_size ≤ group_size) × (from + n ≤ cells_of (length memory.old)) × Kept seen.now }
-    requires table_value { (rule_ok (cells_of (length memory.old)) slots (bodies_of (length bodies.now)) table.now ≡ true) × Tells slots table.now depth mask seen.now × EndsAt slots table.now top }
+    requires rule { (rule_ok (cells_of (length memory.old)) slots (bodies_of (length bodies.now)) table.now ≡ true) × Tells slots table.now depth mask seen.now × EndsAt slots table.now top }
     ensures made { result ≡ length (group_plan slots table.now depth bodies.now from n) }
     ensures few { result ≤ cell_size * n }
     ensures bytes { memory.new ≡ stores (take budget (group_plan slots table.now depth bodies.now from n)) memory.old }
@@ -235,8 +235,8 @@ fn put_back(
     before: &[u16],
     budget: usize,
 ) -> usize
-    requires slots_le_max_slots { (slots ≤ max_slots) × (pairs_at slots ≤ length table.now) × (1 ≤ depth) × (cells_of (length memory.old) ≤ max_cells) × Kept seen.now }
-    requires table_value { (rule_ok (cells_of (length memory.old)) slots (bodies_of (length bodies.now)) table.now ≡ true) × Tells slots table.now depth mask seen.now × EndsAt slots table.now top }
+    requires sizes { (slots ≤ max_slots) × (pairs_at slots ≤ length table.now) × (1 ≤ depth) × (cells_of (length memory.old) ≤ max_cells) × Kept seen.now }
+    requires rule { (rule_ok (cells_of (length memory.old)) slots (bodies_of (length bodies.now)) table.now ≡ true) × Tells slots table.now depth mask seen.now × EndsAt slots table.now top }
     ensures made { result ≡ length (gather (cells_of (length memory.old)) (back_plan slots table.now depth bodies.now)) }
     ensures few { result ≤ cell_size * max_cells }
     ensures bytes { memory.new
@@ -280,9 +280,9 @@ fn memory_noted(
     before: &mut [u16],
     budget: usize,
 ) -> usize
-    requires table_bound { (slots_of (length table.now) ≤ max_slots) × (pairs_at (slots_of (length table.now)) ≤ length table.now) × EndsAt (slots_of (length table.now)) table.now top
+    requires sizes { (slots_of (length table.now) ≤ max_slots) × (pairs_at (slots_of (length table.now)) ≤ length table.now) × EndsAt (slots_of (length table.now)) table.now top
         × (1 ≤ depth) × (depth ≤ max_live) × (cells_of (length memory.old) ≤ max_cells) × Kept seen.now }
-    requires table_value { (rule_ok (cells_of (length memory.old)) (slots_of (length table.now)) (bodies_of (length bodies.now)) table.now ≡ true)
+    requires rule { (rule_ok (cells_of (length memory.old)) (slots_of (length table.now)) (bodies_of (length bodies.now)) table.now ≡ true)
         × Marked (slots_of (length table.now)) table.now (slots_of (length table.now)) seen.now }
     ensures made { result ≡ length (restore_bytes (cells_of (length memory.old)) depth bodies.now table.now) }
     ensures few { result ≤ cell_size * max_cells }
@@ -307,9 +307,9 @@ fn memory_few(
     seen: &[u8],
     budget: usize,
 ) -> usize
-    requires table_bound { (slots_of (length table.now) ≤ max_slots) × (pairs_at (slots_of (length table.now)) ≤ length table.now) × EndsAt (slots_of (length table.now)) table.now top
+    requires sizes { (slots_of (length table.now) ≤ max_slots) × (pairs_at (slots_of (length table.now)) ≤ length table.now) × EndsAt (slots_of (length table.now)) table.now top
         × (1 ≤ depth) × (depth ≤ max_live) × (cells_of (length memory.old) ≤ max_cells) × Kept seen.now }
-    requires table_value { (rule_ok (cells_of (length memory.old)) (slots_of (length table.now)) (bodies_of (length bodies.now)) table.now ≡ true)
+    requires rule { (rule_ok (cells_of (length memory.old)) (slots_of (length table.now)) (bodies_of (length bodies.now)) table.now ≡ true)
         × Marked (slots_of (length table.now)) table.now (slots_of (length table.now)) seen.now }
     ensures made { result ≡ length (restore_bytes (cells_of (length memory.old)) depth bodies.now table.now) }
     ensures few { result ≤ cell_size * max_cells }
@@ -341,9 +341,9 @@ fn memory_many(
     seen: &[u8],
     budget: usize,
 ) -> usize
-    requires table_bound { (slots_of (length table.now) ≤ max_slots) × (pairs_at (slots_of (length table.now)) ≤ length table.now) × EndsAt (slots_of (length table.now)) table.now top
+    requires sizes { (slots_of (length table.now) ≤ max_slots) × (pairs_at (slots_of (length table.now)) ≤ length table.now) × EndsAt (slots_of (length table.now)) table.now top
         × (1 ≤ depth) × (depth ≤ max_live) × (cells_of (length memory.old) ≤ max_cells) × Kept seen.now }
-    requires table_value { (rule_ok (cells_of (length memory.old)) (slots_of (length table.now)) (bodies_of (length bodies.now)) table.now ≡ true)
+    requires rule { (rule_ok (cells_of (length memory.old)) (slots_of (length table.now)) (bodies_of (length bodies.now)) table.now ≡ true)
         × Marked (slots_of (length table.now)) table.now (slots_of (length table.now)) seen.now }
     ensures made { result ≡ length (restore_bytes (cells_of (length memory.old)) depth bodies.now table.now) }
     ensures few { result ≤ cell_size * max_cells }
@@ -375,9 +375,9 @@ fn restore_memory(
     seen: &[u8],
     budget: usize,
 ) -> usize
-    requires table_bound { (slots_of (length table.now) ≤ max_slots) × (pairs_at (slots_of (length table.now)) ≤ length table.now) × EndsAt (slots_of (length table.now)) table.now top
+    requires sizes { (slots_of (length table.now) ≤ max_slots) × (pairs_at (slots_of (length table.now)) ≤ length table.now) × EndsAt (slots_of (length table.now)) table.now top
         × (1 ≤ depth) × (depth ≤ max_live) × (cells_of (length memory.old) ≤ max_cells) × Kept seen.now }
-    requires table_value { (rule_ok (cells_of (length memory.old)) (slots_of (length table.now)) (bodies_of (length bodies.now)) table.now ≡ true)
+    requires rule { (rule_ok (cells_of (length memory.old)) (slots_of (length table.now)) (bodies_of (length bodies.now)) table.now ≡ true)
         × Marked (slots_of (length table.now)) table.now (slots_of (length table.now)) seen.now }
     ensures made { result ≡ length (restore_bytes (cells_of (length memory.old)) depth bodies.now table.now) }
     ensures few { result ≤ cell_size * max_cells }
@@ -443,7 +443,7 @@ fn stage_group(
     changed: &mut [u64],
     k: usize,
 )
-    requires k_bound { (group_at k < top) × (top ≤ slots) × (slots ≤ max_slots) × (length table.now ≡ table_words slots) × RoomFor top words.old changed.old }
+    requires sizes { (group_at k < top) × (top ≤ slots) × (slots ≤ max_slots) × (length table.now ≡ table_words slots) × RoomFor top words.old changed.old }
     requires stages { Stages (group_at k) (restore_change slots table.now depth) words.old changed.old }
     ensures { Stages (min top (group_at k + group_size)) (restore_change slots table.now depth) words.new changed.new }
 {
@@ -473,8 +473,8 @@ fn stage_freed(
     words: &mut [u32],
     changed: &mut [u64],
 )
-    requires slots_le_max_slots { (slots ≤ max_slots) × (length table.now ≡ table_words slots) × RoomFor top words.old changed.old }
-    requires ends_at { EndsAt slots table.now top × Stages 0 (restore_change slots table.now depth) words.old changed.old }
+    requires sizes { (slots ≤ max_slots) × (length table.now ≡ table_words slots) × RoomFor top words.old changed.old }
+    requires stages { EndsAt slots table.now top × Stages 0 (restore_change slots table.now depth) words.old changed.old }
     ensures { Stages slots (restore_change slots table.now depth) words.new changed.new }
 {
     let mut k: usize = 0;
@@ -495,9 +495,9 @@ fn end_domains(
     changed: &mut [u64],
     budget: usize,
 ) -> usize
-    requires slots_le_max_slots { (slots ≤ max_slots) × (length table.old ≡ table_words slots) × (depth ≤ live) × (live ≤ max_live)
+    requires sizes { (slots ≤ max_slots) × (length table.old ≡ table_words slots) × (depth ≤ live) × (live ≤ max_live)
         × RoomFor top words.old changed.old }
-    requires ends_at { EndsAt slots table.old top × Stages 0 (restore_change slots table.old depth) words.old changed.old }
+    requires stages { EndsAt slots table.old top × Stages 0 (restore_change slots table.old depth) words.old changed.old }
     ensures { Journaled slots (ending_words slots table.old depth live) budget table.old result table.new }
 {
     stage_freed(table, slots, top, depth, words, changed);

@@ -114,7 +114,7 @@ pub fn find_entry(
     cell: u32,
     begin: usize,
 ) -> usize
-    requires slots_le_max_slots { (slots ≤ max_slots) × (pairs_at slots ≤ length table.now) × EndsAt slots table.now top × (1 ≤ depth) }
+    requires sizes { (slots ≤ max_slots) × (pairs_at slots ≤ length table.now) × EndsAt slots table.now top × (1 ≤ depth) }
     requires cells_once { CellsOnce slots table.now slots }
     ensures { result ≡ find_in slots table.now depth cell }
 {
@@ -150,7 +150,7 @@ pub fn find_holder(
     cell: u32,
     begin: usize,
 ) -> Holder
-    requires slots_le_max_slots { (slots ≤ max_slots) × (pairs_at slots ≤ length table.now) × EndsAt slots table.now top × (live table.now ≤ max_live) × (1 ≤ from) }
+    requires sizes { (slots ≤ max_slots) × (pairs_at slots ≤ length table.now) × EndsAt slots table.now top × (live table.now ≤ max_live) × (1 ≤ from) }
     requires cells_once { CellsOnce slots table.now slots }
     ensures { result ≡ holder_in slots table.now from cell }
 {
@@ -194,7 +194,7 @@ pub fn find_source(
     last: &[u16],
     before: &[u16],
 ) -> usize
-    requires slots_le_max_slots { (slots ≤ max_slots) × (pairs_at slots ≤ length table.now) × EndsAt slots table.now top }
+    requires sizes { (slots ≤ max_slots) × (pairs_at slots ≤ length table.now) × EndsAt slots table.now top }
     requires cells_once { CellsOnce slots table.now slots }
     ensures { result ≡ source_in slots table.now depth cell }
 {
@@ -233,7 +233,7 @@ pub fn find_value(
     last: &[u16],
     before: &[u16],
 ) -> Held
-    requires slots_le_max_slots { (slots ≤ max_slots) × (pairs_at slots ≤ length table.now) × EndsAt slots table.now top × (live table.now ≤ max_live) × (1 ≤ from) }
+    requires sizes { (slots ≤ max_slots) × (pairs_at slots ≤ length table.now) × EndsAt slots table.now top × (live table.now ≤ max_live) × (1 ≤ from) }
     requires cells_once { CellsOnce slots table.now slots × HasSource slots table.now from cell }
     ensures { result ≡ value_from slots table.now from cell }
 {
@@ -265,7 +265,7 @@ pub struct InUse {
 // Both in one pass over the entries below `top`, behind which all are free. It takes no branch on what an entry holds, and counts in numbers
 // as wide as a word, so that the compiler can count several entries at once.
 pub fn count_used(table: &[u32], slots: usize, top: usize) -> InUse
-    requires slots_le_max_slots { (slots ≤ max_slots) × (pairs_at slots ≤ length table.now) × (top ≤ slots) }
+    requires sizes { (slots ≤ max_slots) × (pairs_at slots ≤ length table.now) × (top ≤ slots) }
     requires free_run { FreeRun slots table.now top slots }
     ensures { (result.entries ≡ used_slots slots table.now) × (result.copies ≡ copies slots table.now) }
 {
@@ -364,7 +364,7 @@ fn keep_entry(seen: &mut [u8], word: u32, depth: u32)
 // Takes this depth out of the mark of each cell that the domain at this depth holds read-only, so that the marks tell of this depth which
 // cells it holds read-write. The entries from `top` on are free.
 pub fn keep_writable(table: &[u32], slots: usize, top: usize, depth: u32, seen: &mut [u8])
-    requires slots_le_max_slots { (slots ≤ max_slots) × (pairs_at slots ≤ length table.now) × EndsAt slots table.now top × (1 ≤ depth) × (depth ≤ max_live) }
+    requires sizes { (slots ≤ max_slots) × (pairs_at slots ≤ length table.now) × EndsAt slots table.now top × (1 ≤ depth) × (depth ≤ max_live) }
     requires kept { Kept seen.old × Marked slots table.now slots seen.old × CellsOnce slots table.now slots }
     ensures { TellWritable slots table.now depth seen.old seen.new }
 {

@@ -162,8 +162,8 @@ fn parent_marked(seen: &[u8], word: u32) -> bool
 
 // Do the marks tell of every via parent entry that its parent has its cell? The entries from `top` on are free.
 fn parents_told(table: &[u32], slots: usize, top: usize, seen: &[u8]) -> bool
-    requires slots_le_max_slots { (slots ≤ max_slots) × (pairs_at slots ≤ length table.now) × EndsAt slots table.now top }
-    requires vias_markable { ViasMarkable slots table.now (cells_in seen.now) × ViaInner slots table.now }
+    requires sizes { (slots ≤ max_slots) × (pairs_at slots ≤ length table.now) × EndsAt slots table.now top }
+    requires vias { ViasMarkable slots table.now (cells_in seen.now) × ViaInner slots table.now }
     ensures { result ≡ all_told slots table.now seen.now }
 {
     let mut rest = true;
@@ -178,8 +178,8 @@ fn parents_told(table: &[u32], slots: usize, top: usize, seen: &[u8]) -> bool
 
 // The same where so many entries are via parent: with none there is nothing to ask.
 fn parents_ok(table: &[u32], slots: usize, top: usize, vias: usize, seen: &[u8]) -> bool
-    requires slots_le_max_slots { (slots ≤ max_slots) × (pairs_at slots ≤ length table.now) × EndsAt slots table.now top }
-    requires vias_markable { ViasMarkable slots table.now (cells_in seen.now) × ViaInner slots table.now × NoVias slots table.now slots vias }
+    requires sizes { (slots ≤ max_slots) × (pairs_at slots ≤ length table.now) × EndsAt slots table.now top }
+    requires vias { ViasMarkable slots table.now (cells_in seen.now) × ViaInner slots table.now × NoVias slots table.now slots vias }
     ensures { result ≡ all_told slots table.now seen.now }
 {
     if vias == 0 {
@@ -356,7 +356,7 @@ fn pass_entry(
     seen: &mut [u8],
     used: &mut [u8],
 ) -> bool
-    requires i_lt_slots { (i < slots) × (slots ≤ max_slots) × (pairs_at slots ≤ length table.now) × (live table.now ≤ max_live)
+    requires sizes { (i < slots) × (slots ≤ max_slots) × (pairs_at slots ≤ length table.now) × (live table.now ≤ max_live)
         × (cells ≤ max_cells) × Room (i + 1) cells seen.old × (bodies ≤ length used.old) }
     requires passed { Passed cells slots bodies table.now i seen.old used.old }
     ensures right { result ≡ true → Passed cells slots bodies table.now (i + 1) seen.new used.new }
@@ -398,7 +398,7 @@ fn pass_entries(
     seen: &mut [u8],
     used: &mut [u8],
 ) -> Pass
-    requires slots_le_max_slots { (slots ≤ max_slots) × (pairs_at slots ≤ length table.now) × (live table.now ≤ max_live)
+    requires sizes { (slots ≤ max_slots) × (pairs_at slots ≤ length table.now) × (live table.now ≤ max_live)
         × (cells ≤ max_cells) × EndsAt slots table.now top × Room top cells seen.old × (bodies ≤ length used.old) }
     requires blank { Blank seen.old × Blank used.old }
     ensures right { result.right ≡ true → PassedAll cells slots bodies table.now top result.vias result.rules seen.new used.new }
@@ -431,7 +431,7 @@ fn pass_entries(
 
 // One entry: it is marked if it follows a rule. False where its depth has its cell already.
 fn mark_rule(table: &[u32], slots: usize, top: usize, i: usize, seen: &mut [u8]) -> bool
-    requires i_lt_top { (i < top) × (top ≤ slots) × (slots ≤ max_slots) × (pairs_at slots ≤ length table.now) }
+    requires sizes { (i < top) × (top ≤ slots) × (slots ≤ max_slots) × (pairs_at slots ≤ length table.now) }
     requires rules_marked { RulesMarked slots table.now top i seen.old }
     ensures right { result ≡ true → RulesMarked slots table.now top (i + 1) seen.new }
     ensures wrong { result ≡ false → CellsOnce slots table.now slots → ⊥ }
@@ -445,7 +445,7 @@ fn mark_rule(table: &[u32], slots: usize, top: usize, i: usize, seen: &mut [u8])
 
 // All of them. The entries from `top` on are free.
 fn mark_rules(table: &[u32], slots: usize, top: usize, seen: &mut [u8]) -> bool
-    requires slots_le_max_slots { (slots ≤ max_slots) × (pairs_at slots ≤ length table.now) × EndsAt slots table.now top }
+    requires sizes { (slots ≤ max_slots) × (pairs_at slots ≤ length table.now) × EndsAt slots table.now top }
     requires rules_marked { RulesMarked slots table.now top 0 seen.old }
     ensures right { result ≡ true → CellsOnce slots table.now slots × Marked slots table.now slots seen.new × Kept seen.new }
     ensures wrong { result ≡ false → CellsOnce slots table.now slots → ⊥ }
@@ -472,7 +472,7 @@ fn rule_ok(
     seen: &mut [u8],
     used: &mut [u8],
 ) -> bool
-    requires slots_le_max_slots { (slots ≤ max_slots) × (pairs_at slots ≤ length table.now) × (bodies ≤ max_bodies) × EndsAt slots table.now top
+    requires sizes { (slots ≤ max_slots) × (pairs_at slots ≤ length table.now) × (bodies ≤ max_bodies) × EndsAt slots table.now top
         × Room top cells seen.old × (bodies ≤ length used.old) }
     requires blank { Blank seen.old × Blank used.old }
     ensures value { result ≡ rule_ok cells slots bodies table.now }
@@ -558,8 +558,8 @@ fn copy_words(table: &[u32], count: usize, copy: &mut [u32])
 
 // Puts so many pairs in place in a copy of the words in front of them.
 fn put_pairs(table: &[u32], first: usize, count: usize, copy: &mut [u32])
-    requires count_in_bounds { (first + 2 * count ≤ length table.now) × (first ≤ length copy.old) }
-    requires by_index { ((j : ℕ) → j < count → get_or table.now (first + 2 * j) 0 < first) × ((k : ℕ) → k < first → get_or copy.old k 0 ≡ get_or table.now k 0) }
+    requires sizes { (first + 2 * count ≤ length table.now) × (first ≤ length copy.old) }
+    requires pairs { ((j : ℕ) → j < count → get_or table.now (first + 2 * j) 0 < first) × ((k : ℕ) → k < first → get_or copy.old k 0 ≡ get_or table.now k 0) }
     ensures { (k : ℕ) → k < first → get_or copy.new k 0 ≡ get_or (stores (pairs table.now first count) table.now) k 0 }
 {
     let mut j: usize = 0;
@@ -586,7 +586,7 @@ fn pending_ok(
     seen: &mut [u8],
     used: &mut [u8],
 ) -> bool
-    requires slots_le_max_slots { (slots ≤ max_slots) × (length table.now ≡ table_words slots) × (bodies ≤ max_bodies)
+    requires sizes { (slots ≤ max_slots) × (length table.now ≡ table_words slots) × (bodies ≤ max_bodies)
         × (pairs_ok slots table.now ≡ true) × Room slots cells seen.old × (bodies ≤ length used.old) }
     requires blank { Blank seen.old × Blank used.old }
     ensures { result ≡ rule_ok cells slots bodies (effective (pairs_at slots) table.now) }
@@ -608,7 +608,7 @@ pub fn idle_ok(
     seen: &mut [u8],
     used: &mut [u8],
 ) -> bool
-    requires slots_le_max_slots { (slots ≤ max_slots) × (length table.now ≡ table_words slots) × (bodies ≤ max_bodies) × EndsAt slots table.now top
+    requires sizes { (slots ≤ max_slots) × (length table.now ≡ table_words slots) × (bodies ≤ max_bodies) × EndsAt slots table.now top
         × Room top cells seen.old × (bodies ≤ length used.old) }
     requires blank { Blank seen.old × Blank used.old × (pending table.now ≡ 0) }
     ensures value { result ≡ table_ok cells slots bodies table.now }
@@ -627,7 +627,7 @@ pub fn table_ok(
     seen: &mut [u8],
     used: &mut [u8],
 ) -> bool
-    requires slots_le_max_slots { (slots ≤ max_slots) × (length table.now ≡ table_words slots) × (bodies ≤ max_bodies) × Reaches slots table.now top
+    requires sizes { (slots ≤ max_slots) × (length table.now ≡ table_words slots) × (bodies ≤ max_bodies) × Reaches slots table.now top
         × Room top cells seen.old × (bodies ≤ length used.old) }
     requires blank { Blank seen.old × Blank used.old }
     ensures { result ≡ table_ok cells slots bodies table.now }

@@ -21,8 +21,8 @@ use words::{same_cell, wide};
 // Has memory in this cell what an entry with these words has of its own: the bytes of its rule, or its body? Either way it is one comparison of
 // 64 bytes.
 fn has_own(memory: &[u8], cell: usize, bodies: &[u8], first: u32, second: u32) -> bool
-    requires cell_size_in_bounds { cell_at cell + cell_size ≤ length memory.now }
-    requires cell_size_in_bounds_2 { is_pattern first ≡ false → cell_at second + cell_size ≤ length bodies.now }
+    requires cell { cell_at cell + cell_size ≤ length memory.now }
+    requires body { is_pattern first ≡ false → cell_at second + cell_size ≤ length bodies.now }
     ensures { result ≡ same_cell (own_value bodies.now first second) (cell_bytes memory.now cell) }
 {
     if is_pattern(first) {
@@ -42,7 +42,7 @@ fn source_of(
     last: &[u16],
     before: &[u16],
 ) -> usize
-    requires i_lt_slots { (i < slots) × (slots ≤ max_slots) × (pairs_at slots ≤ length table.now) × EndsAt slots table.now top }
+    requires sizes { (i < slots) × (slots ≤ max_slots) × (pairs_at slots ≤ length table.now) × EndsAt slots table.now top }
     requires cells_once { CellsOnce slots table.now slots × (1 ≤ depth_of (word1 slots table.now i))
         × (find_in slots table.now (depth_of (word1 slots table.now i)) (cell_of (word1 slots table.now i)) ≡ i) }
     ensures { result ≡ source_in slots table.now (depth_of (word1 slots table.now i)) (cell_of (word1 slots table.now i)) }
@@ -73,8 +73,8 @@ fn is_unchanged(
     last: &[u16],
     before: &[u16],
 ) -> bool
-    requires i_lt_slots { (i < slots) × (slots ≤ max_slots) × (pairs_at slots ≤ length table.now) × EndsAt slots table.now top }
-    requires table_value { (rule_ok (cells_of (length memory.now)) slots (bodies_of (length bodies.now)) table.now ≡ true) × (1 ≤ depth_of (word1 slots table.now i)) }
+    requires sizes { (i < slots) × (slots ≤ max_slots) × (pairs_at slots ≤ length table.now) × EndsAt slots table.now top }
+    requires rule { (rule_ok (cells_of (length memory.now)) slots (bodies_of (length bodies.now)) table.now ≡ true) × (1 ≤ depth_of (word1 slots table.now i)) }
     ensures { result ≡ unchanged memory.now bodies.now slots table.now
         (depth_of (word1 slots table.now i)) (cell_of (word1 slots table.now i)) }
 {
@@ -108,8 +108,8 @@ pub fn entry_changed(
     last: &[u16],
     before: &[u16],
 ) -> bool
-    requires i_lt_slots { (i < slots) × (slots ≤ max_slots) × (pairs_at slots ≤ length table.now) × EndsAt slots table.now top × (1 ≤ depth) }
-    requires table_value { rule_ok (cells_of (length memory.now)) slots (bodies_of (length bodies.now)) table.now ≡ true }
+    requires sizes { (i < slots) × (slots ≤ max_slots) × (pairs_at slots ≤ length table.now) × EndsAt slots table.now top × (1 ≤ depth) }
+    requires rule { rule_ok (cells_of (length memory.now)) slots (bodies_of (length bodies.now)) table.now ≡ true }
     ensures { result ≡ entry_changed memory.now bodies.now slots table.now depth i }
 {
     if !writes_word(first_word(table, slots, i), depth) {

@@ -15,7 +15,7 @@ returns-then-not-is_new c =
 
 pub value_number-requires : goal.value_number-requires
 value_number-requires c =
-    record { slots_le_max_slots = (c.requires.slots_le_max_slots.0, c.requires.slots_le_max_slots.1, omega (arith, c.parent_of.ensures, c.requires.slots_le_max_slots.3), c.requires.slots_le_max_slots.4, c.requires.slots_le_max_slots.5, c.requires.slots_le_max_slots.6); cell_lt_max_cells = (c.requires.cell_lt_max_cells.0, c.requires.cell_lt_max_cells.1, rw c.parent_of.ensures (c.requires.source (sym c.is_new.ensures ∙ not-false _ c.if-not-is_new.false-raw))) }
+    record { sizes = (c.requires.sizes.0, c.requires.sizes.1, omega (arith, c.parent_of.ensures, c.requires.sizes.3), c.requires.sizes.4, c.requires.sizes.5, c.requires.sizes.6); cell = (c.requires.cell.0, c.requires.cell.1, rw c.parent_of.ensures (c.requires.source (sym c.is_new.ensures ∙ not-false _ c.if-not-is_new.false-raw))) }
 
 pub returns : goal.returns
 returns c =

@@ -13,7 +13,7 @@ loop-j-init c = (search rules, numbered_none _ _ _ _ _ _ _ _)
 
 pub cell_number-no-requires : goal.cell_number-no-requires
 cell_number-no-requires c =
-    let p = c.requires in record { slots_le_max_slots = (p.slots, p.long, p.inner, p.among, p.deep, p.once, p.ends); cell_lt_max_cells = (search rules, search rules, search rules, (p.asks.seen, p.asks.listed)); source = p.sources c.loop-j.j c.loop-j-test.true }
+    let p = c.requires in record { sizes = (p.slots, p.long, p.inner, p.among, p.deep, p.once, p.ends); cell = (search rules, search rules, search rules, (p.asks.seen, p.asks.listed)); source = p.sources c.loop-j.j c.loop-j-test.true }
 
 pub returns-then-no-eq12 : goal.returns-then-no-eq12
 returns-then-no-eq12 c = numbered_stop _ _ _ _ _ _ _ _ _ _ _ c.loop-j.invariant.1 c.cell_number-no.ensures c.if-no-eq12.true c.loop-j-test.true

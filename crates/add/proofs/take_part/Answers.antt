@@ -14,7 +14,7 @@ use Rattle.add.proofs.take_part.Goals as goal
 pub next_segment-part-requires : goal.next_segment-part-requires
 next_segment-part-requires c =
     let l = c.requires.list in
-    record { listed = rw c.cells_of.ensures (l.2, l.3, l.4, l.5, l.6); from_le_cells = rw c.cells_of.ensures (omega (arith, l.1), l.7) }
+    record { listed = rw c.cells_of.ensures (l.2, l.3, l.4, l.5, l.6); passed = rw c.cells_of.ensures (omega (arith, l.1), l.7) }
 
 pub loop-w-init : goal.loop-w-init
 loop-w-init c =

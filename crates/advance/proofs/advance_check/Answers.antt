@@ -40,7 +40,7 @@ entries_check-requires c =
     let low = (innermost_named a.table.now a.handle _ c.innermost_check-stale.ensures c.if-stale-ne0.false).1 in
     let q = c.slots_of.ensures in
     let marks = c.store_check-no.ensures.marks c.if-no-ne0.false in
-    let ends = (c.requires.room.reached f.slots_low f.slots_high).0 in record { comparable = record { slots = omega (arith, q, f.slots_high); words = omega (arith, q, f.table_exact); right = rw q (ok_make _ _ _ _ ok); ends = rw q ends; low = low; marked = rw q marks.cells; kept = marks.kept }; seen_len_bound = (omega (arith, c.store_check-no.auto.seen, c.requires.blank.0), c.requires.blank.1) }
+    let ends = (c.requires.room.reached f.slots_low f.slots_high).0 in record { comparable = record { slots = omega (arith, q, f.slots_high); words = omega (arith, q, f.table_exact); right = rw q (ok_make _ _ _ _ ok); ends = rw q ends; low = low; marked = rw q marks.cells; kept = marks.kept }; blank = (omega (arith, c.store_check-no.auto.seen, c.requires.blank.0), c.requires.blank.1) }
 
 pub returns : goal.returns
 returns c =

@@ -22,17 +22,17 @@ pub bounds-table-4 : goal.bounds-table-4
 bounds-table-4 c = omega (arith, c.requires.comparable.words)
 
 pub changed_cells-k-requires : goal.changed_cells-k-requires
-changed_cells-k-requires c = record { comparable = c.requires.comparable; seen_len_bound = c.requires.seen_len_bound }
+changed_cells-k-requires c = record { comparable = c.requires.comparable; blank = c.requires.blank }
 
 pub count_given-given-requires : goal.count_given-given-requires
 count_given-given-requires c =
     let a = c.args in
-    let p = c.requires.comparable in record { small = (p.slots, p.words, p.low, (ok_facts (cells_of (length a.memory.now)) a.slots (bodies_of (length a.bodies.now)) a.table.now p.right).live, p.ends); sized = record { kept = p.kept; room = omega (arith, c.changed_cells-k.auto.bits, c.requires.seen_len_bound.0); front = c.changed_cells-k.ensures.bits.front } }
+    let p = c.requires.comparable in record { small = (p.slots, p.words, p.low, (ok_facts (cells_of (length a.memory.now)) a.slots (bodies_of (length a.bodies.now)) a.table.now p.right).live, p.ends); sized = record { kept = p.kept; room = omega (arith, c.changed_cells-k.auto.bits, c.requires.blank.0); front = c.changed_cells-k.ensures.bits.front } }
 
 pub count_used-used-requires : goal.count_used-used-requires
 count_used-used-requires c =
     let p = c.requires.comparable in
-    record { slots_le_max_slots = (p.slots, p.words, p.ends.0); free_run = p.ends.1 }
+    record { sizes = (p.slots, p.words, p.ends.0); free_run = p.ends.1 }
 
 pub overflow_add-used : goal.overflow_add-used
 unfolding used_slots

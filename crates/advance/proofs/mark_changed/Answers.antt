@@ -24,13 +24,13 @@ pub loop-i-init : goal.loop-i-init
 unfolding count
 loop-i-init c =
     let a = c.args in
-    (search rules, search rules, turned_none a.slots a.table.now (entry_changed a.memory.now a.bodies.now a.slots a.table.now a.live) (by_group a.seen.now a.bits.now) (by_blank a.seen.now a.bits.now c.requires.seen_len_bound.1), c.requires.seen_len_bound.1 0, refl)
+    (search rules, search rules, turned_none a.slots a.table.now (entry_changed a.memory.now a.bodies.now a.slots a.table.now a.live) (by_group a.seen.now a.bits.now) (by_blank a.seen.now a.bits.now c.requires.blank.1), c.requires.blank.1 0, refl)
 
 pub entry_changed-goes-requires : goal.entry_changed-goes-requires
 entry_changed-goes-requires c =
     let p = c.requires.comparable in
     let inside : c.loop-i.i < c.args.slots = omega (arith, p.ends.0, c.loop-i-test.true) in
-    record { i_lt_slots = (inside, p.slots, p.words, p.ends, p.low); table_value = p.right }
+    record { sizes = (inside, p.slots, p.words, p.ends, p.low); rule = p.right }
 
 pub overflow_add-n : goal.overflow_add-n
 overflow_add-n c =
@@ -47,7 +47,7 @@ mark_turning-requires c =
     let a = c.args in
     let p = c.requires.comparable in
     let s = c.loop-i in
-    let room : length a.seen.now ≤ block_at (length s.bits) = omega (arith, s.invariant.1, c.requires.seen_len_bound.0) in
+    let room : length a.seen.now ≤ block_at (length s.bits) = omega (arith, s.invariant.1, c.requires.blank.0) in
     (omega (arith, p.kept.room), block_fits a.seen.now p.kept s.bits room (group_of (cell_of c.first_word.result)) (omega arith))
 
 pub loop-i-preserved : goal.loop-i-preserved
@@ -59,7 +59,7 @@ loop-i-preserved c =
     let w = word1 a.slots a.table.now s.i in
     let goes = entry_changed a.memory.now a.bodies.now a.slots a.table.now a.live in
     let inside : s.i < a.slots = omega (arith, p.ends.0, c.loop-i-test.true) in
-    let room : length a.seen.now ≤ block_at (length s.bits) = omega (arith, s.invariant.1, c.requires.seen_len_bound.0) in
+    let room : length a.seen.now ≤ block_at (length s.bits) = omega (arith, s.invariant.1, c.requires.blank.0) in
     let fits = block_fits a.seen.now p.kept s.bits room (group_of (cell_of w)) (omega arith) in
     let own : goes s.i ≡ true → 1 ≤ block_of a.seen.now (group_of (cell_of w)) =
     λ z.

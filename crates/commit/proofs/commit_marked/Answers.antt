@@ -17,7 +17,7 @@ pub tell_writable-requires : goal.tell_writable-requires
 tell_writable-requires c = let a = c.args in
     let p = commit_ready _ _ a.table.now a.handle (sym c.commit_check-no.ensures.no ∙ c.if-no-ne0.false) c.slots_of-slots.ensures in
     let marks = c.commit_check-no.ensures.marks c.if-no-ne0.false in
-    record { slots_le_max_slots = (p.small, omega arith, p.ends a.top c.requires.reached, p.low, p.high); kept = (marks.kept, rw c.slots_of-slots.ensures marks.cells, p.once) }
+    record { sizes = (p.small, omega arith, p.ends a.top c.requires.reached, p.low, p.high); kept = (marks.kept, rw c.slots_of-slots.ensures marks.cells, p.once) }
 
 pub commit_words-steps-requires : goal.commit_words-steps-requires
 commit_words-steps-requires c = let a = c.args in

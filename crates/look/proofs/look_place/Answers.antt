@@ -27,7 +27,7 @@ pub find_place-requires : goal.find_place-requires
 find_place-requires c =
     let a = c.args in
     let p = check_passed _ _ a.table.now a.handle a.cell (sym c.look_check-no.ensures ∙ c.if-no-ne0.false) in
-    let facts = place_requires _ _ a.table.now a.handle a.cell _ _ _ p c.slots_of.ensures c.reach_of-top.ensures c.find_domain.ensures in record { slots_le_max_slots = facts.0; cells_once = facts.1 }
+    let facts = place_requires _ _ a.table.now a.handle a.cell _ _ _ p c.slots_of.ensures c.reach_of-top.ensures c.find_domain.ensures in record { sizes = facts.0; cells_once = facts.1 }
 
 pub returns : goal.returns
 returns c =

@@ -1,4 +1,4 @@
--- `patterns::pattern_byte` meets its contract: `keys1` and the like say which arm was taken, `rest` that none of the keys was. Assumes nothing.
+-- `patterns::pattern_byte` meets its contract: `is` says which arm was taken, `rest` that none of the numbers was. Assumes nothing.
 use native.Mathlib.Omega.{arith}
 use mathlib.Core.Path.{refl, ◌∙◌}
 use Prim.Native.Nat.{◌%◌}

@@ -4,4 +4,4 @@ use borrow.Author.Rules.{rules}
 use Rattle.restore.proofs.end_few.Goals as goal
 
 pub end_domains-requires : goal.end_domains-requires
-end_domains-requires c = record { slots_le_max_slots = search rules; ends_at = (c.requires.3, stages_start 4 c.few_bits-changed.ensures) }
+end_domains-requires c = record { sizes = search rules; stages = (c.requires.3, stages_start 4 c.few_bits-changed.ensures) }

@@ -13,8 +13,8 @@ pub put_back-requires : goal.put_back-requires
 put_back-requires c =
     let a = c.args in
     let q = c.slots_of-slots.ensures in
-    let tell = marks_tell (slots_of (length a.table.now)) a.table.now a.depth c.requires.table_bound.3 c.requires.table_bound.4 a.seen.now c.requires.table_value.1 in
-    record { slots_le_max_slots = (omega (arith, q, c.requires.table_bound.0), omega (arith, q, c.requires.table_bound.1), c.requires.table_bound.3, c.requires.table_bound.5, c.requires.table_bound.6); table_value = (rw q c.requires.table_value.0, rw (q, c.inwards_of-mask.ensures) tell, rw q c.requires.table_bound.2) }
+    let tell = marks_tell (slots_of (length a.table.now)) a.table.now a.depth c.requires.sizes.3 c.requires.sizes.4 a.seen.now c.requires.rule.1 in
+    record { sizes = (omega (arith, q, c.requires.sizes.0), omega (arith, q, c.requires.sizes.1), c.requires.sizes.3, c.requires.sizes.5, c.requires.sizes.6); rule = (rw q c.requires.rule.0, rw (q, c.inwards_of-mask.ensures) tell, rw q c.requires.sizes.2) }
 
 pub returns : goal.returns
 returns c =

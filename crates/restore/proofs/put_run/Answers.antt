@@ -16,7 +16,7 @@ use Rattle.restore.specs.Parts.{back_plan, group_plan}
 use Rattle.restore.proofs.put_run.Goals as goal
 
 pub run_held-rest-requires : goal.run_held-rest-requires
-run_held-rest-requires c = (c.requires.slots_le_max_slots.5, c.requires.slots_le_max_slots.6, c.requires.slots_le_max_slots.8)
+run_held-rest-requires c = (c.requires.sizes.5, c.requires.sizes.6, c.requires.sizes.8)
 
 pub loop-j-init : goal.loop-j-init
 loop-j-init c = let a = c.args in
@@ -25,23 +25,23 @@ loop-j-init c = let a = c.args in
     (search rules, search rules, refl, refl, stores_none a.budget a.memory.now, rw q (c.run_held-rest.ensures a.mask small c.spread_mask.ensures))
 
 pub overflow_add-from : goal.overflow_add-from
-overflow_add-from c = omega (arith, c.requires.slots_le_max_slots.5, c.requires.slots_le_max_slots.4)
+overflow_add-from c = omega (arith, c.requires.sizes.5, c.requires.sizes.4)
 
 pub put_held-bytes-requires : goal.put_held-bytes-requires
 put_held-bytes-requires c = let a = c.args in let s = c.loop-j in let here = c.loop-j-test.true in
     let small : a.mask < 256 = omega arith in
-    let q : 8 - s.j ≡ suc (7 - s.j) = omega (arith, here, c.requires.slots_le_max_slots.4) in
-    let byte = ap (λ (x : ℕ). x % 256) (rw q at s.invariant.5) ∙ (held_first a.seen.now a.mask small (a.from + s.j) (7 - s.j)).0 in record { slots_le_max_slots = (c.requires.slots_le_max_slots.0, c.requires.slots_le_max_slots.1, c.requires.slots_le_max_slots.2, omega (arith, here, c.requires.slots_le_max_slots.7, c.requires.slots_le_max_slots.3), omega (arith, here, c.requires.slots_le_max_slots.7, s.invariant.2)); table_value = (subst (λ (n : ℕ). rule_ok (cells_of n) a.slots (bodies_of (length a.bodies.now)) a.table.now ≡ true) (sym s.invariant.2) c.requires.table_value.0, subst (λ (m : ℕ). Holders a.slots a.table.now a.depth (a.from + s.j) m) (sym byte) (c.requires.table_value.1 (a.from + s.j)), c.requires.table_value.2) }
+    let q : 8 - s.j ≡ suc (7 - s.j) = omega (arith, here, c.requires.sizes.4) in
+    let byte = ap (λ (x : ℕ). x % 256) (rw q at s.invariant.5) ∙ (held_first a.seen.now a.mask small (a.from + s.j) (7 - s.j)).0 in record { sizes = (c.requires.sizes.0, c.requires.sizes.1, c.requires.sizes.2, omega (arith, here, c.requires.sizes.7, c.requires.sizes.3), omega (arith, here, c.requires.sizes.7, s.invariant.2)); rule = (subst (λ (n : ℕ). rule_ok (cells_of n) a.slots (bodies_of (length a.bodies.now)) a.table.now ≡ true) (sym s.invariant.2) c.requires.rule.0, subst (λ (m : ℕ). Holders a.slots a.table.now a.depth (a.from + s.j) m) (sym byte) (c.requires.rule.1 (a.from + s.j)), c.requires.rule.2) }
 
 pub overflow_add-bytes : goal.overflow_add-bytes
-overflow_add-bytes c = omega (arith, c.put_held-bytes.ensures.few, c.requires.slots_le_max_slots.7, c.requires.slots_le_max_slots.3)
+overflow_add-bytes c = omega (arith, c.put_held-bytes.ensures.few, c.requires.sizes.7, c.requires.sizes.3)
 
 pub loop-j-preserved : goal.loop-j-preserved
 loop-j-preserved c = let a = c.args in let s = c.loop-j in let here = c.loop-j-test.true in
     let small : a.mask < 256 = omega arith in
     let plan : ℕ → List Store = λ j. back_plan a.slots a.table.now a.depth a.bodies.now (a.from + j) in
     let e₂ = rw c.remaining.ensures at c.put_held-bytes.ensures.bytes in
-    let q : 8 - s.j ≡ suc (7 - s.j) = omega (arith, here, c.requires.slots_le_max_slots.4) in
+    let q : 8 - s.j ≡ suc (7 - s.j) = omega (arith, here, c.requires.sizes.4) in
     let next : suc (a.from + s.j) ≡ a.from + (s.j + 1) = omega arith in
     let left : 7 - s.j ≡ 8 - (s.j + 1) = omega arith in
     let others = ap (λ (x : ℕ). x / 256) (rw q at s.invariant.5) ∙ (held_first a.seen.now a.mask small (a.from + s.j) (7 - s.j)).1 in (

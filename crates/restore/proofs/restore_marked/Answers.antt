@@ -26,7 +26,7 @@ restore_memory-bytes-requires c =
     let f = store_lengths _ _ t store in
     let named = c.find_domain-depth.ensures in
     let ends = (c.requires.reached f.slots_low f.slots_high).0 in
-    let marks = c.restore_check-no.ensures.marks c.if-no-ne0.false in record { table_bound = (f.slots_high, omega (arith, f.table_exact), ends, omega (arith, named, restore_depth _ _ t a.handle passed), omega (arith, named, depth_small t a.handle, live_within _ _ t store), f.cells_high, marks.kept); table_value = (rule_passed _ _ t store, marks.cells) }
+    let marks = c.restore_check-no.ensures.marks c.if-no-ne0.false in record { sizes = (f.slots_high, omega (arith, f.table_exact), ends, omega (arith, named, restore_depth _ _ t a.handle passed), omega (arith, named, depth_small t a.handle, live_within _ _ t store), f.cells_high, marks.kept); rule = (rule_passed _ _ t store, marks.cells) }
 
 pub restore_words-words-requires : goal.restore_words-words-requires
 restore_words-words-requires c =

@@ -31,7 +31,7 @@ unfolding used_slots copies
 returns c =
     let a = c.args in
     let last : c.loop-i.i ≡ a.top = omega arith in
-    let front = count_front a.slots a.table.now a.top c.requires.slots_le_max_slots.2 c.requires.free_run in (
+    let front = count_front a.slots a.table.now a.top c.requires.sizes.2 c.requires.free_run in (
       c.wide.ensures ∙ c.loop-i.invariant.1 ∙ ap (λ (n : ℕ). count n (λ k. not (slot_free a.slots a.table.now k))) last ∙ front (λ w. not (eqb w 0)) refl,
       c.wide-2.ensures ∙ c.loop-i.invariant.2 ∙ ap (λ (n : ℕ). count n (is_copy a.slots a.table.now)) last ∙ front owns_body refl,
     )

@@ -13,13 +13,13 @@ pub search-init : goal.search-init
 search-init c = (search rules, λ k l. absurd (omega (arith, l)))
 
 pub pass_over-i-requires : goal.pass_over-i-requires
-pass_over-i-requires c = (c.start_at-start.ensures, c.requires.slots_le_max_slots.2.0, c.requires.slots_le_max_slots.0, c.requires.slots_le_max_slots.1, c.key_of-key.ensures.bare)
+pass_over-i-requires c = (c.start_at-start.ensures, c.requires.sizes.2.0, c.requires.sizes.0, c.requires.sizes.1, c.key_of-key.ensures.bare)
 
 pub loop-i-init : goal.loop-i-init
 loop-i-init c = c.pass_over-i.ensures
 
 pub first_word-requires : goal.first_word-requires
-first_word-requires c = (omega (arith, c.loop-i-test.true, c.requires.slots_le_max_slots.2.0), c.requires.slots_le_max_slots.0, c.requires.slots_le_max_slots.1)
+first_word-requires c = (omega (arith, c.loop-i-test.true, c.requires.sizes.2.0), c.requires.sizes.0, c.requires.sizes.1)
 
 pub is_named-requires : goal.is_named-requires
 is_named-requires c = c.key_of-key.ensures.bare
@@ -28,13 +28,13 @@ pub loop-i-preserved : goal.loop-i-preserved
 loop-i-preserved c = let turn = c.loop-i in (omega (arith, turn.invariant.0), omega arith, failing_more _ _ _ turn.invariant.2 (ap (named_by _) (sym c.first_word.ensures) ∙ sym c.is_named.ensures ∙ c.if-is_named.false))
 
 pub pass_over-j-requires : goal.pass_over-j-requires
-pass_over-j-requires c = (omega arith, omega (arith, c.start_at-start.ensures, c.requires.slots_le_max_slots.2.0), c.requires.slots_le_max_slots.0, c.requires.slots_le_max_slots.1, c.key_of-key.ensures.bare)
+pass_over-j-requires c = (omega arith, omega (arith, c.start_at-start.ensures, c.requires.sizes.2.0), c.requires.sizes.0, c.requires.sizes.1, c.key_of-key.ensures.bare)
 
 pub loop-j-init : goal.loop-j-init
 loop-j-init c = (c.pass_over-j.ensures.1, c.pass_over-j.ensures.2)
 
 pub first_word-requires-in-loop-j : goal.first_word-requires-in-loop-j
-first_word-requires-in-loop-j c = (omega (arith, c.loop-j-test.true, c.start_at-start.ensures, c.requires.slots_le_max_slots.2.0), c.requires.slots_le_max_slots.0, c.requires.slots_le_max_slots.1)
+first_word-requires-in-loop-j c = (omega (arith, c.loop-j-test.true, c.start_at-start.ensures, c.requires.sizes.2.0), c.requires.sizes.0, c.requires.sizes.1)
 
 pub is_named-requires-in-loop-j : goal.is_named-requires-in-loop-j
 is_named-requires-in-loop-j c = c.key_of-key.ensures.bare
@@ -48,7 +48,7 @@ search-preserved c =
     let turn = c.search in (
       omega (arith, turn.invariant.0),
       lacking_more a.slots a.table.now a.from a.cell turn.depth turn.invariant.0 turn.invariant.1
-          (found_nowhere a.slots a.table.now c.requires.cells_once turn.depth a.cell _ (omega (arith, turn.invariant.0, c.requires.slots_le_max_slots.4)) c.key_of-key.ensures a.top c.start_at-start.result c.loop-i.i c.loop-j.j c.requires.slots_le_max_slots.2 c.loop-i-test.false c.loop-j-test.false c.loop-i.invariant.2 c.loop-j.invariant.1),
+          (found_nowhere a.slots a.table.now c.requires.cells_once turn.depth a.cell _ (omega (arith, turn.invariant.0, c.requires.sizes.4)) c.key_of-key.ensures a.top c.start_at-start.result c.loop-i.i c.loop-j.j c.requires.sizes.2 c.loop-i-test.false c.loop-j-test.false c.loop-i.invariant.2 c.loop-j.invariant.1),
     )
 
 pub returns-then-live-depth : goal.returns-then-live-depth
@@ -59,10 +59,10 @@ returns-then-is_named c =
     let a = c.args in
     let turn = c.search in
     let here = c.loop-i in
-    let inside : here.i < a.slots = omega (arith, c.loop-i-test.true, c.requires.slots_le_max_slots.2.0) in
+    let inside : here.i < a.slots = omega (arith, c.loop-i-test.true, c.requires.sizes.2.0) in
     sym
     (holder_at a.slots a.table.now a.from a.cell turn.depth here.i turn.invariant.0 c.if-live-depth.false turn.invariant.1
-    (found_anywhere a.slots a.table.now c.requires.cells_once turn.depth a.cell _ (omega (arith, turn.invariant.0, c.requires.slots_le_max_slots.4)) c.key_of-key.ensures here.i inside
+    (found_anywhere a.slots a.table.now c.requires.cells_once turn.depth a.cell _ (omega (arith, turn.invariant.0, c.requires.sizes.4)) c.key_of-key.ensures here.i inside
     (ap (named_by _) (sym c.first_word.ensures) ∙ sym c.is_named.ensures ∙ c.if-is_named.true))
     inside)
 
@@ -71,9 +71,9 @@ returns-then-is_named-2 c =
     let a = c.args in
     let turn = c.search in
     let here = c.loop-j in
-    let inside : here.j < a.slots = omega (arith, c.loop-j-test.true, c.start_at-start.ensures, c.requires.slots_le_max_slots.2.0) in
+    let inside : here.j < a.slots = omega (arith, c.loop-j-test.true, c.start_at-start.ensures, c.requires.sizes.2.0) in
     sym
     (holder_at a.slots a.table.now a.from a.cell turn.depth here.j turn.invariant.0 c.if-live-depth.false turn.invariant.1
-    (found_anywhere a.slots a.table.now c.requires.cells_once turn.depth a.cell _ (omega (arith, turn.invariant.0, c.requires.slots_le_max_slots.4)) c.key_of-key.ensures here.j inside
+    (found_anywhere a.slots a.table.now c.requires.cells_once turn.depth a.cell _ (omega (arith, turn.invariant.0, c.requires.sizes.4)) c.key_of-key.ensures here.j inside
     (ap (named_by _) (sym c.first_word-in-loop-j.ensures) ∙ sym c.is_named-in-loop-j.ensures ∙ c.if-is_named-2.true))
     inside)

@@ -11,7 +11,7 @@ returns-then-no-ne0 c = c.shape_check-no.ensures ∙ sym (or_else_stop _ _ (λ e
 
 pub table_ok-requires : goal.table_ok-requires
 table_ok-requires c = let p = c.requires in let f = shape_facts _ _ _ (sym c.shape_check-no.ensures ∙ c.if-no-ne0.false) in
-    record { slots_le_max_slots = rw (c.cells_of-cells.ensures, c.slots_of-slots.ensures, c.bodies_of-places.ensures) (f.slots_high, f.table_exact, f.bodies_high, p.reached f.slots_low f.slots_high, p.room, omega (arith, f.bodies_high, p.bodies)); blank = (p.no_cells, p.no_bodies) }
+    record { sizes = rw (c.cells_of-cells.ensures, c.slots_of-slots.ensures, c.bodies_of-places.ensures) (f.slots_high, f.table_exact, f.bodies_high, p.reached f.slots_low f.slots_high, p.room, omega (arith, f.bodies_high, p.bodies)); blank = (p.no_cells, p.no_bodies) }
 
 pub returns-then-table_ok : goal.returns-then-table_ok
 unfolding open_check table_check

@@ -10,7 +10,7 @@ returns-then-no-ne0 c = record { no = c.idle_check-no.ensures ∙ sym (or_else_s
 
 pub idle_ok-requires : goal.idle_ok-requires
 idle_ok-requires c = let p = c.requires in let idle = idle_facts _ _ _ (sym c.idle_check-no.ensures ∙ c.if-no-ne0.false) in let f = shape_facts _ _ _ idle.0 in
-    record { slots_le_max_slots = rw (c.cells_of-cells.ensures, c.slots_of-slots.ensures, c.bodies_of-places.ensures) (f.slots_high, f.table_exact, f.bodies_high, (p.reached f.slots_low f.slots_high).0, p.room, omega (arith, f.bodies_high, p.bodies)); blank = (p.no_cells, p.no_bodies, idle.1) }
+    record { sizes = rw (c.cells_of-cells.ensures, c.slots_of-slots.ensures, c.bodies_of-places.ensures) (f.slots_high, f.table_exact, f.bodies_high, (p.reached f.slots_low f.slots_high).0, p.room, omega (arith, f.bodies_high, p.bodies)); blank = (p.no_cells, p.no_bodies, idle.1) }
 
 pub returns-then-idle_ok : goal.returns-then-idle_ok
 unfolding table_check

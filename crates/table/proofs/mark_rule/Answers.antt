@@ -13,14 +13,14 @@ pub returns-then-not-is_pattern : goal.returns-then-not-is_pattern
 returns-then-not-is_pattern c =
     let a = c.args in
     let plain : is_pattern (word1 a.slots a.table.now a.i) ≡ false = rw c.first_word-word.ensures at (sym c.is_pattern.ensures ∙ not-true _ c.if-not-is_pattern.true-raw) in
-    record { right = (λ r. rules_skip a.slots a.table.now a.top a.i a.seen.now c.requires.rules_marked c.requires.i_lt_top.0 c.requires.i_lt_top.1 plain); wrong = (λ r. absurd (true≢ refl r)) }
+    record { right = (λ r. rules_skip a.slots a.table.now a.top a.i a.seen.now c.requires.rules_marked c.requires.sizes.0 c.requires.sizes.1 plain); wrong = (λ r. absurd (true≢ refl r)) }
 
 pub mark_entry-requires : goal.mark_entry-requires
 mark_entry-requires c =
     let a = c.args in
     let rule : is_pattern (word1 a.slots a.table.now a.i) ≡ true = rw c.first_word-word.ensures at (sym c.is_pattern.ensures ∙ not-false _ c.if-not-is_pattern.false-raw) in
-    let place = c.requires.rules_marked.placed a.i (omega (arith, c.requires.i_lt_top.0, c.requires.i_lt_top.1)) rule in
-    (rw c.first_word-word.ensures place.1, c.requires.rules_marked.kept, rw c.first_word-word.ensures (rules_spare a.slots a.table.now a.top a.i a.seen.now c.requires.rules_marked c.requires.i_lt_top.0 c.requires.i_lt_top.1 rule))
+    let place = c.requires.rules_marked.placed a.i (omega (arith, c.requires.sizes.0, c.requires.sizes.1)) rule in
+    (rw c.first_word-word.ensures place.1, c.requires.rules_marked.kept, rw c.first_word-word.ensures (rules_spare a.slots a.table.now a.top a.i a.seen.now c.requires.rules_marked c.requires.sizes.0 c.requires.sizes.1 rule))
 
 pub returns : goal.returns
 returns c =
@@ -30,6 +30,6 @@ returns c =
       right = (λ r.
           let out = rw c.first_word-word.ensures at (c.mark_entry.ensures.1 r) in
           rw out
-          (rules_marked a.slots a.table.now a.top a.i a.seen.now c.requires.rules_marked c.requires.i_lt_top.0 c.requires.i_lt_top.1 rule (not-true _ (sym told.0 ∙ r)) (ap length (sym out) ∙ c.mark_entry.auto.seen)));
-      wrong = (λ r. rules_taken a.slots a.table.now a.top a.i a.seen.now c.requires.rules_marked c.requires.i_lt_top.0 c.requires.i_lt_top.1 rule (not-false _ (sym told.0 ∙ r)));
+          (rules_marked a.slots a.table.now a.top a.i a.seen.now c.requires.rules_marked c.requires.sizes.0 c.requires.sizes.1 rule (not-true _ (sym told.0 ∙ r)) (ap length (sym out) ∙ c.mark_entry.auto.seen)));
+      wrong = (λ r. rules_taken a.slots a.table.now a.top a.i a.seen.now c.requires.rules_marked c.requires.sizes.0 c.requires.sizes.1 rule (not-false _ (sym told.0 ∙ r)));
     }

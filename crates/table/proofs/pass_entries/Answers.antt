@@ -15,13 +15,13 @@ loop-i-init c = let a = c.args in
       omega arith,
       refl,
       refl,
-      passed_free a.cells a.slots a.bodies a.table.now 0 a.seen.now a.used.now (passed_none a.cells a.slots a.bodies a.table.now a.seen.now a.used.now c.requires.blank.0 c.requires.blank.1 (omega (arith, c.requires.slots_le_max_slots.5))) c.next_entry-i.result run.0 run.2,
+      passed_free a.cells a.slots a.bodies a.table.now 0 a.seen.now a.used.now (passed_none a.cells a.slots a.bodies a.table.now a.seen.now a.used.now c.requires.blank.0 c.requires.blank.1 (omega (arith, c.requires.sizes.5))) c.next_entry-i.result run.0 run.2,
       vias_free a.slots a.table.now 0 c.next_entry-i.result 0 run.0 run.2 (λ none k l. absurd (omega (arith, l))),
       omega (arith, rules_free a.slots a.table.now 0 c.next_entry-i.result run.0 run.2, count_le 0 (λ k. is_pattern (word1 a.slots a.table.now k))),
     )
 
 pub pass_entry-requires : goal.pass_entry-requires
-pass_entry-requires c = let turn = c.loop-i in record { i_lt_slots = (omega (arith, c.loop-i-test.true, c.requires.slots_le_max_slots.4.0), search rules, search rules, search rules, search rules, omega (arith, c.loop-i-test.true, turn.invariant.2, c.requires.slots_le_max_slots.5), omega (arith, turn.invariant.3)); passed = turn.invariant.4 }
+pass_entry-requires c = let turn = c.loop-i in record { sizes = (omega (arith, c.loop-i-test.true, c.requires.sizes.4.0), search rules, search rules, search rules, search rules, omega (arith, c.loop-i-test.true, turn.invariant.2, c.requires.sizes.5), omega (arith, turn.invariant.3)); passed = turn.invariant.4 }
 
 pub returns-then-not-pass_entry : goal.returns-then-not-pass_entry
 returns-then-not-pass_entry c = record { right = (λ r. absurd (true≢ r refl)); wrong = (λ r. c.pass_entry.ensures.wrong (not-true _ c.if-not-pass_entry.true-raw)) }
@@ -48,7 +48,7 @@ loop-i-preserved c = let turn = c.loop-i in
 pub returns : goal.returns
 returns c = let turn = c.loop-i in
     let a = c.args in
-    let ends = c.requires.slots_le_max_slots.4 in
+    let ends = c.requires.sizes.4 in
     let e : turn.i ≡ a.top = omega arith in
     let low : turn.i ≤ a.slots = omega (arith, e, ends.0) in
     let free = rw (sym e) at ends.1 in

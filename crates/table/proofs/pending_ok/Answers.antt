@@ -14,22 +14,22 @@ use Rattle.table.proofs.pending_ok.Goals as goal
 
 pub copy_words-requires : goal.copy_words-requires
 copy_words-requires c = let long : length c.no_words-copy.result ≡ 8208 = ap length c.no_words-copy.ensures ∙ zeros_length 8208 in
-    (omega (arith, c.requires.slots_le_max_slots.1, c.pairs_at-first.ensures), omega (arith, c.pairs_at-first.ensures))
+    (omega (arith, c.requires.sizes.1, c.pairs_at-first.ensures), omega (arith, c.pairs_at-first.ensures))
 
 pub put_pairs-requires : goal.put_pairs-requires
 put_pairs-requires c = let a = c.args in
     let t = a.table.now in
-    let few = pairs_few a.slots t c.requires.slots_le_max_slots.3 in
+    let few = pairs_few a.slots t c.requires.sizes.3 in
     let long : length c.no_words-copy.result ≡ 8208 = ap length c.no_words-copy.ensures ∙ zeros_length 8208 in record {
-      count_in_bounds = (omega (arith, c.requires.slots_le_max_slots.1, c.pairs_at-first.ensures, c.wide.ensures), omega (arith, c.pairs_at-first.ensures, c.copy_words.auto.copy));
-      by_index = (
-        (λ j l. rw c.pairs_at-first.ensures (pairs_fine a.slots t c.requires.slots_le_max_slots.3 j (rw c.wide.ensures at l)).0),
+      sizes = (omega (arith, c.requires.sizes.1, c.pairs_at-first.ensures, c.wide.ensures), omega (arith, c.pairs_at-first.ensures, c.copy_words.auto.copy));
+      pairs = (
+        (λ j l. rw c.pairs_at-first.ensures (pairs_fine a.slots t c.requires.sizes.3 j (rw c.wide.ensures at l)).0),
         c.copy_words.ensures,
       );
     }
 
 pub rule_ok-requires : goal.rule_ok-requires
-rule_ok-requires c = record { slots_le_max_slots = (search rules, search rules, search rules, (omega arith, λ i low high. absurd (omega (arith, low, high))), c.requires.slots_le_max_slots.4, c.requires.slots_le_max_slots.5); blank = (c.requires.blank.0, c.requires.blank.1) }
+rule_ok-requires c = record { sizes = (search rules, search rules, search rules, (omega arith, λ i low high. absurd (omega (arith, low, high))), c.requires.sizes.4, c.requires.sizes.5); blank = (c.requires.blank.0, c.requires.blank.1) }
 
 pub returns : goal.returns
 returns c = let a = c.args in

@@ -11,17 +11,17 @@ use Rattle.table.proofs.put_pairs.Goals as goal
 
 pub loop-j-init : goal.loop-j-init
 loop-j-init c =
-    (search rules, refl, λ k l. c.requires.by_index.1 k l ∙ ap (λ (x : List ℕ). get_or x k 0) (sym (put_none c.args.table.now c.args.first c.args.table.now)))
+    (search rules, refl, λ k l. c.requires.pairs.1 k l ∙ ap (λ (x : List ℕ). get_or x k 0) (sym (put_none c.args.table.now c.args.first c.args.table.now)))
 
 pub offset_bounds-copy-wide : goal.offset_bounds-copy-wide
 offset_bounds-copy-wide c =
     let turn = c.loop-j in
-    omega (arith, c.wide.ensures, c.requires.by_index.0 turn.j c.loop-j-test.true)
+    omega (arith, c.wide.ensures, c.requires.pairs.0 turn.j c.loop-j-test.true)
 
 pub bounds-copy-wide : goal.bounds-copy-wide
 bounds-copy-wide c =
     let turn = c.loop-j in
-    omega (arith, c.wide.ensures, c.requires.by_index.0 turn.j c.loop-j-test.true)
+    omega (arith, c.wide.ensures, c.requires.pairs.0 turn.j c.loop-j-test.true)
 
 pub loop-j-preserved : goal.loop-j-preserved
 loop-j-preserved c =
@@ -36,7 +36,7 @@ loop-j-preserved c =
       ap length (ap (λ (y : ℕ). set s y v) c.wide.ensures) ∙ length-set s x v ∙ turn.invariant.1,
       λ k l.
           ap (λ (y : ℕ). get_or (set s y v) k 0) c.wide.ensures
-          ∙ put_agree t a.first j s (c.requires.by_index.0 j c.loop-j-test.true) (omega (arith, turn.invariant.1)) (omega arith) turn.invariant.2 k l,
+          ∙ put_agree t a.first j s (c.requires.pairs.0 j c.loop-j-test.true) (omega (arith, turn.invariant.1)) (omega arith) turn.invariant.2 k l,
     )
 
 pub returns : goal.returns

@@ -14,7 +14,7 @@ returns-then-not-head_ok c = record { value = sym (no_head _ _ _ _ (sym c.head_o
 
 pub pass_entries-pass-requires : goal.pass_entries-pass-requires
 pass_entries-pass-requires c = let small = live_small 0 0 0 c.args.table.now (sym c.head_ok.ensures ∙ not-false _ c.if-not-head_ok.false-raw) in
-    record { slots_le_max_slots = (search rules, search rules, small, omega (arith, c.cells_word.ensures), c.requires.slots_le_max_slots.3, omega (arith, c.cells_word.ensures, c.requires.slots_le_max_slots.4), search rules); blank = (c.requires.blank.0, c.requires.blank.1) }
+    record { sizes = (search rules, search rules, small, omega (arith, c.cells_word.ensures), c.requires.sizes.3, omega (arith, c.cells_word.ensures, c.requires.sizes.4), search rules); blank = (c.requires.blank.0, c.requires.blank.1) }
 
 pub returns-then-not-pass : goal.returns-then-not-pass
 returns-then-not-pass c = let a = c.args in
@@ -26,7 +26,7 @@ parents_ok-requires c = let a = c.args in
     let all = c.pass_entries-pass.ensures.right (not-false _ c.if-not-pass.false) in
     let head = sym c.head_ok.ensures ∙ not-false _ c.if-not-head_ok.false-raw in
     let entries = pass_entries m a.slots a.bodies a.table.now _ _ all.passed head in
-    record { slots_le_max_slots = (search rules, search rules, c.requires.slots_le_max_slots.3); vias_markable = (entries_markable m a.slots a.bodies a.table.now entries _ (rw (passed_cells _ _ _ _ _ _ _ all.passed) (omega (arith, c.cells_word.ensures))), entries_inner m a.slots a.bodies a.table.now entries, all.alone) }
+    record { sizes = (search rules, search rules, c.requires.sizes.3); vias = (entries_markable m a.slots a.bodies a.table.now entries _ (rw (passed_cells _ _ _ _ _ _ _ all.passed) (omega (arith, c.cells_word.ensures))), entries_inner m a.slots a.bodies a.table.now entries, all.alone) }
 
 pub returns-then-not-parents_ok : goal.returns-then-not-parents_ok
 returns-then-not-parents_ok c = let a = c.args in
@@ -51,7 +51,7 @@ mark_rules-requires c = let a = c.args in
     let m = c.cells_word.result in
     let all = c.pass_entries-pass.ensures.right (not-false _ c.if-not-pass.false) in
     let head = sym c.head_ok.ensures ∙ not-false _ c.if-not-head_ok.false-raw in
-    record { slots_le_max_slots = (c.requires.slots_le_max_slots.0, c.requires.slots_le_max_slots.1, c.requires.slots_le_max_slots.3); rules_marked = rules_start m a.slots a.bodies a.table.now _ _ all.passed head a.top c.requires.slots_le_max_slots.3 (omega (arith, c.pass_entries-pass.auto.seen, c.cells_word.ensures, c.requires.slots_le_max_slots.4)) all.few }
+    record { sizes = (c.requires.sizes.0, c.requires.sizes.1, c.requires.sizes.3); rules_marked = rules_start m a.slots a.bodies a.table.now _ _ all.passed head a.top c.requires.sizes.3 (omega (arith, c.pass_entries-pass.auto.seen, c.cells_word.ensures, c.requires.sizes.4)) all.few }
 
 pub returns : goal.returns
 returns c = let a = c.args in

@@ -10,13 +10,13 @@ unfolding table_ok
 returns-then-not-pairs_ok c = rw (sym c.pairs_ok.ensures ∙ not-true _ c.if-not-pairs_ok.true-raw)
 
 pub idle_ok-requires : goal.idle_ok-requires
-idle_ok-requires c = record { slots_le_max_slots = (c.requires.slots_le_max_slots.0, c.requires.slots_le_max_slots.1, c.requires.slots_le_max_slots.2, c.requires.slots_le_max_slots.3.0, c.requires.slots_le_max_slots.4, c.requires.slots_le_max_slots.5); blank = (c.requires.blank.0, c.requires.blank.1, c.if-table-eq0.true) }
+idle_ok-requires c = record { sizes = (c.requires.sizes.0, c.requires.sizes.1, c.requires.sizes.2, c.requires.sizes.3.0, c.requires.sizes.4, c.requires.sizes.5); blank = (c.requires.blank.0, c.requires.blank.1, c.if-table-eq0.true) }
 
 pub returns-then-table-eq0 : goal.returns-then-table-eq0
 returns-then-table-eq0 c = c.idle_ok.ensures.value
 
 pub pending_ok-requires : goal.pending_ok-requires
-pending_ok-requires c = record { slots_le_max_slots = (search rules, search rules, search rules, sym c.pairs_ok.ensures ∙ not-false _ c.if-not-pairs_ok.false-raw, rw (sym (c.requires.slots_le_max_slots.3.1 c.if-table-eq0.false)) c.requires.slots_le_max_slots.4, c.requires.slots_le_max_slots.5); blank = (c.requires.blank.0, c.requires.blank.1) }
+pending_ok-requires c = record { sizes = (search rules, search rules, search rules, sym c.pairs_ok.ensures ∙ not-false _ c.if-not-pairs_ok.false-raw, rw (sym (c.requires.sizes.3.1 c.if-table-eq0.false)) c.requires.sizes.4, c.requires.sizes.5); blank = (c.requires.blank.0, c.requires.blank.1) }
 
 pub returns : goal.returns
 unfolding table_ok

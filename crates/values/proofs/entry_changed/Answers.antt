@@ -19,7 +19,7 @@ is_unchanged-requires c =
     let w = word1 a.slots a.table.now a.i in
     let goes : writes a.depth w ≡ true = sym (ap (writes a.depth) c.first_word.ensures) ∙ sym c.writes_word.ensures ∙ not-false _ c.if-not-writes_word.false-raw in
     let depth : depth_of w ≡ a.depth = eqb-true _ _ (and_split (eqb (depth_of w) a.depth) (eqb (writable_of w) 1) goes).0 in
-    record { i_lt_slots = (c.requires.i_lt_slots.0, c.requires.i_lt_slots.1, c.requires.i_lt_slots.2, c.requires.i_lt_slots.3); table_value = (c.requires.table_value, omega (arith, depth, c.requires.i_lt_slots.4)) }
+    record { sizes = (c.requires.sizes.0, c.requires.sizes.1, c.requires.sizes.2, c.requires.sizes.3); rule = (c.requires.rule, omega (arith, depth, c.requires.sizes.4)) }
 
 pub returns : goal.returns
 returns c =

@@ -7,22 +7,22 @@ use Rattle.values.proofs.is_unchanged.Goals as goal
 pub source_of-source-requires : goal.source_of-source-requires
 source_of-source-requires c =
     let a = c.args in
-    record { i_lt_slots = c.requires.i_lt_slots; cells_once = (held_once a.memory.now a.bodies.now a.slots a.table.now c.requires.table_value.0 a.i c.requires.i_lt_slots.0 c.requires.table_value.1, c.requires.table_value.1, held_here a.memory.now a.bodies.now a.slots a.table.now c.requires.table_value.0 a.i c.requires.i_lt_slots.0 c.requires.table_value.1) }
+    record { sizes = c.requires.sizes; cells_once = (held_once a.memory.now a.bodies.now a.slots a.table.now c.requires.rule.0 a.i c.requires.sizes.0 c.requires.rule.1, c.requires.rule.1, held_here a.memory.now a.bodies.now a.slots a.table.now c.requires.rule.0 a.i c.requires.sizes.0 c.requires.rule.1) }
 
 pub first_word-requires-2 : goal.first_word-requires-2
 first_word-requires-2 c =
     let a = c.args in
-    (source_slot a.memory.now a.bodies.now a.slots a.table.now c.requires.table_value.0 a.i c.requires.i_lt_slots.0 c.requires.table_value.1 _ c.source_of-source.ensures, c.requires.i_lt_slots.1, c.requires.i_lt_slots.2)
+    (source_slot a.memory.now a.bodies.now a.slots a.table.now c.requires.rule.0 a.i c.requires.sizes.0 c.requires.rule.1 _ c.source_of-source.ensures, c.requires.sizes.1, c.requires.sizes.2)
 
 pub second_word-requires : goal.second_word-requires
 second_word-requires c =
     let a = c.args in
-    (source_slot a.memory.now a.bodies.now a.slots a.table.now c.requires.table_value.0 a.i c.requires.i_lt_slots.0 c.requires.table_value.1 _ c.source_of-source.ensures, c.requires.i_lt_slots.1, c.requires.i_lt_slots.2)
+    (source_slot a.memory.now a.bodies.now a.slots a.table.now c.requires.rule.0 a.i c.requires.sizes.0 c.requires.rule.1 _ c.source_of-source.ensures, c.requires.sizes.1, c.requires.sizes.2)
 
 pub has_own-requires : goal.has_own-requires
 has_own-requires c =
     let a = c.args in
-    record { cell_size_in_bounds = rw (c.cell_of-cell.ensures, c.first_word.ensures) (held_inside a.memory.now a.bodies.now a.slots a.table.now c.requires.table_value.0 a.i c.requires.i_lt_slots.0 c.requires.table_value.1); cell_size_in_bounds_2 = rw (c.first_word-2.ensures, c.second_word.ensures) (source_fits a.memory.now a.bodies.now a.slots a.table.now c.requires.table_value.0 a.i c.requires.i_lt_slots.0 c.requires.table_value.1 _ c.source_of-source.ensures) }
+    record { cell = rw (c.cell_of-cell.ensures, c.first_word.ensures) (held_inside a.memory.now a.bodies.now a.slots a.table.now c.requires.rule.0 a.i c.requires.sizes.0 c.requires.rule.1); body = rw (c.first_word-2.ensures, c.second_word.ensures) (source_fits a.memory.now a.bodies.now a.slots a.table.now c.requires.rule.0 a.i c.requires.sizes.0 c.requires.rule.1 _ c.source_of-source.ensures) }
 
 pub returns : goal.returns
 unfolding value_in
