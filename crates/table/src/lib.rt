@@ -8,6 +8,7 @@
 
 pub mod domains;
 pub mod fields;
+pub mod lent;
 
 ghost use Rattle.std.specs.Prelude.{◌≡◌, true, false, not, ℕ, ◌+◌, ◌*◌, ◌<◌, ◌≤◌, min, length, get_or, take};
 ghost use Rattle.words.specs.Layout.{pairs_at, table_words, max_slots, max_bodies, max_cells, max_live, handle_at, group_of};
