@@ -1,11 +1,11 @@
 -- Where no depth has a cell twice, an entry that is named is the one that is found, wherever the search for it begins. Assumes nothing.
-use Rattle.std.proofs.Common.{◌≡◌, ℕ, ◌<◌, ◌≤◌, true, eqb, List, sym, ◌∙◌, arith, eqb-true}
+use Rattle.std.proofs.Common.{◌≡◌, ℕ, ◌<◌, ◌≤◌, true, eqb, List, Option, Some, None, MatchOption, sym, ◌∙◌, arith, eqb-true}
 use borrow.Author.Tests.{eqb-false}
 use Rattle.words.proofs.Scan.{by_bool, by_le, is_false, not_lt}
 use Rattle.table.specs.Entry.{word1, depth_of, cell_of, find_in}
 use Rattle.table.specs.Marks.{CellsOnce, EndsAt}
 use Rattle.table.proofs.Entry.{find_some, find_hit, names_both}
-use Rattle.search.specs.Search.{IsKey, named_by, Unnamed}
+use Rattle.search.specs.Search.{IsKey, named_by, Unnamed, Found}
 use Rattle.search.proofs.Keys.{found_by_key}
 
 module _ (e : ℕ) (t : List ℕ) (once : CellsOnce e t e) (d c key : ℕ) (low : 1 ≤ d) (is : IsKey d c key) where
@@ -41,3 +41,9 @@ module _ (e : ℕ) (t : List ℕ) (once : CellsOnce e t e) (d c key : ℕ) (low 
       by_le top j (λ far. unnamed_free top ends j far b)
       (λ used. by_le start j (λ far. behind j far (omega (arith, used, past))) (λ near. front j a (omega (arith, near, met)))))
       (λ l. absurd (not_lt e e l (omega arith)))
+
+  -- the answer of a search that found none from the start on, by what it found from the front on
+  pub found_front : (top start : ℕ) (r : Option ℕ) → EndsAt e t top → start ≤ top → Unnamed e t key start top
+      → MatchOption r (Unnamed e t key 0 start) (λ i. (i < start) × (named_by key (word1 e t i) ≡ true)) → Found e (find_in e t d c) r
+  found_front top start None ends l behind h = found_nowhere top start top start ends (omega arith) (omega arith) behind h
+  found_front top start (Some i) ends l behind h = let b : i < e = omega (arith, h.0, l, ends.0) in (b, sym (found_anywhere i b h.1))

@@ -1,11 +1,12 @@
 -- Laws of a scan that begins at a place: `first_from n from f` is the least number from `from` on and below n of which f holds, or n.
 -- Assumes nothing.
-use Rattle.std.proofs.Common.{◌≡◌, ℕ, suc, ◌+◌, ◌-◌, ◌<◌, ◌≤◌, Bool, true, false, eqb, ltb, sym, ap, ◌∙◌, subst, arith, ltb-false, ltb-true, eqb-true}
+use Rattle.std.proofs.Common.{◌≡◌, ℕ, suc, ◌+◌, ◌-◌, ◌<◌, ◌≤◌, Bool, true, false, eqb, ltb, Option, Some, None, MatchOption, sym, ap, ◌∙◌, subst, arith, ltb-false, ltb-true, eqb-true}
 use borrow.Author.Tests.{eqb-false}
 use mir.Val.{bool_byte}
 use Rattle.words.specs.Scan.{first, count, nth}
 use Rattle.words.proofs.Scan.{first_at_lem, first_le, first_hit, first_miss, by_bool, by_le, count_more, count_stop}
 use Rattle.words.proofs.Nth.{nth_from, nth_below, nth_holds, nth_rank, count_mono}
+use Rattle.search.specs.Search.{Found}
 
 abbrev pub first_from : ℕ → ℕ → (ℕ → Bool) → ℕ
 first_from n from f = from + first (n - from) (λ k. f (from + k))
@@ -50,6 +51,14 @@ module _ (n from : ℕ) (f : ℕ → Bool) where
 
   pub from_le : from ≤ n → first_from n from f ≤ n
   from_le l = omega (arith, first_le (n - from) (λ k. f (from + k)))
+
+-- what `find` says over a range: none of its numbers passes, or this is the first that does
+abbrev pub FirstOf : (ℕ → Bool) → (from n : ℕ) → Option ℕ → Type 0
+FirstOf f from n r = MatchOption r (Failing f from n) (λ i. (from ≤ i) × (i < n) × (f i ≡ true) × Failing f from i)
+
+pub found_first : (f : ℕ → Bool) (from n : ℕ) (r : Option ℕ) → from ≤ n → FirstOf f from n r → Found n (first_from n from f) r
+found_first f from n None l h = from_at n from f n l (omega arith) h (λ z. absurd (omega (arith, z)))
+found_first f from n (Some i) l h = (h.1, sym (from_at n from f i h.0 (omega (arith, h.1)) h.3 (λ z. h.2)))
 
 -- ---- how many lie before and behind
 

@@ -2,7 +2,7 @@
 pub mod From
 pub mod Keys
 pub mod Anywhere
-pub mod Holders
+pub mod Inwards
 pub mod Value
 pub mod Behind
 pub mod Free

@@ -1,5 +1,5 @@
 -- What a table means: the first holder of a cell from a domain inwards, and the value behind a via parent chain.
-use Rattle.std.specs.Prelude.{◌≡◌, ℕ, zero, suc, ◌+◌, ◌<◌, ◌≤◌, Bool, true, false, cond, List, ◌==◌, nat_lt}
+use Rattle.std.specs.Prelude.{◌≡◌, ℕ, zero, suc, ◌+◌, ◌<◌, ◌≤◌, Bool, true, false, cond, List, ◌==◌, nat_lt, Option, MatchOption}
 use Rattle.words.specs.Scan.{first}
 use Rattle.words.specs.Layout.{max_cells}
 use Rattle.words.specs.Cells.{cell_bytes}
@@ -9,6 +9,10 @@ use Rattle.search.specs.declared.Holder.{Holder}
 use Rattle.search.specs.declared.Holder.TheVariants.{At, Nobody}
 use Rattle.search.specs.declared.Held.{Held}
 use Rattle.search.specs.declared.Held.TheVariants.{Nowhere, InBody, ByRule}
+
+-- what a search answers whose scan of n numbers gives `at`: that number, or none where it is n
+abbrev pub Found : (n at : ℕ) → Option ℕ → Type 0
+Found n at answer = MatchOption answer (at ≡ n) (λ i. (i < n) × (i ≡ at))
 
 -- ---- the search for an entry by its key
 

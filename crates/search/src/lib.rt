@@ -2,6 +2,8 @@
 // parent chain; and which entry slots and bodies are free.
 #![tactic(auto)]
 
+pub mod entries;
+pub mod holders;
 pub mod notes;
 
 ghost use Rattle.std.specs.Prelude.{◌≡◌, ℕ, ◌+◌, ◌/◌, ◌^◌, ◌<◌, ◌≤◌, false, length};

@@ -2,7 +2,7 @@
 -- key of this depth and the cell, from the start on and from the front on. Assumes nothing.
 use Rattle.std.proofs.Common.{◌+◌, ◌-◌, ◌≤◌}
 use Rattle.search.specs.Search.{Unnamed}
-use Rattle.search.proofs.Holders.{Lacking}
+use Rattle.search.proofs.Inwards.{Lacking}
 use Rattle.search.proofs.find_holder.Given as goal
 
 abbrev pub invariant-loop-i : goal.invariant-loop-i
