@@ -11,7 +11,7 @@ use Rattle.search.specs.Search.{steps_in, held_from, holder_in, source_in, sourc
 use Rattle.search.specs.declared.Holder.TheVariants.{At, Nobody}
 use Rattle.search.specs.declared.Held.{Held}
 use Rattle.search.specs.declared.Held.TheVariants.{Nowhere, InBody, ByRule}
-use Rattle.search.proofs.Inwards.{HolderFacts, holder_facts, zero_one}
+use Rattle.search.proofs.OldHolders.{HolderFacts, holder_facts, zero_one}
 use Rattle.search.proofs.Value.{Own, ends_in_own, body_fits_lem, source_none_at, source_own_at, source_via_at, source_zero}
 
 module _ (e : ℕ) (t : List ℕ) (d c : ℕ) where

@@ -3,6 +3,7 @@ pub mod From
 pub mod Keys
 pub mod Anywhere
 pub mod Inwards
+pub mod OldHolders
 pub mod Value
 pub mod Behind
 pub mod Free

@@ -2,7 +2,8 @@ use Rattle.std.proofs.Common.{◌<◌, sym, ap, ◌∙◌, arith, rules}
 use Rattle.search.specs.Search.{named_by}
 use Rattle.search.proofs.From.{failing_more}
 use Rattle.search.proofs.Keys.{none_wide}
-use Rattle.search.proofs.Inwards.{lacking_more, holder_nobody, holder_none, holder_at}
+use Rattle.search.proofs.Inwards.{lacking_more}
+use Rattle.search.proofs.OldHolders.{holder_nobody, holder_none, holder_at}
 use Rattle.search.proofs.Anywhere.{found_anywhere, found_nowhere}
 use Rattle.search.proofs.find_holder.Goals as goal
 

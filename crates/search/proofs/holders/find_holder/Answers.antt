@@ -1,0 +1,45 @@
+use Rattle.std.proofs.Common.{◌≡◌, ◌<◌, true, sym, ap, ◌∙◌, arith}
+use Rattle.table.specs.Entry.{word1}
+use Rattle.search.specs.Search.{named_by}
+use Rattle.search.proofs.Keys.{none_wide}
+use Rattle.search.proofs.Inwards.{lacking_more, holder_nobody, holder_none, holder_at}
+use Rattle.search.proofs.Anywhere.{found_anywhere, found_nowhere}
+use Rattle.search.proofs.holders.find_holder.Goals as goal
+
+pub returns-then-cell-ge65536 : goal.returns-then-cell-ge65536
+returns-then-cell-ge65536 c = let e = c.args.table.now.entries in sym (holder_none e.slots e.words.now c.args.from c.args.cell (λ d. none_wide e.slots e.words.now d c.args.cell c.if-cell-ge65536.true))
+
+pub loop-depth-preserved : goal.loop-depth-preserved
+loop-depth-preserved c =
+    let t = c.args.table.now in
+    let e = t.entries in
+    let depth = c.loop-depth.depth in
+    lacking_more e.slots e.words.now c.args.from c.args.cell depth c.loop-depth.auto.depth c.loop-depth.invariant
+    (found_nowhere e.slots e.words.now t.once depth c.args.cell _ (omega arith) c.key_of-key.ensures e.top c.start_at-start.result _ _ e.ends c.loop-entry-test.false c.loop-entry-2-test.false c.loop-entry.invariant c.loop-entry-2.invariant)
+
+pub returns-after-loop-depth : goal.returns-after-loop-depth
+returns-after-loop-depth c =
+    let e = c.args.table.now.entries in
+    sym (holder_nobody e.slots e.words.now c.args.from c.args.cell c.loop-depth.depth c.loop-depth.auto.depth (omega arith) c.loop-depth.invariant)
+
+pub returns-then-is_named : goal.returns-then-is_named
+returns-then-is_named c =
+    let t = c.args.table.now in
+    let e = t.entries in
+    let depth = c.loop-depth.depth in
+    let i = c.loop-entry.entry in
+    let within : i < e.slots = omega (arith, e.ends.0) in
+    let named : named_by c.key_of-key.result (word1 e.slots e.words.now i) ≡ true = ap (named_by _) (sym c.first_word.ensures) ∙ sym c.is_named.ensures ∙ c.if-is_named.true in
+    sym (holder_at e.slots e.words.now c.args.from c.args.cell depth i c.loop-depth.auto.depth (omega arith) c.loop-depth.invariant
+    (found_anywhere e.slots e.words.now t.once depth c.args.cell _ (omega arith) c.key_of-key.ensures i within named) within)
+
+pub returns-then-is_named-2 : goal.returns-then-is_named-2
+returns-then-is_named-2 c =
+    let t = c.args.table.now in
+    let e = t.entries in
+    let depth = c.loop-depth.depth in
+    let i = c.loop-entry-2.entry in
+    let within : i < e.slots = omega (arith, e.ends.0) in
+    let named : named_by c.key_of-key.result (word1 e.slots e.words.now i) ≡ true = ap (named_by _) (sym c.first_word-in-loop-entry-2.ensures) ∙ sym c.is_named-in-loop-entry-2.ensures ∙ c.if-is_named-2.true in
+    sym (holder_at e.slots e.words.now c.args.from c.args.cell depth i c.loop-depth.auto.depth (omega arith) c.loop-depth.invariant
+    (found_anywhere e.slots e.words.now t.once depth c.args.cell _ (omega arith) c.key_of-key.ensures i within named) within)
