@@ -1,5 +1,5 @@
 -- Where no depth has a cell twice, an entry that is named is the one that is found, wherever the search for it begins. Assumes nothing.
-use Rattle.std.proofs.Common.{◌≡◌, ℕ, ◌<◌, ◌≤◌, true, eqb, List, Option, Some, None, MatchOption, sym, ◌∙◌, arith, eqb-true}
+use Rattle.std.proofs.Common.{◌≡◌, ℕ, ◌<◌, ◌≤◌, true, eqb, List, Option, Some, None, MatchOption, refl, sym, ◌∙◌, arith, eqb-true}
 use borrow.Author.Tests.{eqb-false}
 use Rattle.words.proofs.Scan.{by_bool, by_le, is_false, not_lt}
 use Rattle.table.specs.Entry.{word1, depth_of, cell_of, find_in}
@@ -7,6 +7,15 @@ use Rattle.table.specs.Marks.{CellsOnce, EndsAt}
 use Rattle.table.proofs.Entry.{find_some, find_hit, names_both}
 use Rattle.search.specs.Search.{IsKey, named_by, Unnamed, Found}
 use Rattle.search.proofs.Keys.{found_by_key}
+
+-- an entry in use is the one that is found for its depth and its cell
+pub find_used : (e : ℕ) (t : List ℕ) → CellsOnce e t e → (i : ℕ) → i < e → 1 ≤ depth_of (word1 e t i) → find_in e t (depth_of (word1 e t i)) (cell_of (word1 e t i)) ≡ i
+find_used e t once i l low =
+    let d = depth_of (word1 e t i) in
+    let c = cell_of (word1 e t i) in
+    let le = find_some e t d c i l refl refl in
+    let hit = find_hit e t d c (omega (arith, le, l)) in
+    by_le i (find_in e t d c) (λ ge. omega (arith, ge, le)) (λ lt. absurd (once i l (find_in e t d c) lt low hit.0 hit.1))
 
 module _ (e : ℕ) (t : List ℕ) (once : CellsOnce e t e) (d c key : ℕ) (low : 1 ≤ d) (is : IsKey d c key) where
   -- two entries of one depth and cell are one

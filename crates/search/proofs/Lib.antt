@@ -6,6 +6,7 @@ pub mod Inwards
 pub mod OldHolders
 pub mod Value
 pub mod Behind
+pub mod Holding
 pub mod Free
 pub mod Taking
 pub mod Domain

@@ -1,12 +1,13 @@
 // The search inwards for the first holder of a cell, and the value behind it: its own, or for via parent the one at the end of the chain outwards.
-ghost use Rattle.std.specs.Prelude.{◌≡◌, ◌≤◌};
+ghost use Rattle.std.specs.Prelude.{◌≡◌, ◌<◌, ◌≤◌};
+ghost use Rattle.table.specs.Entry.{word1, depth_of, cell_of};
 ghost use Rattle.search.specs.Search.{HasSource, source_in, Found};
-ghost use Rattle.search.specs.Holders.{holder_in};
+ghost use Rattle.search.specs.Holders.{holder_in, value_of, value_from};
 
 use crate::entries::{find_entry, is_named, key_of, pass_over, start_at};
-
+use crate::notes::Notes;
 use table::domains::parent_of;
-use table::fields::{is_pattern, is_via};
+use table::fields::{cell_of, depth_of, is_pattern, is_via};
 use table::lent::Sound;
 use words::layout::LIVE_AT;
 
@@ -59,4 +60,69 @@ pub fn find_holder(table: &Sound<'_>, from: u32, cell: u32, begin: usize) -> Opt
         }
         None
     }
+}
+
+// The entry of the copy or the rule behind the cell held at this depth: outwards past the via parent entries. The notes of places to begin at may
+// be wrong.
+pub fn find_source<const N: usize>(
+    table: &Sound<'_>,
+    depth: u32,
+    cell: u32,
+    notes: &Notes<N>,
+) -> Option<usize>
+    ensures { Found table.now.entries.slots (source_in table.now.entries.slots table.now.entries.words.now depth cell) result }
+{
+    let entries = &table.entries;
+    for d in (1..=depth).rev() {
+        let i = find_entry(table, d, cell, notes.begin_at(entries, d, cell))?;
+        if !is_via(entries.first_word(i)) {
+            return Some(i);
+        }
+    }
+    None
+}
+
+// The entry that has the value of entry i, which is in use: itself, or for via parent the one at the end of the chain outwards.
+pub fn source_of<const N: usize>(table: &Sound<'_>, i: usize, notes: &Notes<N>) -> Option<usize>
+    requires slot { i < table.now.entries.slots }
+    requires used { 1 ≤ depth_of (word1 table.now.entries.slots table.now.entries.words.now i) }
+    ensures { let w = word1 table.now.entries.slots table.now.entries.words.now i in
+        Found table.now.entries.slots (source_in table.now.entries.slots table.now.entries.words.now (depth_of w) (cell_of w)) result }
+{
+    let word = table.entries.first_word(i);
+    if !is_via(word) {
+        return Some(i);
+    }
+    find_source(table, parent_of(depth_of(word)), cell_of(word) as u32, notes)
+}
+
+// The value of an entry that has one of its own, by its two words.
+fn value_of(first: u32, second: u32) -> Value
+    ensures { result ≡ value_of first second }
+{
+    if is_pattern(first) {
+        Value::Rule(second)
+    } else {
+        Value::Body(second)
+    }
+}
+
+// What the first holder of a cell, from this depth to the innermost, has of it; with notes of places to begin at.
+pub fn find_value<const N: usize>(
+    table: &Sound<'_>,
+    from: u32,
+    cell: u32,
+    notes: &Notes<N>,
+) -> Option<Held>
+    requires depth { 1 ≤ from }
+    requires source { HasSource table.now.entries.slots table.now.entries.words.now from cell }
+    ensures { result ≡ value_from table.now.entries.slots table.now.entries.words.now from cell }
+{
+    let entries = &table.entries;
+    let holder = find_holder(table, from, cell, notes.begin_at(entries, from, cell))?;
+    let source = source_of(table, holder.entry, notes)?;
+    Some(Held {
+        depth: holder.depth,
+        value: value_of(entries.first_word(source), entries.second_word(source)),
+    })
 }

@@ -6,9 +6,10 @@
 ghost use Rattle.std.specs.Prelude.{◌≡◌, ◌<◌, ◌≤◌, length};
 ghost use Rattle.words.specs.Layout.{pairs_at, max_slots};
 
-use crate::{is_named, key_of};
+use crate::entries::{is_named, key_of};
 use table::fields::cell_of;
 use table::first_word;
+use table::lent::Entries;
 use words::{least, wide};
 
 // At most so many entries of a bucket are looked at: notes that lie may lead in a circle, and where more entries share a bucket, passing over
@@ -16,6 +17,68 @@ use words::{least, wide};
 const MAX_LINKS: usize = 64;
 
 // Room for notes of few entries, and of as many as there can be: 256 numbers are cleared in no time, and 4,096 leave few entries in a bucket.
+pub const FEW_NOTES: usize = 256;
+
+pub const MANY_NOTES: usize = 4096;
+
+// Notes in N buckets of as many entries. With fewer buckets than `FEW_NOTES` nothing is noted: a call that searches once or not at all has one.
+#[derive(Drop)]
+pub struct Notes<const N: usize> {
+    last: [u16; N],
+    before: [u16; N],
+}
+
+impl<const N: usize> Notes<N> {
+    // No notes at all.
+    pub fn none() -> Self
+        requires { N ≤ MANY_NOTES }
+    {
+        Notes {
+            last: [0u16; N],
+            before: [0u16; N],
+        }
+    }
+
+    // Notes of the entries in use, as many as there is room for.
+    pub fn of(entries: &Entries<'_>) -> Self
+        requires { N ≤ MANY_NOTES }
+    {
+        let mut notes = Notes::none();
+        if N < FEW_NOTES {
+            return notes;
+        }
+        for i in 0..entries.top.min(N) {
+            let word = entries.first_word(i);
+            if word != 0 {
+                let at = cell_of(word) % N;
+                notes.before[i] = notes.last[at];
+                notes.last[at] = (i + 1) as u16;
+            }
+        }
+        notes
+    }
+
+    // A slot to begin at for this depth and cell: the first in its bucket that is named, or 0 where the notes tell of none.
+    pub fn begin_at(&self, entries: &Entries<'_>, depth: u32, cell: u32) -> usize {
+        if (N < FEW_NOTES) | (16 <= depth) | (65536 <= cell) {
+            return 0;
+        }
+        let key = key_of(depth, cell);
+        let end = entries.slots.min(N);
+        let mut at = usize::from(self.last[cell as usize % N]);
+        for _ in 0..MAX_LINKS {
+            if (at == 0) | (end < at) {
+                return 0;
+            }
+            if is_named(entries.first_word(at - 1), key) {
+                return at - 1;
+            }
+            at = usize::from(self.before[at - 1]);
+        }
+        0
+    }
+}
+
 pub fn few_notes() -> [u16; 256] {
     [0u16; 256]
 }
