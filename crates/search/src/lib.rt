@@ -5,6 +5,7 @@
 pub mod entries;
 pub mod holders;
 pub mod notes;
+pub mod places;
 
 ghost use Rattle.std.specs.Prelude.{◌≡◌, ℕ, ◌+◌, ◌/◌, ◌^◌, ◌<◌, ◌≤◌, false, length};
 ghost use Rattle.words.specs.Layout.{pairs_at, handle_at, max_slots, max_live, max_cells};
