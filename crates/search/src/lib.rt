@@ -2,6 +2,7 @@
 // parent chain; and which entry slots and bodies are free.
 #![tactic(auto)]
 
+pub mod domains;
 pub mod entries;
 pub mod holders;
 pub mod notes;
