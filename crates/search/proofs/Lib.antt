@@ -11,4 +11,4 @@ pub mod Free
 pub mod Taking
 pub mod Domain
 pub mod Counts
-pub mod Writable
+pub mod TakenOut

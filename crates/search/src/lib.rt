@@ -7,6 +7,7 @@ pub mod entries;
 pub mod holders;
 pub mod notes;
 pub mod places;
+pub mod writable;
 
 ghost use Rattle.std.specs.Prelude.{◌≡◌, ℕ, ◌+◌, ◌/◌, ◌^◌, ◌<◌, ◌≤◌, false, length};
 ghost use Rattle.words.specs.Layout.{pairs_at, handle_at, max_slots, max_live, max_cells};
@@ -23,6 +24,7 @@ use notes::noted;
 use table::domains::parent_of;
 use table::fields::{cell_of, depth_of, entry_word, is_pattern, is_via, owns_body, writable_of};
 use table::{first_word, second_word};
+use writable::keep_entry;
 use words::layout::{LIVE_AT, handle_at};
 use words::wide;
 
@@ -342,29 +344,8 @@ pub fn find_domain(table: &[u32], handle: u32) -> u32
 
 // ---- which cells a domain holds read-write, from the marks of all entries
 
-// What an entry of this depth takes out of its cell's mark: the depth's bit if the entry is read-only, else nothing. The product takes no
-// branch, where mixed labels would be guessed wrong.
-fn taken_bit(word: u32, depth: u32) -> u8
-    requires { (depth ≤ max_live) × (depth_of word ≡ depth) }
-    ensures { result ≡ 2 ^ taken_by depth word / 2 }
-{
-    ((1u32 << depth) / 2 * (1 - writable_of(word))) as u8
-}
-
-// Takes this depth out of the mark of a read-only entry's cell. Entries of another depth, and free ones, are left out: a free entry's word
-// names cell 0, and storing its mark once for each would hold up the next.
-fn keep_entry(seen: &mut [u8], word: u32, depth: u32)
-    requires { (depth ≤ max_live) × Kept seen.old × (2 ^ taken_by depth word / 2 ≤ mark_at seen.old word) × (depth_of word ≡ depth → 1 ≤ mark_at seen.old word) }
-    ensures { KeepsCell depth word seen.old seen.new × Kept seen.new }
-{
-    if depth_of(word) != depth {
-        return;
-    }
-    let cell = cell_of(word);
-    let mark = mark_of(seen, cell);
-    change_mark(seen, cell, mark - taken_bit(word, depth));
-}
-
+// old form: goes when its callers have gone over
+//
 // Takes this depth out of the mark of each cell that the domain at this depth holds read-only, so that the marks tell of this depth which
 // cells it holds read-write. The entries from `top` on are free.
 pub fn keep_writable(table: &[u32], slots: usize, top: usize, depth: u32, seen: &mut [u8])

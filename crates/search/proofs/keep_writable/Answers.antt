@@ -1,5 +1,5 @@
 use Rattle.std.proofs.Common.{◌≡◌, ℕ, ◌<◌, refl, ◌∙◌, subst, arith, rules}
-use Rattle.search.proofs.Writable.{TakenOut, kept_none, take_fits, marked_there, kept_more, kept_free, kept_end}
+use Rattle.search.proofs.TakenOut.{TakenOut, kept_none, take_fits, marked_there, kept_more, kept_free, kept_end}
 use Rattle.search.proofs.keep_writable.Goals as goal
 
 pub loop-i-init : goal.loop-i-init

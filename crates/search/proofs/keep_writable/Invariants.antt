@@ -1,8 +1,8 @@
 -- `keep_writable` meets its contract. The loop's invariant: the read-only entries of this depth among those passed have taken it out
--- (proofs/Writable.antt). Assumes nothing.
+-- (proofs/TakenOut.antt). Assumes nothing.
 use Rattle.std.proofs.Common.{◌≡◌, ◌-◌, ◌≤◌, length}
 use Rattle.marks.specs.Blocks.{Kept}
-use Rattle.search.proofs.Writable.{TakenOut}
+use Rattle.search.proofs.TakenOut.{TakenOut}
 use Rattle.search.proofs.keep_writable.Given as goal
 
 abbrev pub invariant-loop-i : goal.invariant-loop-i

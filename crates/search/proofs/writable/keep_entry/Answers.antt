@@ -1,8 +1,8 @@
--- `search::keep_entry` meets its contract. Assumes nothing.
+-- `keep_entry` meets its contract. Assumes nothing.
 use Rattle.std.proofs.Common.{sym, ◌∙◌, arith}
 use Rattle.marks.proofs.Blocks.{kept_cells}
-use Rattle.search.proofs.Writable.{keeps_same, keeps_stored}
-use Rattle.search.proofs.keep_entry.Goals as goal
+use Rattle.search.proofs.TakenOut.{keeps_same, keeps_stored}
+use Rattle.search.proofs.writable.keep_entry.Goals as goal
 
 pub returns-then-depth_of-depth : goal.returns-then-depth_of-depth
 returns-then-depth_of-depth c = (keeps_same c.args.depth c.args.word c.args.seen.now (λ z. c.if-depth_of-depth.true (c.depth_of.ensures ∙ z)), c.requires.1)

@@ -1,8 +1,8 @@
 -- `taken_bit` meets its contract. Assumes nothing.
 use Rattle.std.proofs.Common.{◌≡◌, ◌*◌, ◌/◌, ◌%◌, ◌^◌, arith}
 use Rattle.marks.proofs.Digits.{bit_small}
-use Rattle.search.proofs.Writable.{taken_bit, taken_small}
-use Rattle.search.proofs.taken_bit.Goals as goal
+use Rattle.search.proofs.TakenOut.{taken_bit, taken_small}
+use Rattle.search.proofs.writable.taken_bit.Goals as goal
 
 pub overflow_mul-result : goal.overflow_mul-result
 overflow_mul-result c =
