@@ -47,14 +47,14 @@ pub fn find_holder(table: &Sound<'_>, from: u32, cell: u32, begin: usize) -> Opt
     'search: {
         for depth in from..live + 1 {
             let key = key_of(depth, cell);
-            for entry in pass_over(entries, key, start, entries.top)..entries.top {
-                if is_named(entries.first_word(entry), key) {
-                    break 'search Some(Holder { depth, entry });
+            for i in pass_over(entries, key, start, entries.top)..entries.top {
+                if is_named(entries.first_word(i), key) {
+                    break 'search Some(Holder { depth, entry: i });
                 }
             }
-            for entry in pass_over(entries, key, 0, start)..start {
-                if is_named(entries.first_word(entry), key) {
-                    break 'search Some(Holder { depth, entry });
+            for j in pass_over(entries, key, 0, start)..start {
+                if is_named(entries.first_word(j), key) {
+                    break 'search Some(Holder { depth, entry: j });
                 }
             }
         }

@@ -9,24 +9,25 @@ pub mod notes;
 pub mod places;
 pub mod writable;
 
-ghost use Rattle.std.specs.Prelude.{◌≡◌, ℕ, ◌+◌, ◌/◌, ◌^◌, ◌<◌, ◌≤◌, false, length};
-ghost use Rattle.words.specs.Layout.{pairs_at, handle_at, max_slots, max_live, max_cells};
-ghost use Rattle.table.specs.Entry.{live, depth_of, find_in};
+ghost use Rattle.std.specs.Prelude.{◌≡◌, ◌+◌, ◌<◌, ◌≤◌, false, length};
+ghost use Rattle.words.specs.Layout.{pairs_at, handle_at, max_slots, max_live};
+ghost use Rattle.table.specs.Entry.{live, find_in};
 ghost use Rattle.marks.specs.Blocks.{Kept};
-ghost use Rattle.table.specs.Marks.{mark_at, Marked, CellsOnce, FreeRun, EndsAt};
-ghost use Rattle.search.specs.Search.{Bare, IsKey, named_by, Unnamed, HasSource, holder_in, source_in, held_by, value_from};
+ghost use Rattle.table.specs.Marks.{Marked, CellsOnce, FreeRun, EndsAt};
+ghost use Rattle.search.specs.Search.{Bare, Unnamed, HasSource, holder_in, source_in, held_by, value_from};
 ghost use Rattle.search.specs.Free.{used_slots, copies, free_from, unmarked_from};
 ghost use Rattle.search.specs.Domain.{depth_named};
-ghost use Rattle.search.specs.Writable.{taken_by, KeepsCell, TellWritable};
+ghost use Rattle.search.specs.Writable.{TellWritable};
 
-use marks::{change_mark, mark_of};
+use entries::{is_named, key_of, start_at};
 use notes::noted;
+use places::InUse;
 use table::domains::parent_of;
-use table::fields::{cell_of, depth_of, entry_word, is_pattern, is_via, owns_body, writable_of};
+use table::fields::{is_pattern, is_via};
+use table::lent::Entries;
 use table::{first_word, second_word};
+use words::layout::LIVE_AT;
 use writable::keep_entry;
-use words::layout::{LIVE_AT, handle_at};
-use words::wide;
 
 // The first holder of a cell in a search inwards: its depth and its entry.
 #[derive(Clone, Copy)]
@@ -45,25 +46,7 @@ pub enum Held {
 
 // ---- the search for an entry
 //
-// An entry is looked for by a key: the word with its depth and its cell and no other bit.
-
-// The key of a depth and a cell.
-fn key_of(depth: u32, cell: u32) -> u32
-    requires { (depth < 16) × (cell < max_cells) }
-    ensures { IsKey depth cell result }
-{
-    entry_word(depth, 0, 0, cell)
-}
-
-// Does an entry's first word name the depth and the cell of a key? It does where the two differ in label, kind and unused bits alone, which
-// the difference shows in one test.
-fn is_named(word: u32, key: u32) -> bool
-    requires { Bare key }
-    ensures { result ≡ named_by key word }
-{
-    let apart = std::num::wrapping_sub_u32(word, key);
-    (depth_of(apart) == 0) & (cell_of(apart) == 0)
-}
+// old form, down to `find_value`: goes when its callers have gone over
 
 // Is one of the four entries from `i` on named? All four are asked, with no branch.
 fn four_named(table: &[u32], slots: usize, key: u32, i: usize) -> bool
@@ -99,20 +82,10 @@ fn pass_over(table: &[u32], slots: usize, key: u32, from: usize, end: usize) -> 
     i
 }
 
-// Where a search of the slots before `top` begins: at the slot asked for, or at the first where that is none of them.
-fn start_at(top: usize, begin: usize) -> usize
-    ensures { result ≤ top }
-{
-    if begin < top {
-        return begin;
-    }
-    0
-}
-
 // The entry of this depth and cell, or `slots` where there is none. A depth or a cell that no word can hold has none. The search begins at slot
 // `begin`, which may be any number, and goes on from the front: no depth has a cell twice, so that it finds the same entry wherever it begins,
 // and a good place only saves time. The entries from `top` on are free, so that it ends there.
-pub fn find_entry(
+fn find_entry(
     table: &[u32],
     slots: usize,
     top: usize,
@@ -148,7 +121,7 @@ pub fn find_entry(
 
 // The first holder of a cell from this depth to the innermost. At each depth the search begins at slot `begin`, which may be any number, and
 // goes on from the front; it ends at `top`, since the entries from there on are free.
-pub fn find_holder(
+fn find_holder(
     table: &[u32],
     slots: usize,
     top: usize,
@@ -261,85 +234,48 @@ pub fn find_value(
 
 // ---- free entry slots and free bodies
 
-// How many entries are in use, and how many of these have a body.
-#[derive(Clone, Copy)]
-pub struct InUse {
-    pub entries: usize,
-    pub copies: usize,
-}
-
-// Both in one pass over the entries below `top`, behind which all are free. It takes no branch on what an entry holds, and counts in numbers
-// as wide as a word, so that the compiler can count several entries at once.
+// old form: goes when its callers have gone over
 pub fn count_used(table: &[u32], slots: usize, top: usize) -> InUse
     requires sizes { (slots ≤ max_slots) × (pairs_at slots ≤ length table.now) × (top ≤ slots) }
     requires free_run { FreeRun slots table.now top slots }
     ensures { (result.entries ≡ used_slots slots table.now) × (result.copies ≡ copies slots table.now) }
 {
-    let mut entries: u32 = 0;
-    let mut copies: u32 = 0;
-    let mut i: usize = 0;
-    while i < top {
-        let word = first_word(table, slots, i);
-        entries += (word != 0) as u32;
-        copies += owns_body(word) as u32;
-        i += 1;
-    }
-    InUse {
-        entries: wide(entries),
-        copies: wide(copies),
-    }
+    places::count_used(&Entries {
+        words: table,
+        slots,
+        top,
+    })
 }
 
-// The lowest free entry slot from `from` on, or `slots` where none is left.
+// old form: goes when its callers have gone over
 pub fn next_free_slot(table: &[u32], slots: usize, from: usize) -> usize
     requires { (slots ≤ max_slots) × (pairs_at slots ≤ length table.now) × (from ≤ slots) }
     ensures { result ≡ free_from slots table.now from }
 {
-    let mut i = from;
-    while i < slots {
-        if first_word(table, slots, i) == 0 {
-            return i;
-        }
-        i += 1;
-    }
-    i
+    let entries = Entries {
+        words: table,
+        slots,
+        top: slots,
+    };
+    places::next_free_slot(&entries, from).unwrap_or(slots)
 }
 
-// The lowest body from `from` on that has no mark, or `bodies` where none is left. `used` has the mark 1 at each body in use, so that
-// a call that takes many bodies passes the entries once for all of them.
+// old form: goes when its callers have gone over
 pub fn next_free_body(used: &[u8], bodies: usize, from: usize) -> usize
     requires { (bodies ≤ length used.now) × (from ≤ bodies) }
     ensures { result ≡ unmarked_from bodies used.now from }
 {
-    let mut k = from;
-    while k < bodies {
-        if used[k] != 1 {
-            return k;
-        }
-        k += 1;
-    }
-    k
+    places::next_free_body(used, bodies, from).unwrap_or(bodies)
 }
 
 // ---- a domain by its handle
 
-// The depth of the live domain with this handle, or of the innermost for 0; 0 where there is none.
+// old form: goes when its callers have gone over
 pub fn find_domain(table: &[u32], handle: u32) -> u32
     requires { (handle_at max_live ≤ length table.now) × (live table.now ≤ max_live) }
     ensures { result ≡ depth_named table.now handle }
 {
-    let live = table[LIVE_AT];
-    if handle == 0 {
-        return live;
-    }
-    let mut k: u32 = 0;
-    while k < live {
-        if table[handle_at(wide(k))] == handle {
-            return k + 1;
-        }
-        k += 1;
-    }
-    0
+    domains::find_domain(table, handle).unwrap_or(0)
 }
 
 // ---- which cells a domain holds read-write, from the marks of all entries

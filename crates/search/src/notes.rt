@@ -79,20 +79,22 @@ impl<const N: usize> Notes<N> {
     }
 }
 
+// old form: goes when its callers have gone over
 pub fn few_notes() -> [u16; 256] {
     [0u16; 256]
 }
 
+// old form: goes when its callers have gone over
 pub fn many_notes() -> [u16; 4096] {
     [0u16; 4096]
 }
 
-// No notes at all, for a call that searches once or not at all.
+// old form: goes when its callers have gone over
 pub fn no_notes() -> [u16; 1] {
     [0u16; 1]
 }
 
-// The bucket of a cell, where there is room for so many. Both numbers are fixed, so that no division is made.
+// old form: goes when its callers have gone over
 fn bucket_of(room: usize, cell: usize) -> usize
     requires { 256 ≤ room }
     ensures { result < room }
@@ -103,14 +105,14 @@ fn bucket_of(room: usize, cell: usize) -> usize
     cell % 4096
 }
 
-// A noted number as an index.
+// old form: goes when its callers have gone over
 fn index_of(x: u16) -> usize
     ensures { (result ≡ x) × (result < 65536) }
 {
     x as usize
 }
 
-// Notes the entries below `top` that are in use, as many as `before` has room for. Where `last` is too short for any buckets nothing is noted.
+// old form: goes when its callers have gone over
 pub fn note_entries(table: &[u32], slots: usize, top: usize, last: &mut [u16], before: &mut [u16])
     requires { (slots ≤ max_slots) × (pairs_at slots ≤ length table.now) × (top ≤ slots) }
 {
@@ -131,7 +133,7 @@ pub fn note_entries(table: &[u32], slots: usize, top: usize, last: &mut [u16], b
     }
 }
 
-// A slot to begin at for this depth and cell: the first in its bucket that is named, or 0 where the notes tell of none.
+// old form: goes when its callers have gone over
 pub fn noted(
     table: &[u32],
     slots: usize,

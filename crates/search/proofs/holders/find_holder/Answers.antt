@@ -15,7 +15,7 @@ loop-depth-preserved c =
     let e = t.entries in
     let depth = c.loop-depth.depth in
     lacking_more e.slots e.words.now c.args.from c.args.cell depth c.loop-depth.auto.depth c.loop-depth.invariant
-    (found_nowhere e.slots e.words.now t.once depth c.args.cell _ (omega arith) c.key_of-key.ensures e.top c.start_at-start.result _ _ e.ends c.loop-entry-test.false c.loop-entry-2-test.false c.loop-entry.invariant c.loop-entry-2.invariant)
+    (found_nowhere e.slots e.words.now t.once depth c.args.cell _ (omega arith) c.key_of-key.ensures e.top c.start_at-start.result _ _ e.ends c.loop-i-test.false c.loop-j-test.false c.loop-i.invariant c.loop-j.invariant)
 
 pub returns-after-loop-depth : goal.returns-after-loop-depth
 returns-after-loop-depth c =
@@ -27,7 +27,7 @@ returns-then-is_named c =
     let t = c.args.table.now in
     let e = t.entries in
     let depth = c.loop-depth.depth in
-    let i = c.loop-entry.entry in
+    let i = c.loop-i.i in
     let within : i < e.slots = omega (arith, e.ends.0) in
     let named : named_by c.key_of-key.result (word1 e.slots e.words.now i) ≡ true = ap (named_by _) (sym c.first_word.ensures) ∙ sym c.is_named.ensures ∙ c.if-is_named.true in
     sym (holder_at e.slots e.words.now c.args.from c.args.cell depth i c.loop-depth.auto.depth (omega arith) c.loop-depth.invariant
@@ -38,8 +38,8 @@ returns-then-is_named-2 c =
     let t = c.args.table.now in
     let e = t.entries in
     let depth = c.loop-depth.depth in
-    let i = c.loop-entry-2.entry in
+    let i = c.loop-j.j in
     let within : i < e.slots = omega (arith, e.ends.0) in
-    let named : named_by c.key_of-key.result (word1 e.slots e.words.now i) ≡ true = ap (named_by _) (sym c.first_word-in-loop-entry-2.ensures) ∙ sym c.is_named-in-loop-entry-2.ensures ∙ c.if-is_named-2.true in
+    let named : named_by c.key_of-key.result (word1 e.slots e.words.now i) ≡ true = ap (named_by _) (sym c.first_word-in-loop-j.ensures) ∙ sym c.is_named-in-loop-j.ensures ∙ c.if-is_named-2.true in
     sym (holder_at e.slots e.words.now c.args.from c.args.cell depth i c.loop-depth.auto.depth (omega arith) c.loop-depth.invariant
     (found_anywhere e.slots e.words.now t.once depth c.args.cell _ (omega arith) c.key_of-key.ensures i within named) within)

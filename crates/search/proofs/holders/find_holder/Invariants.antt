@@ -7,8 +7,8 @@ use Rattle.search.proofs.holders.find_holder.Given as goal
 abbrev pub invariant-loop-depth : goal.invariant-loop-depth
 invariant-loop-depth l = Lacking l.entries.slots l.entries.words.now l.from l.cell (l.depth - l.from)
 
-abbrev pub invariant-loop-entry : goal.invariant-loop-entry
-invariant-loop-entry l = Unnamed l.entries.slots l.entries.words.now l.key l.start l.entry
+abbrev pub invariant-loop-i : goal.invariant-loop-i
+invariant-loop-i l = Unnamed l.entries.slots l.entries.words.now l.key l.start l.i
 
-abbrev pub invariant-loop-entry-2 : goal.invariant-loop-entry-2
-invariant-loop-entry-2 l = Unnamed l.entries.slots l.entries.words.now l.key 0 l.entry
+abbrev pub invariant-loop-j : goal.invariant-loop-j
+invariant-loop-j l = Unnamed l.entries.slots l.entries.words.now l.key 0 l.j
