@@ -1,5 +1,8 @@
 -- The answers of the search inwards: the first holder of a cell, and the value that it has.
-use Rattle.std.specs.Prelude.{ℕ, ◌+◌, cond, List, Option, Some, None}
+use Rattle.std.specs.Prelude.{ℕ, ◌+◌, ◌≤◌, cond, List, length, Option, Some, None}
+use Rattle.words.specs.Layout.{cell_at, cell_size}
+use Rattle.words.specs.Cells.{cell_bytes}
+use Rattle.patterns.specs.Pattern.{pattern}
 use Rattle.table.specs.Entry.{word1, word2, is_pattern, find_in}
 use Rattle.search.specs.Search.{steps_in, held_from, source_from}
 use Rattle.search.specs.declared.holders.Holder.{Holder}
@@ -15,6 +18,16 @@ holder_in e t d c =
 -- the value of an entry of its own, by its two words: a rule, or a body
 abbrev pub value_of : (w v : ℕ) → Value
 value_of w v = cond (is_pattern w) (Rule v) (Body v)
+
+-- the bytes that a value stands for: those of its body, or of its rule
+abbrev pub value_bytes : (bodies : List ℕ) → Value → List ℕ
+value_bytes bodies (Body k) = cell_bytes bodies k
+value_bytes bodies (Rule k) = pattern k
+
+-- its body, where it has one, is one of the bodies
+abbrev pub BodyWithin : (bodies : List ℕ) → Value → Type 0
+BodyWithin bodies (Body k) = cell_at k + cell_size ≤ length bodies
+BodyWithin bodies (Rule k) = Unit {0}
 
 -- what a holder at depth d has whose chain ends in an entry with these words
 abbrev pub held_by : (d w v : ℕ) → Held

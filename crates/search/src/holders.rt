@@ -1,6 +1,6 @@
 // The search inwards for the first holder of a cell, and the value behind it: its own, or for via parent the one at the end of the chain outwards.
 ghost use Rattle.std.specs.Prelude.{◌≡◌, ◌<◌, ◌≤◌};
-ghost use Rattle.table.specs.Entry.{word1, depth_of, cell_of};
+ghost use Rattle.table.specs.Entry.{word1, word2, depth_of, cell_of};
 ghost use Rattle.search.specs.Search.{HasSource, source_in, Found};
 ghost use Rattle.search.specs.Holders.{holder_in, value_of, value_from};
 
@@ -8,7 +8,7 @@ use crate::entries::{find_entry, is_named, key_of, pass_over, start_at};
 use crate::notes::Notes;
 use table::domains::parent_of;
 use table::fields::{cell_of, depth_of, is_pattern, is_via};
-use table::lent::Sound;
+use table::lent::{Entries, Sound};
 use words::layout::LIVE_AT;
 
 // The first holder of a cell in a search inwards: its depth and its entry.
@@ -96,11 +96,13 @@ pub fn source_of<const N: usize>(table: &Sound<'_>, i: usize, notes: &Notes<N>) 
     find_source(table, parent_of(depth_of(word)), cell_of(word) as u32, notes)
 }
 
-// The value of an entry that has one of its own, by its two words.
-fn value_of(first: u32, second: u32) -> Value
-    ensures { result ≡ value_of first second }
+// The value of entry i, which has one of its own.
+pub fn value_at(entries: &Entries<'_>, i: usize) -> Value
+    requires { i < entries.now.slots }
+    ensures { result ≡ value_of (word1 entries.now.slots entries.now.words.now i) (word2 entries.now.slots entries.now.words.now i) }
 {
-    if is_pattern(first) {
+    let second = entries.second_word(i);
+    if is_pattern(entries.first_word(i)) {
         Value::Rule(second)
     } else {
         Value::Body(second)
@@ -123,6 +125,6 @@ pub fn find_value<const N: usize>(
     let source = source_of(table, holder.entry, notes)?;
     Some(Held {
         depth: holder.depth,
-        value: value_of(entries.first_word(source), entries.second_word(source)),
+        value: value_at(entries, source),
     })
 }

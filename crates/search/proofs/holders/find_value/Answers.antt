@@ -24,5 +24,5 @@ returns-in_err-source g c =
 pub returns : goal.returns
 returns g c =
     let e = c.args.table.now.entries in
-    rw (c.value_of.ensures, c.first_word.ensures, c.second_word.ensures)
+    rw c.value_at.ensures
     (sym (value_there e.slots e.words.now c.args.from c.args.cell _ (sym c.in_ok-holder.ensures) _ c.in_ok-source.ensures.1))
