@@ -197,10 +197,10 @@ module _ (e : ℕ) (t : List ℕ) (d c : ℕ) (l : d ≤ live t) (s : source_in 
       let here : d + 0 ≡ d = omega arith in
       first_at_lem (suc (live t) - d) (λ k. holds_in e t (d + k) c) 0 (omega arith) (λ j z. absurd (not-suc-le-zero z)) (λ _. rw here source_holds)
 
-  at_here : d + steps_in e t d c ≡ d
+  pub at_here : d + steps_in e t d c ≡ d
   at_here = omega (arith, steps_here)
 
-  held_here : held_from e t d c ≡ true
+  pub held_here : held_from e t d c ≡ true
   held_here = lt-ltb (steps_in e t d c) (suc (live t) - d) (omega (arith, steps_here))
 
   pub source_here : HasSource e t d c

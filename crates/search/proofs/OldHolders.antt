@@ -1,5 +1,5 @@
 -- Laws of the search inwards for the first holder of a cell, as the old form answers it. They go with it. Assumes nothing.
-use Rattle.std.proofs.Common.{◌≡◌, ℕ, suc, ◌+◌, ◌-◌, ◌<◌, ◌≤◌, Bool, false, ltb, List, subst, arith, ltb-false, ltb-true, le-ltb, lt-ltb}
+use Rattle.std.proofs.Common.{◌≡◌, ℕ, suc, ◌+◌, ◌-◌, ◌<◌, ◌≤◌, Bool, ltb, List, subst, arith, ltb-true, le-ltb, lt-ltb}
 use Rattle.words.specs.Scan.{first}
 use Rattle.words.proofs.Scan.{first_at_lem, first_hit, first_miss, by_bool, not_lt}
 use Rattle.table.specs.Entry.{live, find_in, holds_in}

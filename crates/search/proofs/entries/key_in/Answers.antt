@@ -1,5 +1,5 @@
 use Rattle.std.proofs.Common.{arith}
-use Rattle.search.proofs.Keys.{none_beyond, within}
+use Rattle.search.proofs.Keys.{none_beyond}
 use Rattle.search.proofs.entries.key_in.Goals as goal
 
 pub returns-then-depth-cell : goal.returns-then-depth-cell

@@ -1,5 +1,5 @@
-use Rattle.std.proofs.Common.{sym, ap, ◌∙◌}
-use Rattle.table.specs.Entry.{word1, depth_of, cell_of, via_of}
+use Rattle.std.proofs.Common.{sym, ◌∙◌}
+use Rattle.table.specs.Entry.{word1, depth_of, cell_of}
 use Rattle.table.proofs.Entry.{via_some, via_zero}
 use Rattle.search.proofs.Anywhere.{find_used}
 use Rattle.search.proofs.Value.{source_own_at, source_via_at}

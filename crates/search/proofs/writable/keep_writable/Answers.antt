@@ -1,4 +1,4 @@
-use Rattle.std.proofs.Common.{◌≡◌, ℕ, ◌<◌, refl, subst, arith}
+use Rattle.std.proofs.Common.{◌≡◌, ℕ, ◌<◌, subst, arith}
 use Rattle.search.proofs.TakenOut.{TakenOut, kept_none, take_fits, marked_there, kept_more, kept_free, kept_end}
 use Rattle.search.proofs.writable.keep_writable.Goals as goal
 

@@ -1,5 +1,4 @@
 -- The read-only entries of this depth among those passed have taken it out (proofs/TakenOut.antt).
-use Rattle.std.proofs.Common.{◌≡◌, length}
 use Rattle.marks.specs.Blocks.{Kept}
 use Rattle.search.proofs.TakenOut.{TakenOut}
 use Rattle.search.proofs.writable.keep_writable.Given as goal
