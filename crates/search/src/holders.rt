@@ -93,7 +93,12 @@ pub fn source_of<const N: usize>(table: &Sound<'_>, i: usize, notes: &Notes<N>) 
     if !is_via(word) {
         return Some(i);
     }
-    find_source(table, parent_of(depth_of(word)), cell_of(word) as u32, notes)
+    find_source(
+        table,
+        parent_of(depth_of(word)),
+        cell_of(word) as u32,
+        notes,
+    )
 }
 
 // The value of entry i, which has one of its own.

@@ -85,14 +85,7 @@ fn pass_over(table: &[u32], slots: usize, key: u32, from: usize, end: usize) -> 
 // The entry of this depth and cell, or `slots` where there is none. A depth or a cell that no word can hold has none. The search begins at slot
 // `begin`, which may be any number, and goes on from the front: no depth has a cell twice, so that it finds the same entry wherever it begins,
 // and a good place only saves time. The entries from `top` on are free, so that it ends there.
-fn find_entry(
-    table: &[u32],
-    slots: usize,
-    top: usize,
-    depth: u32,
-    cell: u32,
-    begin: usize,
-) -> usize
+fn find_entry(table: &[u32], slots: usize, top: usize, depth: u32, cell: u32, begin: usize) -> usize
     requires sizes { (slots ≤ max_slots) × (pairs_at slots ≤ length table.now) × EndsAt slots table.now top × (1 ≤ depth) }
     requires cells_once { CellsOnce slots table.now slots }
     ensures { result ≡ find_in slots table.now depth cell }

@@ -18,7 +18,7 @@ use Rattle.search.proofs.Value.{Own, ends_in_own, body_fits_lem}
 
 module _ (memory bodies : List ℕ) (e : ℕ) (t : List ℕ) (ok : rule_ok (cells_of (length memory)) e (bodies_of (length bodies)) t ≡ true)
     (i : ℕ) (l : i < e) (low : 1 ≤ depth_of (word1 e t i)) where
-  rule : Rule (cells_of (length memory)) e (bodies_of (length bodies)) t
+  pub rule : Rule (cells_of (length memory)) e (bodies_of (length bodies)) t
   rule = ok_facts (cells_of (length memory)) e (bodies_of (length bodies)) t ok
 
   used : word1 e t i ≡ 0 → ⊥
@@ -37,14 +37,14 @@ module _ (memory bodies : List ℕ) (e : ℕ) (t : List ℕ) (ok : rule_ok (cell
 
   -- its chain ends in an entry, and where that is a copy its body is one of the bodies
   module _ (s : ℕ) (is : s ≡ source_in e t (depth_of (word1 e t i)) (cell_of (word1 e t i))) where
-    own : Own e t s
-    own = rw is (ends_in_own (cells_of (length memory)) e (bodies_of (length bodies)) t rule (depth_of (word1 e t i)) (cell_of (word1 e t i)) low (rw held_here l))
+    pub source_own : Own e t s
+    source_own = rw is (ends_in_own (cells_of (length memory)) e (bodies_of (length bodies)) t rule (depth_of (word1 e t i)) (cell_of (word1 e t i)) low (rw held_here l))
 
     pub source_slot : s < e
-    source_slot = own.slot
+    source_slot = source_own.slot
 
     pub source_fits : is_pattern (word1 e t s) ≡ false → cell_at (word2 e t s) + 64 ≤ length bodies
     source_fits p =
         let inside = body_fits_lem (cells_of (length memory)) e (bodies_of (length bodies)) t rule s
-        (record { slot = own.slot; used = own.used; copy = own.own; plain = pattern_zero (word1 e t s) p }) in
+        (record { slot = source_own.slot; used = source_own.used; copy = source_own.own; plain = pattern_zero (word1 e t s) p }) in
         omega (arith, inside)

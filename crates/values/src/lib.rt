@@ -2,6 +2,8 @@
 // domain.
 #![tactic(auto)]
 
+pub mod compared;
+
 ghost use Rattle.std.specs.Prelude.{◌≡◌, true, false, ◌+◌, ◌<◌, ◌≤◌, length};
 ghost use Rattle.words.specs.Layout.{cell_at, cells_of, bodies_of, pairs_at, max_slots, cell_size};
 ghost use Rattle.words.specs.Cells.{cell_bytes, same_cell};
@@ -11,12 +13,15 @@ ghost use Rattle.table.specs.Rule.{rule_ok};
 ghost use Rattle.search.specs.Search.{source_in, own_value};
 ghost use Rattle.values.specs.Values.{unchanged, writes, entry_changed};
 
+use compared::writes_word;
 use patterns::pattern_bytes;
 use search::find_source;
 use table::domains::parent_of;
-use table::fields::{cell_of, depth_of, is_pattern, is_via, is_writable};
+use table::fields::{cell_of, depth_of, is_pattern, is_via};
 use table::{first_word, second_word};
 use words::{same_cell, wide};
+
+// old form, from here on: goes when its callers have gone over
 
 // Has memory in this cell what an entry with these words has of its own: the bytes of its rule, or its body? Either way it is one comparison of
 // 64 bytes.
@@ -87,13 +92,6 @@ fn is_unchanged(
         first_word(table, slots, source),
         second_word(table, slots, source),
     )
-}
-
-// Is an entry with this first word a read-write one of this depth?
-fn writes_word(word: u32, depth: u32) -> bool
-    ensures { result ≡ writes depth word }
-{
-    (depth_of(word) == depth) & is_writable(word)
 }
 
 // Is entry i a read-write one of this depth, and has memory other bytes than its value?

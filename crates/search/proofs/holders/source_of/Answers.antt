@@ -9,9 +9,11 @@ pub returns-then-not-is_via : goal.returns-then-not-is_via
 returns-then-not-is_via g c =
     let t = c.args.table.now in
     let e = t.entries in
-    let w = word1 e.slots e.words.now c.args.i in
-    (c.requires.slot, sym (source_own_at e.slots e.words.now (depth_of w) (cell_of w) c.args.i c.requires.used (sym (find_used e.slots e.words.now t.once c.args.i c.requires.slot c.requires.used)) c.requires.slot
-    (via_zero w (rw c.first_word-word.ensures at (sym c.is_via.ensures ∙ c.if-not-is_via.true)))))
+    let w = word1 e.slots e.words.now c.args.i in (
+      c.requires.slot,
+      sym (source_own_at e.slots e.words.now (depth_of w) (cell_of w) c.args.i c.requires.used (sym (find_used e.slots e.words.now t.once c.args.i c.requires.slot c.requires.used)) c.requires.slot
+          (via_zero w (rw c.first_word-word.ensures at (sym c.is_via.ensures ∙ c.if-not-is_via.true)))),
+    )
 
 pub returns : goal.returns
 returns g c =
