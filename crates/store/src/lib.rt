@@ -15,6 +15,9 @@ ghost use Rattle.model.specs.Holdings.{range_ok};
 ghost use Rattle.store.specs.Outcome.{buffers, report};
 ghost use Rattle.store.specs.Checks.{shape_check, open_check, idle_check, store_check, ask_innermost_in, lent};
 
+pub mod answers;
+pub mod questions;
+
 use marks::{FEW_BLOCKS, SOME_BLOCKS, blocks_wanted, few_marks, many_marks, some_marks};
 use search::find_domain;
 use table::{header_ok, idle_ok, lengths_ok, no_bodies, reach_of, table_ok};
