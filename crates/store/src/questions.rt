@@ -7,11 +7,11 @@ ghost use Rattle.table.specs.Marks.{Reached, RoomForMarks, AllMarked};
 ghost use Rattle.search.specs.Domain.{depth_named};
 ghost use Rattle.model.specs.Answer.{ask, ended};
 ghost use Rattle.model.specs.Holdings.{range_ok};
-ghost use Rattle.store.specs.Answer.{number_in, told};
+ghost use Rattle.store.specs.Answer.{number_in, report};
 ghost use Rattle.store.specs.Checks.{shape_check, idle_check, table_check, open_check, store_check, ask_live_in, ask_innermost_in, lent};
 ghost use Rattle.store.specs.Lent.{Passes, SoundOf};
 
-use crate::answers::{Ended, Refusal};
+use crate::answers::{Answer, Ended, Refusal};
 use marks::{FEW_BLOCKS, SOME_BLOCKS, blocks_wanted};
 use search::find_domain;
 use table::lent::{Entries, Sound};
@@ -35,7 +35,7 @@ fn shape_check(memory: usize, bodies: usize, table: &[u32]) -> Result<(), Refusa
 }
 
 // Questions 1 to 3.
-#[tactic(auto, using(crate::proofs::Refused::refused_before, crate::proofs::Checks::shape_facts, crate::proofs::Checks::or_else_go), unfolding(crate::specs::Checks::idle_check))]
+#[tactic(auto, using(crate::proofs::Refused::asking, crate::proofs::Checks::shape_facts), unfolding(crate::specs::Checks::idle_check))]
 fn idle_check(memory: usize, bodies: usize, table: &[u32]) -> Result<(), Refusal>
     ensures { number_in result ≡ idle_check (lent memory bodies table.now) }
 {
@@ -96,7 +96,7 @@ fn table_check(memory: usize, bodies: usize, table: &[u32], top: usize) -> Resul
 }
 
 // The questions put to open.
-#[tactic(auto, using(crate::proofs::Refused::refused_before, crate::proofs::Checks::or_else_go), unfolding(crate::specs::Checks::open_check))]
+#[tactic(auto, using(crate::proofs::Refused::asking), unfolding(crate::specs::Checks::open_check))]
 pub fn open_check(memory: usize, bodies: usize, table: &[u32]) -> Result<(), Refusal>
     ensures { number_in result ≡ open_check (lent memory bodies table.now) }
 {
@@ -104,15 +104,9 @@ pub fn open_check(memory: usize, bodies: usize, table: &[u32]) -> Result<(), Ref
     table_check(memory, bodies, table, reach_of(table))
 }
 
-// The questions put to every call but make and open, of a call that needs no marks.
-pub fn plain_check(memory: usize, bodies: usize, table: &[u32]) -> Result<(), Refusal>
-    ensures { number_in result ≡ store_check (lent memory bodies table.now) }
-{
-    idle_check(memory, bodies, table)?;
-    table_check(memory, bodies, table, reach_of(table))
-}
-
-// The same of a caller that has asked how many entries there are to pass, and goes on with the table.
+// The questions put to every call but make and open, of a call that needs no marks. `top` is how many entries there are to pass. The call goes on with
+// the table.
+#[tactic(auto, using(crate::proofs::Refused::asking, crate::proofs::Checks::idle_facts, crate::proofs::Checks::store_parts))]
 pub fn reached_check<'a>(
     memory: usize,
     bodies: usize,
@@ -128,8 +122,18 @@ pub fn reached_check<'a>(
     Ok(sound_of(table, top))
 }
 
+// The same of a call that searches for nothing.
+#[tactic(auto, using(crate::proofs::Refused::asking))]
+pub fn plain_check(memory: usize, bodies: usize, table: &[u32]) -> Result<(), Refusal>
+    ensures { number_in result ≡ store_check (lent memory bodies table.now) }
+{
+    reached_check(memory, bodies, table, reach_of(table))?;
+    Ok(())
+}
+
 // The same with room for marks. What is lent has, once no question refuses the call, the marks of the table's entries: the call goes on with these and
 // makes none of its own.
+#[tactic(auto, using(crate::proofs::Refused::asking, crate::proofs::Checks::idle_facts, crate::proofs::Checks::store_parts))]
 pub fn store_check<'a>(
     memory: usize,
     bodies: usize,
@@ -156,7 +160,8 @@ pub fn store_check<'a>(
 
 // A table that questions 1 to 4 let pass, to search in.
 pub fn sound_of<'a>(table: &'a [u32], top: usize) -> Sound<'a>
-    requires { Passes table.now × Reached table.now top }
+    requires passes { Passes table.now }
+    requires reached { Reached table.now top }
     ensures { SoundOf table.now top result }
 {
     let slots = slots_of(table.len());
@@ -199,7 +204,7 @@ pub fn innermost_check(table: &[u32], handle: u32) -> Result<(), Refusal>
 pub fn range_check(cells: usize, first: usize, count: usize) -> Result<(), Refusal>
     ensures { number_in result ≡ ask (range_ok cells first count) 8 0 }
 {
-    if count < 1 || cells < count || cells - count < first {
+    if count == 0 || cells < count || cells - count < first {
         return Err(Refusal::Range);
     }
     Ok(())
@@ -207,17 +212,17 @@ pub fn range_check(cells: usize, first: usize, count: usize) -> Result<(), Refus
 
 // ---- the answer
 
-// How a call ends that needs so many steps.
+// What a call answers that no question refused and that needs so many steps.
 #[tactic(auto, unfolding(model::specs::Answer::ended))]
-pub fn answer_of(need: usize, handle: u32, budget: usize) -> Ended
-    ensures { told result ≡ ended need handle budget }
+pub fn answer_of(need: usize, handle: u32, budget: usize) -> Answer
+    ensures { report result ≡ ended need handle budget }
 {
     if need <= budget {
-        Ended::Done {
+        Ok(Ended::Done {
             steps: need,
             handle,
-        }
+        })
     } else {
-        Ended::Stopped(budget)
+        Ok(Ended::Stopped(budget))
     }
 }
