@@ -1,5 +1,5 @@
 -- What a call answers, in the papers' numbers.
-use Rattle.std.specs.Prelude.{ℕ, Result, Ok, Err, replicate}
+use Rattle.std.specs.Prelude.{ℕ, Result, Ok, Err}
 use Rattle.model.specs.Answer.{Report, done, stopped, refused}
 use Rattle.model.specs.Calls.{Listed, list_refused}
 use Rattle.store.specs.declared.answers.Refusal.{Refusal}

@@ -1,6 +1,5 @@
 -- `store::questions::table_with` meets its contract. Assumes nothing.
 use mathlib.Core.Path.{sym, ◌∙◌}
-use native.Mathlib.Omega.{arith}
 use lib.ListN.{length-replicate}
 use Rattle.marks.proofs.Blocks.{blank_zeros}
 use Rattle.table.specs.Marks.{zeros}
