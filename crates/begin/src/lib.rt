@@ -13,33 +13,29 @@ ghost use Rattle.store.specs.Calls.{fresh_word, make_plan, make_call, open_call,
 ghost use Rattle.store.specs.Means.{make_means, open_means, create_means, listing, list_means, Shows};
 
 use changes::{Head, no_head, with_word, write_head_words};
+use std::array;
 use store::{Answer, Listing, answer_of, open_check, plain_check};
 use table::lengths_ok;
 use words::layout::{
     BODIES_AT, CELLS_AT, LIVE_AT, MAGIC, MAGIC_AT, MAX_LIVE, NEXT_AT, PENDING_AT, SLOTS_AT,
     bodies_of, cells_of, handle_at, pairs_at, slots_of,
 };
-use words::{apply_pending, least, wide};
+use words::{apply_pending, wide};
 
 // ---- make
 
 // Word i of a fresh table.
+#[tactic(auto, unfolding(store::specs::Calls::fresh_word))]
 fn fresh_word(cells: u32, slots: u32, bodies: u32, i: usize) -> u32
     ensures { result ≡ fresh_word cells slots bodies i }
 {
-    if i == CELLS_AT {
-        return cells;
+    match i {
+        CELLS_AT => cells,
+        SLOTS_AT => slots,
+        BODIES_AT => bodies,
+        NEXT_AT => 1,
+        _ => 0,
     }
-    if i == SLOTS_AT {
-        return slots;
-    }
-    if i == BODIES_AT {
-        return bodies;
-    }
-    if i == NEXT_AT {
-        return 1;
-    }
-    0
 }
 
 // Make's stores. Word 0 is cleared first and by itself, with a test of the budget behind it, so that its store is never dead to the
@@ -53,11 +49,8 @@ fn make_words(table: &mut [u32], cells: u32, slots: u32, bodies: u32, budget: us
     }
     table[MAGIC_AT] = 0;
     let end = pairs_at(slots as usize);
-    let n = least(budget, end);
-    let mut i = 1;
-    while i < n {
+    for i in 1..budget.min(end) {
         table[i] = fresh_word(cells, slots, bodies, i);
-        i += 1;
     }
     if end < budget {
         table[MAGIC_AT] = MAGIC;
@@ -169,13 +162,7 @@ fn read_handles(table: &[u32]) -> [u32; 8]
     requires { handle_at max_live ≤ length table.now }
     ensures { result ≡ tab max_live (handle table.now) }
 {
-    let mut handles = [0u32; 8];
-    let mut k = 0;
-    while k < 8 {
-        handles[k] = table[handle_at(k)];
-        k += 1;
-    }
-    handles
+    array::from_fn(|k| table[handle_at(k)])
 }
 
 // Gives the number of live domains and their handles.

@@ -1,16 +1,12 @@
 -- List: the words that it gives are the handles of the state. Assumes nothing.
 use Prim.Native.Nat.{ℕ, zero, suc, ◌+◌, ◌-◌, ◌≤◌, ◌<◌}
 use mathlib.Core.List.{List, ◌∷◌, ◌++◌, map}
-use mathlib.Core.Path.{◌≡◌, refl, sym, ap, subst, ◌∙◌}
+use mathlib.Core.Path.{◌≡◌, refl, sym, ap, ◌∙◌}
 use native.Mathlib.Omega.{arith}
-use borrow.Author.Tests.{eqb-true, eqb-false}
-use lib.Dec.{eqb}
-use lib.ListN.{length, get_or, set, replicate}
-use lib.Seq.{get_or-set_same, get_or-set_other, ext_get_or}
+use lib.ListN.{length, replicate}
 use Rattle.words.specs.Layout.{max_live, slots_of}
 use Rattle.words.specs.Stores.{tab, tab_from}
-use Rattle.words.proofs.Scan.{by_bool}
-use Rattle.words.proofs.Plans.{map_tab_from, get_or_tab}
+use Rattle.words.proofs.Plans.{map_tab_from}
 use Rattle.table.specs.Entry.{live, handle}
 use Rattle.table.proofs.Head.{handle_unused}
 use Rattle.model.specs.State.{Domain, State}
@@ -80,17 +76,3 @@ list_refused_lem q b e h = go (store_check (lent_of b)) e
     go : (n : ℕ) → q ≡ n → list_refused q ≡ or_list_refused n (listed (state_of b))
     go zero z = absurd (h z)
     go (suc n) z = ap list_refused z
-
--- ---- the loop that reads words 8 to 15
-
-pub handles_turn : (t hs : List ℕ) (k v : ℕ) → k < length hs → v ≡ handle t k → ((j : ℕ) → j < k → get_or hs j 0 ≡ handle t j)
-    → (j : ℕ) → j < k + 1 → get_or (set hs k v) j 0 ≡ handle t j
-handles_turn t hs k v l e h j b =
-    by_bool (eqb j k)
-    (λ z.
-    let q = eqb-true j k z in
-    subst (λ (x : ℕ). get_or (set hs k v) x 0 ≡ handle t x) (sym q) (get_or-set_same hs k v 0 l ∙ e))
-    (λ z. let ne = eqb-false j k z in get_or-set_other hs k j v 0 ne ∙ h j (omega arith))
-
-pub handles_end : (t hs : List ℕ) → length hs ≡ max_live → ((j : ℕ) → j < max_live → get_or hs j 0 ≡ handle t j) → hs ≡ tab max_live (handle t)
-handles_end t hs l h = ext_get_or 0 hs (tab max_live (handle t)) l (λ j b. h j (omega arith) ∙ sym (get_or_tab (handle t) max_live j 0 (omega arith)))

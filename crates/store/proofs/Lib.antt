@@ -1,6 +1,7 @@
 -- Laws that belong to no one function.
 pub mod Checks
 pub mod Outcome
+pub mod Refused
 pub mod State
 pub mod Becoming
 pub mod Cuts

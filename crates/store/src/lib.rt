@@ -5,21 +5,22 @@
 // allows, and whether it was done or stopped is decided once, at the end.
 #![tactic(auto)]
 
-ghost use Rattle.std.specs.Prelude.{◌≡◌, cond, ◌≤◌, ◌<◌, length};
+ghost use Rattle.std.specs.Prelude.{◌≡◌, ◌≤◌, length};
 ghost use Rattle.words.specs.Layout.{cells_of, slots_of, max_live, handle_at};
 ghost use Rattle.table.specs.Entry.{live};
-ghost use Rattle.marks.specs.Blocks.{Enough};
 ghost use Rattle.table.specs.Marks.{Reached, RoomForMarks, AllMarked};
 ghost use Rattle.model.specs.Answer.{ended};
 ghost use Rattle.model.specs.Holdings.{range_ok};
-ghost use Rattle.store.specs.Outcome.{buffers, report};
-ghost use Rattle.store.specs.Checks.{shape_check, open_check, idle_check, store_check, ask_innermost_in, lent};
+ghost use Rattle.store.specs.Outcome.{report};
+ghost use Rattle.store.specs.Answer.{number_in};
+ghost use Rattle.store.specs.Checks.{open_check, store_check, ask_innermost_in, lent};
 
-use marks::{FEW_BLOCKS, SOME_BLOCKS, blocks_wanted, few_marks, many_marks, some_marks};
-use search::find_domain;
-use table::{header_ok, idle_ok, lengths_ok, no_bodies, reach_of, table_ok};
-use words::layout::{LIVE_AT, PENDING_AT, bodies_of, cells_of, slots_of};
+pub mod answers;
+pub mod questions;
 
+use answers::{Ended, Refusal};
+
+// old form: goes when its callers have gone over
 // What a call answers: the number of the question that refused it; or done, with its steps and, from create, the new handle; or stopped
 // by its budget, with that many steps made.
 #[derive(Clone, Copy)]
@@ -29,6 +30,7 @@ pub enum Answer {
     Stopped(usize),
 }
 
+// old form: goes when its callers have gone over
 // What list answers: how many domains are live, and their handles, outermost first, with zeros after them.
 #[derive(Clone, Copy)]
 pub struct Listing {
@@ -37,63 +39,19 @@ pub struct Listing {
     pub handles: [u32; 8],
 }
 
-// ---- the questions: 0, or the number of the first no
+// ---- the questions, by number: 0, or that of the first no
 
-// Questions 1 and 2.
-fn shape_check(memory: usize, bodies: usize, table: &[u32]) -> u32
-    ensures { result ≡ shape_check (lent memory bodies table.now) }
+// old form: goes when its callers have gone over
+fn number_of(asked: Result<(), Refusal>) -> u32
+    ensures { result ≡ number_in asked }
 {
-    if !lengths_ok(memory, bodies, table.len()) {
-        return 1;
-    }
-    if !header_ok(memory, bodies, table) {
-        return 2;
-    }
-    0
-}
-
-// The questions put to open, with room for marks.
-fn open_marked(
-    memory: usize,
-    bodies: usize,
-    table: &[u32],
-    top: usize,
-    seen: &mut [u8],
-    used: &mut [u8],
-) -> u32
-    requires { RoomForMarks table.now (cells_of memory) top seen.old used.old }
-    ensures { result ≡ open_check (lent memory bodies table.now) }
-{
-    let no = shape_check(memory, bodies, table);
-    if no != 0 {
-        return no;
-    }
-    let cells = cells_of(memory);
-    let slots = slots_of(table.len());
-    let places = bodies_of(bodies);
-    if table_ok(table, cells, slots, top, places, seen, used) {
-        0
-    } else {
-        4
+    match asked {
+        Ok(()) => 0,
+        Err(why) => why.number(),
     }
 }
 
-// Questions 1 to 3.
-fn idle_check(memory: usize, bodies: usize, table: &[u32]) -> u32
-    ensures { result ≡ idle_check (lent memory bodies table.now) }
-{
-    let no = shape_check(memory, bodies, table);
-    if no != 0 {
-        return no;
-    }
-    if table[PENDING_AT] != 0 {
-        return 3;
-    }
-    0
-}
-
-// The questions put to every call but make and open. `top` is how far question 4 passes over the entries. What is lent for marks has, once no
-// question refuses the call, the marks of the table's entries: the call goes on with these and makes none of its own.
+// old form: goes when its callers have gone over
 pub fn store_check(
     memory: usize,
     bodies: usize,
@@ -106,132 +64,59 @@ pub fn store_check(
     ensures no { result ≡ store_check (lent memory bodies table.now) }
     ensures marks { result ≡ 0 → AllMarked (slots_of (length table.now)) table.now seen.new used.new }
 {
-    let no = idle_check(memory, bodies, table);
-    if no != 0 {
-        return no;
-    }
-    let cells = cells_of(memory);
-    let slots = slots_of(table.len());
-    let places = bodies_of(bodies);
-    if idle_ok(table, cells, slots, top, places, seen, used) {
-        0
-    } else {
-        4
+    match questions::store_check(memory, bodies, table, top, seen, used) {
+        Ok(_) => 0,
+        Err(why) => why.number(),
     }
 }
 
-// The questions of open, or of a call that needs no marks afterwards, with marks of its own for few blocks. The marks come first, so that the
-// frame is made where the function begins: behind a question, the compiler made it over a register in use.
-fn ask_few(memory: usize, bodies: usize, table: &[u32], top: usize, opening: bool) -> u32
-    requires { Enough 64 top (cells_of memory) × Reached table.now top }
-    ensures { result ≡ cond opening (open_check (lent memory bodies table.now)) (store_check (lent memory bodies table.now)) }
-{
-    let mut seen = few_marks();
-    let mut used = no_bodies();
-    if opening {
-        return open_marked(memory, bodies, table, top, &mut seen, &mut used);
-    }
-    store_check(memory, bodies, table, top, &mut seen, &mut used)
-}
-
-// With marks for some more.
-fn ask_some(memory: usize, bodies: usize, table: &[u32], top: usize, opening: bool) -> u32
-    requires { Enough 256 top (cells_of memory) × Reached table.now top }
-    ensures { result ≡ cond opening (open_check (lent memory bodies table.now)) (store_check (lent memory bodies table.now)) }
-{
-    let mut seen = some_marks();
-    let mut used = no_bodies();
-    if opening {
-        return open_marked(memory, bodies, table, top, &mut seen, &mut used);
-    }
-    store_check(memory, bodies, table, top, &mut seen, &mut used)
-}
-
-// And for any memory.
-fn ask_many(memory: usize, bodies: usize, table: &[u32], top: usize, opening: bool) -> u32
-    requires { Reached table.now top }
-    ensures { result ≡ cond opening (open_check (lent memory bodies table.now)) (store_check (lent memory bodies table.now)) }
-{
-    let mut seen = many_marks();
-    let mut used = no_bodies();
-    if opening {
-        return open_marked(memory, bodies, table, top, &mut seen, &mut used);
-    }
-    store_check(memory, bodies, table, top, &mut seen, &mut used)
-}
-
-// Chooses the marks by how many entries there are to pass, before any question.
-fn ask_plain(memory: usize, bodies: usize, table: &[u32], top: usize, opening: bool) -> u32
-    requires { Reached table.now top }
-    ensures { result ≡ cond opening (open_check (lent memory bodies table.now)) (store_check (lent memory bodies table.now)) }
-{
-    let blocks = blocks_wanted(top, cells_of(memory));
-    if blocks <= FEW_BLOCKS {
-        return ask_few(memory, bodies, table, top, opening);
-    }
-    if blocks <= SOME_BLOCKS {
-        return ask_some(memory, bodies, table, top, opening);
-    }
-    ask_many(memory, bodies, table, top, opening)
-}
-
-// The questions put to open.
+// old form: goes when its callers have gone over
 pub fn open_check(memory: usize, bodies: usize, table: &[u32]) -> u32
     ensures { result ≡ open_check (lent memory bodies table.now) }
 {
-    ask_plain(memory, bodies, table, reach_of(table), true)
+    number_of(questions::open_check(memory, bodies, table))
 }
 
-// Those put to a call that needs no marks.
+// old form: goes when its callers have gone over
 pub fn plain_check(memory: usize, bodies: usize, table: &[u32]) -> u32
     ensures { result ≡ store_check (lent memory bodies table.now) }
 {
-    reached_check(memory, bodies, table, reach_of(table))
+    number_of(questions::plain_check(memory, bodies, table))
 }
 
-// The same of a caller that has asked how many entries there are to pass, and goes on with it.
+// old form: goes when its callers have gone over
 pub fn reached_check(memory: usize, bodies: usize, table: &[u32], top: usize) -> u32
     requires { Reached table.now top }
     ensures { result ≡ store_check (lent memory bodies table.now) }
 {
-    ask_plain(memory, bodies, table, top, false)
+    match questions::reached_check(memory, bodies, table, top) {
+        Ok(_) => 0,
+        Err(why) => why.number(),
+    }
 }
 
-// Questions 5 and 6, in a table that passed those before: 0, or the number of the first no.
+// old form: goes when its callers have gone over
 pub fn innermost_check(table: &[u32], handle: u32) -> u32
     requires { (handle_at max_live ≤ length table.now) × (live table.now ≤ max_live) }
     ensures { result ≡ ask_innermost_in table.now handle 0 }
 {
-    let depth = find_domain(table, handle);
-    if depth == 0 {
-        return 5;
-    }
-    if depth != table[LIVE_AT] {
-        return 6;
-    }
-    0
+    number_of(questions::innermost_check(table, handle))
 }
 
-// Question 8: at least one cell, and all of them in memory. No sum is made, since it could wrap.
+// old form: goes when its callers have gone over
 pub fn range_ok(cells: usize, first: usize, count: usize) -> bool
     ensures { result ≡ range_ok cells first count }
 {
-    if cells < count {
-        return false;
-    }
-    (1 <= count) & (first <= cells - count)
+    questions::range_check(cells, first, count).is_ok()
 }
 
-// The answer of a call that needs so many steps.
+// old form: goes when its callers have gone over
 pub fn answer_of(need: usize, handle: u32, budget: usize) -> Answer
     ensures { report result ≡ ended need handle budget }
 {
-    if need <= budget {
-        Answer::Done {
-            steps: need,
-            handle,
-        }
-    } else {
-        Answer::Stopped(budget)
+    match questions::answer_of(need, handle, budget) {
+        Ok(Ended::Done { steps, handle }) => Answer::Done { steps, handle },
+        Ok(Ended::Stopped(steps)) => Answer::Stopped(steps),
+        Err(why) => Answer::Refused(why.number()),
     }
 }
