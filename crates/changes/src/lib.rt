@@ -12,6 +12,10 @@ ghost use Rattle.table.specs.Marks.{zeros};
 ghost use Rattle.table.specs.Changes.{put, entry_changes};
 ghost use Rattle.changes.specs.Staged.{bit_at, Lowest, Without, with_bit, with_words, staged, Restaged, Inside, head_room, HeadOk, head_stores, group, Journaled};
 
+pub mod head_words;
+pub mod staged;
+pub mod writer;
+
 use table::write_entry;
 use words::layout::{GROUP_SIZE, pairs_at};
 use words::{finish_journal, least, remaining, write_pair};
