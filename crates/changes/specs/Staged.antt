@@ -81,13 +81,12 @@ abbrev pub change_of : Option (ℕ × ℕ) → Change
 change_of None = keep
 change_of (Some words) = put words.0 words.1
 
--- of each of the first n entries `says` says what f makes of it
-abbrev pub Says : (n : ℕ) → (says : ℕ → Option (ℕ × ℕ) → Type 0) → (f : ℕ → Change) → Type 0
-Says n says f = (i : ℕ) → i < n → (r : Option (ℕ × ℕ)) → says i r → change_of r ≡ f i
-
--- where `passes` lets entries a up to b be passed over, f keeps each of them
-abbrev pub Passes : (n : ℕ) → (passes : ℕ → ℕ → Type 0) → (f : ℕ → Change) → Type 0
-Passes n passes f = (a b : ℕ) → a ≤ b → b ≤ n → passes a b → (i : ℕ) → a ≤ i → i < b → f i ≡ keep
+-- what a pass over the first n of e entries is told is the change f: `says` tells of one entry what becomes of it, and `stays` lets the pass leave
+-- out those from a up to b
+pub record Tells (n e : ℕ) (says : ℕ → Option (ℕ × ℕ) → Type 0) (stays : ℕ → ℕ → Type 0) (f : ℕ → Change) : Type 0 where
+  pub each : (i : ℕ) → i < n → (r : Option (ℕ × ℕ)) → says i r → change_of r ≡ f i
+  pub left_out : (a b : ℕ) → a ≤ b → b ≤ n → stays a b → (i : ℕ) → a ≤ i → i < b → f i ≡ keep
+  pub behind : (i : ℕ) → n ≤ i → i < e → f i ≡ keep
 
 -- the same in the middle of a pass over the slots of group k: their bits are gathered in w and are not stored yet
 pub record Gathers (k n : ℕ) (f : ℕ → Change) (words bits : List ℕ) (w : ℕ) : Type 0 where

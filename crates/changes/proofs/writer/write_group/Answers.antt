@@ -1,7 +1,6 @@
 use native.Mathlib.Omega.{arith}
-use Rattle.changes.specs.Staged.{Lowest, Without}
-use Rattle.changes.proofs.Bits.{lowest_found, lowest_cleared, cleared_less}
-use Rattle.changes.proofs.Groups.{begun_start, begun_here, begun_room, begun_turn, begun_count, begun_made}
+use Rattle.changes.proofs.Bits.{lowest_found, lowest_cleared}
+use Rattle.changes.proofs.Groups.{begun_here, begun_room, begun_turn, begun_count, begun_made}
 use Rattle.changes.proofs.writer.write_group.Goals as goal
 
 pub write_entry-requires : goal.write_entry-requires

@@ -1,7 +1,4 @@
-use Prim.Native.Nat.{ℕ, ◌<◌}
-use mathlib.Core.List.{List}
 use native.Mathlib.Omega.{arith}
-use lib.ListN.{length}
 use Rattle.changes.proofs.Writing.{words_turn}
 use Rattle.changes.proofs.writer.write_head.Goals as goal
 

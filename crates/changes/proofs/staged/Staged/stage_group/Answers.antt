@@ -1,7 +1,6 @@
 use Prim.Native.Nat.{◌+◌, ◌*◌, ◌<◌}
 use native.Mathlib.Omega.{arith}
 use lib.ListN.{length}
-use borrow.Author.Rules.{rules}
 use mathlib.Core.Path.{refl}
 use Rattle.changes.proofs.Staging.{group_start, gather_kept, gather_put, stages_to}
 use Rattle.changes.proofs.staged.Staged.stage_group.Goals as goal
