@@ -1,6 +1,7 @@
 -- What is staged: before anything is, after one entry more, and after a pass over the slots, also in the middle of 64 of them. A call cites
 -- these and never opens what is staged. Assumes nothing.
-use Prim.Native.Nat.{ℕ, ◌+◌, ◌*◌, ◌/◌, ◌%◌, ◌≤◌, ◌<◌}
+use Prim.Native.Nat.{ℕ, ◌+◌, ◌*◌, ◌/◌, ◌%◌, ◌^◌, ◌≤◌, ◌<◌}
+use lib.Bits.{bit_or}
 use mathlib.Core.Bool.{Bool, true, false, cond}
 use mathlib.Core.List.{List, [], ◌∷◌, ◌++◌}
 use mathlib.Core.Path.{◌≡◌, refl, sym, ap, ap₂, subst, ◌∙◌}
@@ -21,7 +22,7 @@ use Rattle.table.specs.Changes.{Change, keep, put, is_changed, entry_stores, ent
 use Rattle.marks.proofs.Blocks.{zeros_clear}
 use Rattle.changes.specs.declared.Head.{Head}
 use Rattle.changes.specs.Staged.{with_bit, is_set, Inside, with_words, Turned, entry_of, staged, but, Restaged, below, Stages, Gathers, head_room, HeadOk, head_stores}
-use Rattle.changes.proofs.Bits.{bit_none, bit_kept, word_own, word_other, more_here, more_other}
+use Rattle.changes.proofs.Bits.{bit_none, bit_kept, bit_shifted, word_own, word_other, more_here, more_other}
 
 -- ---- f below n
 
@@ -164,6 +165,15 @@ module _ {f : ℕ → Change} {words bits : List ℕ} where
     within = g.within;
     stages = stages_put g.stages q (entry_staged words (set bits k w) _ n a v room (more_here bits k w n g.within here) (more_other bits k w n g.within here));
   }
+
+  -- a turn that keeps slot n
+  pub gather_kept : {k n w : ℕ} → Gathers k n f words bits w → keep ≡ f n → Gathers k (n + 1) f words bits w
+  gather_kept g q = record { within = g.within; stages = stages_kept g.stages (sym q) }
+
+  -- and one that stages two words for it
+  pub gather_put : {k n w : ℕ} (a v : ℕ) → Gathers k n f words bits w → put a v ≡ f n → n / 64 ≡ k → 2 * n + 1 < length words
+      → Gathers k (n + 1) f (set (set words (2 * n) a) (2 * n + 1) v) bits (bit_or w (1 * 2 ^ (n % 64) % 2 ^ 64))
+  gather_put {k} {n} {w} a v g q here room = rw (bit_shifted w (n % 64) (omega arith)) (group_change g (put a v) (sym q) here room)
 
   -- a turn: the words of slot n, and its bit
   pub group_turn : {k n w : ℕ} {words' : List ℕ} {b : Bool} {w' : ℕ} → Gathers k n f words bits w → n / 64 ≡ k → 2 * n + 1 < length words

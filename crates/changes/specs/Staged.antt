@@ -1,5 +1,5 @@
 -- A staged change: which entries get which two new words, and which words of the head get which values.
-use Rattle.std.specs.Prelude.{ℕ, ◌+◌, ◌*◌, ◌/◌, ◌%◌, ◌^◌, ◌≤◌, ◌<◌, Bool, true, false, cond, List, ◌≡◌, eqb, ltb, length, get_or, set, take}
+use Rattle.std.specs.Prelude.{ℕ, ◌+◌, ◌*◌, ◌/◌, ◌%◌, ◌^◌, ◌≤◌, ◌<◌, Bool, true, false, cond, Option, None, Some, List, ◌≡◌, eqb, ltb, length, get_or, set, take}
 use Rattle.std.specs.Int.Bits.{bit_or}
 use Rattle.words.specs.Layout.{pairs_at, max_pairs, handle_at, max_live, group_size, group_at, group_of, in_group}
 use Rattle.words.specs.Stores.{Store, ◌≔◌, stores, tab, gather}
@@ -75,6 +75,18 @@ below n f i = cond (ltb i n) (f i) keep
 -- what is staged is f below n, and nothing from n on
 pub record Stages (n : ℕ) (f : ℕ → Change) (words bits : List ℕ) : Type 0 where
   pub each : (i : ℕ) → staged words bits i ≡ below n f i
+
+-- what a call says of an entry: its two new words, or nothing where it is kept
+abbrev pub change_of : Option (ℕ × ℕ) → Change
+change_of None = keep
+change_of (Some words) = put words.0 words.1
+
+-- what a pass over the first n of e entries is told is the change f: `says` tells of one entry what becomes of it, and `stays` lets the pass leave
+-- out those from a up to b
+pub record Tells (n e : ℕ) (says : ℕ → Option (ℕ × ℕ) → Type 0) (stays : ℕ → ℕ → Type 0) (f : ℕ → Change) : Type 0 where
+  pub each : (i : ℕ) → i < n → (r : Option (ℕ × ℕ)) → says i r → change_of r ≡ f i
+  pub left_out : (a b : ℕ) → a ≤ b → b ≤ n → stays a b → (i : ℕ) → a ≤ i → i < b → f i ≡ keep
+  pub behind : (i : ℕ) → n ≤ i → i < e → f i ≡ keep
 
 -- the same in the middle of a pass over the slots of group k: their bits are gathered in w and are not stored yet
 pub record Gathers (k n : ℕ) (f : ℕ → Change) (words bits : List ℕ) (w : ℕ) : Type 0 where

@@ -1,7 +1,8 @@
-// A change is staged first: which entries get which two new words, and which words of the head get which values. No budget and no place in the
-// journal is known there. Then one writer stores all of it by the journal, in rising order of word number, under the budget.
+// A change is staged first: which entries get which two new words (`staged`), and which words of the head get which values (`head_words`). No
+// budget and no place in the journal is known there. Then one writer stores all of it by the journal, in rising order of word number, under the
+// budget (`writer`).
 //
-// The new words of entry i stand at 2i and 2i + 1 of one run of words, and bit i of a run of bits says that they are there.
+// old form: all that stands in this file goes when its callers have gone over to these modules.
 #![tactic(auto)]
 
 ghost use Rattle.std.specs.Prelude.{◌≡◌, true, [], ◌∷◌, ◌++◌, ℕ, ◌+◌, ◌*◌, ◌≤◌, ◌<◌, length, take};
@@ -11,6 +12,10 @@ ghost use Rattle.words.specs.Journal.{pair_plans};
 ghost use Rattle.table.specs.Marks.{zeros};
 ghost use Rattle.table.specs.Changes.{put, entry_changes};
 ghost use Rattle.changes.specs.Staged.{bit_at, Lowest, Without, with_bit, with_words, staged, Restaged, Inside, head_room, HeadOk, head_stores, group, Journaled};
+
+pub mod head_words;
+pub mod staged;
+pub mod writer;
 
 use table::write_entry;
 use words::layout::{GROUP_SIZE, pairs_at};

@@ -7,21 +7,21 @@
 
 ghost use Rattle.std.specs.Prelude.{◌≡◌, true, not, ℕ, ◌+◌, ◌*◌, ◌≤◌, ◌<◌, min, length};
 ghost use Rattle.store.specs.Checks.{lent};
-ghost use Rattle.words.specs.Layout.{cells_of, pairs_at, table_words, max_slots, max_cells, group_size, group_at};
+ghost use Rattle.words.specs.Layout.{cells_of, pairs_at, table_words, max_slots, max_cells, group_at};
 ghost use Rattle.words.specs.Scan.{all};
 ghost use Rattle.table.specs.Entry.{word1};
 ghost use Rattle.marks.specs.Blocks.{mark_of, cells_in, Enough};
 ghost use Rattle.table.specs.Marks.{has, EndsAt, Reached, RoomForMarks};
 ghost use Rattle.table.specs.Changes.{keep, entry_changes};
-ghost use Rattle.changes.specs.Staged.{RoomFor, Turned, Stages, Journaled};
+ghost use Rattle.changes.specs.Staged.{change_of, Journaled};
 ghost use Rattle.store.specs.Outcome.{buffers, report, Makes};
 ghost use Rattle.store.specs.Means.{Shows};
 ghost use Rattle.delete.specs.Delete.{delete_check, delete_change, delete_call, delete_means};
 ghost use Rattle.delete.specs.Parts.{in_cells, via_word};
 
-use changes::{
-    few_bits, few_words, many_bits, many_words, no_head, stage_words, with_bit, write_staged,
-};
+use changes::head_words::Head;
+use changes::staged::{FEW_BITS, FEW_WORDS, MANY_BITS, MANY_WORDS, Staged};
+use changes::writer::write_staged;
 use marks::{
     FEW_BLOCKS, SOME_BLOCKS, blocks_wanted, few_marks, has_depth, many_marks, mark_of, some_marks,
 };
@@ -29,9 +29,10 @@ use search::find_domain;
 use store::{Answer, answer_of, range_ok, store_check};
 use table::domains::child_of;
 use table::fields::{cell_of, depth_of, is_via};
+use table::lent::Entries;
 use table::{FEW_SLOTS, first_word, no_bodies, reach_of};
-use words::layout::{GROUP_SIZE, cells_of, slots_of};
-use words::{least, wide};
+use words::layout::{cells_of, slots_of};
+use words::wide;
 
 // ---- the questions
 
@@ -197,158 +198,46 @@ fn delete_check(
 
 // ---- what is staged
 
-// Stages entry i, if it is freed: both its words become 0. Tells whether it is.
+// What becomes of entry i: both its words become 0, if it is freed.
 fn free_entry(
-    table: &[u32],
-    slots: usize,
+    entries: &Entries<'_>,
     depth: u32,
     first: u32,
     count: u32,
-    words: &mut [u32],
     i: usize,
-) -> bool
-    requires { (i < slots) × (slots ≤ max_slots) × (pairs_at slots ≤ length table.now) × (first + count ≤ max_cells) × (2 * i + 1 < length words.old) }
-    ensures { Turned (delete_change slots table.now depth first count i) i words.old words.new result }
+) -> Option<(u32, u32)>
+    requires { (i < entries.now.slots) × (first + count ≤ max_cells) }
+    ensures { change_of result ≡ delete_change entries.now.slots entries.now.words.now depth first count i }
 {
-    if !in_cells(first_word(table, slots, i), depth, first, count) {
-        return false;
+    if in_cells(entries.first_word(i), depth, first, count) {
+        return Some((0, 0));
     }
-    stage_words(words, i, 0, 0);
-    true
+    None
 }
 
 // Is none of the entries from `from` to `end` freed? All of them are asked, with no branch, so that the compiler can ask many at once.
 fn none_freed(
-    table: &[u32],
-    slots: usize,
+    entries: &Entries<'_>,
     depth: u32,
     first: u32,
     count: u32,
     from: usize,
     end: usize,
 ) -> bool
-    requires { (end ≤ slots) × (slots ≤ max_slots) × (pairs_at slots ≤ length table.now) × (first + count ≤ max_cells) }
-    ensures { result ≡ true → (i : ℕ) → from ≤ i → i < end → delete_change slots table.now depth first count i ≡ keep }
+    requires { (from ≤ end) × (end ≤ entries.now.slots) × (first + count ≤ max_cells) }
+    ensures { result ≡ true → (i : ℕ) → from ≤ i → i < end → delete_change entries.now.slots entries.now.words.now depth first count i ≡ keep }
 {
     let mut none = true;
-    let mut i = from;
-    while i < end {
-        none = none & !in_cells(first_word(table, slots, i), depth, first, count);
-        i += 1;
+    for i in from..end {
+        none = none & !in_cells(entries.first_word(i), depth, first, count);
     }
     none
 }
 
-// Stages those entries of group k below `top` that are freed. Their bits are stored at once. Most groups have none, and are passed over.
-fn free_group(
-    table: &[u32],
-    slots: usize,
-    top: usize,
-    depth: u32,
-    first: u32,
-    count: u32,
-    words: &mut [u32],
-    changed: &mut [u64],
-    k: usize,
-)
-    requires small { (group_at k < top) × (top ≤ slots) × (slots ≤ max_slots) × (pairs_at slots ≤ length table.now) × (first + count ≤ max_cells) }
-    requires room { RoomFor top words.old changed.old }
-    requires before { Stages (group_at k) (delete_change slots table.now depth first count) words.old changed.old }
-    ensures { Stages (min top (group_at k + group_size)) (delete_change slots table.now depth first count) words.new changed.new }
-{
-    let end = least(top, GROUP_SIZE * k + GROUP_SIZE);
-    if none_freed(table, slots, depth, first, count, GROUP_SIZE * k, end) {
-        return;
-    }
-    let mut bits: u64 = 0;
-    let mut i = GROUP_SIZE * k;
-    while i < end {
-        let freed = free_entry(table, slots, depth, first, count, words, i);
-        bits = with_bit(bits, i % GROUP_SIZE, freed);
-        i += 1;
-    }
-    changed[k] = bits;
-}
-
-// Stages all entries that are freed. Those from `top` on are free already, so that none of them is passed and none needs room.
-fn free_entries(
-    table: &[u32],
-    slots: usize,
-    top: usize,
-    depth: u32,
-    first: u32,
-    count: u32,
-    words: &mut [u32],
-    changed: &mut [u64],
-)
-    requires small { (slots ≤ max_slots) × (pairs_at slots ≤ length table.now) × (first + count ≤ max_cells) }
-    requires ends { EndsAt slots table.now top × (1 ≤ depth) }
-    requires room { RoomFor top words.old changed.old }
-    requires before { Stages 0 (delete_change slots table.now depth first count) words.old changed.old }
-    ensures { Stages slots (delete_change slots table.now depth first count) words.new changed.new }
-{
-    let mut k: usize = 0;
-    while GROUP_SIZE * k < top {
-        free_group(table, slots, top, depth, first, count, words, changed, k);
-        k += 1;
-    }
-}
-
 // ---- the words
 
-// Frees the cells, with arrays lent for it in which nothing is staged yet. Gives the steps uncut.
-fn free_staged(
-    table: &mut [u32],
-    slots: usize,
-    top: usize,
-    depth: u32,
-    first: u32,
-    count: u32,
-    words: &mut [u32],
-    changed: &mut [u64],
-    budget: usize,
-) -> usize
-    requires small { (slots ≤ max_slots) × (length table.old ≡ table_words slots) × (first + count ≤ max_cells) }
-    requires ends { EndsAt slots table.old top × (1 ≤ depth) }
-    requires room { RoomFor top words.old changed.old }
-    requires before { Stages 0 (delete_change slots table.old depth first count) words.old changed.old }
-    ensures { Journaled slots (entry_changes slots (delete_change slots table.old depth first count)) budget table.old result table.new }
-{
-    free_entries(table, slots, top, depth, first, count, words, changed);
-    write_staged(table, slots, no_head(), words, changed, budget)
-}
-
-// The same with arrays for few entries.
-fn free_few(
-    table: &mut [u32],
-    slots: usize,
-    top: usize,
-    depth: u32,
-    first: u32,
-    count: u32,
-    budget: usize,
-) -> usize
-    requires small { (top ≤ 256) × (slots ≤ max_slots) × (length table.old ≡ table_words slots) × (first + count ≤ max_cells) }
-    requires ends { EndsAt slots table.old top × (1 ≤ depth) }
-    ensures { Journaled slots (entry_changes slots (delete_change slots table.old depth first count)) budget table.old result table.new }
-{
-    let mut words = few_words();
-    let mut changed = few_bits();
-    free_staged(
-        table,
-        slots,
-        top,
-        depth,
-        first,
-        count,
-        &mut words,
-        &mut changed,
-        budget,
-    )
-}
-
-// The same with arrays for any table.
-fn free_many(
+// Frees the cells. Gives the steps uncut.
+fn free_with<const WORDS: usize, const BITS: usize>(
     table: &mut [u32],
     slots: usize,
     top: usize,
@@ -359,21 +248,21 @@ fn free_many(
 ) -> usize
     requires small { (slots ≤ max_slots) × (length table.old ≡ table_words slots) × (first + count ≤ max_cells) }
     requires ends { EndsAt slots table.old top × (1 ≤ depth) }
+    requires room { (top ≤ group_at BITS) × (2 * group_at BITS ≤ WORDS) × (WORDS ≤ 2 * max_slots) }
     ensures { Journaled slots (entry_changes slots (delete_change slots table.old depth first count)) budget table.old result table.new }
 {
-    let mut words = many_words();
-    let mut changed = many_bits();
-    free_staged(
-        table,
+    let mut staged = Staged::<WORDS, BITS>::none();
+    let entries = Entries {
+        words: table,
         slots,
         top,
-        depth,
-        first,
-        count,
-        &mut words,
-        &mut changed,
-        budget,
-    )
+    };
+    staged.stage_below(
+        entries.top,
+        |from, end| none_freed(&entries, depth, first, count, from, end),
+        |i| free_entry(&entries, depth, first, count, i),
+    );
+    write_staged(table, slots, &Head::none(), &staged, budget)
 }
 
 // Frees the cells, and gives the steps uncut. The arrays are chosen by how far the entries in use reach, whatever the marks were, so that a
@@ -392,9 +281,9 @@ fn free_cells(
     ensures { Journaled slots (entry_changes slots (delete_change slots table.old depth first count)) budget table.old result table.new }
 {
     if top <= FEW_SLOTS {
-        return free_few(table, slots, top, depth, first, count, budget);
+        return free_with::<FEW_WORDS, FEW_BITS>(table, slots, top, depth, first, count, budget);
     }
-    free_many(table, slots, top, depth, first, count, budget)
+    free_with::<MANY_WORDS, MANY_BITS>(table, slots, top, depth, first, count, budget)
 }
 
 // ---- the call

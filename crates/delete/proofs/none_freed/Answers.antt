@@ -1,15 +1,11 @@
 use Prim.Native.Nat.{◌≤◌}
 use mathlib.Core.Path.{◌≡◌, sym, ◌∙◌}
-use native.Mathlib.Omega.{arith}
 use borrow.Author.Count.{below_more}
 use borrow.Author.Tests.{not-true}
 use Rattle.words.proofs.Scan.{and_split}
 use Rattle.table.specs.Changes.{keep}
 use Rattle.delete.specs.Delete.{delete_change}
 use Rattle.delete.proofs.none_freed.Goals as goal
-
-pub loop-i-init : goal.loop-i-init
-loop-i-init c = λ _ j low l. absurd (omega arith)
 
 pub loop-i-preserved : goal.loop-i-preserved
 unfolding delete_change
@@ -19,8 +15,5 @@ loop-i-preserved c =
     λ h j low l.
     let both = and_split turn.none _ h in
     let stays = rw c.first_word.ensures at (sym c.in_cells.ensures ∙ not-true _ both.1) in
-    below_more (λ j. a.from ≤ j → delete_change a.slots a.table.now a.depth a.first a.count j ≡ keep) turn.i
+    below_more (λ j. a.from ≤ j → delete_change a.entries.now.slots a.entries.now.words.now a.depth a.first a.count j ≡ keep) turn.i
     (λ j l low. turn.invariant both.0 j low l) (λ low. rw stays) j l low
-
-pub returns : goal.returns
-returns c = λ h j low l. c.loop-i.invariant h j low (omega arith)
