@@ -12,6 +12,8 @@ use words::layout::CELL_SIZE;
 pub const MAX_RULE: u32 = 3;
 
 // Byte i of a rule. Numbers above the highest are refused before this is asked.
+// stays: a rule's byte is a `match` on the rule's number, as the definition is (`pattern_byte`) and as the words of the table name the rules
+#[tactic(auto, unfolding(crate::specs::Pattern::pattern_byte))]
 pub fn pattern_byte(rule: u32, i: usize) -> u8
     requires { i < cell_size }
     ensures { result ≡ pattern_byte rule i }
@@ -32,14 +34,12 @@ pub fn pattern_byte(rule: u32, i: usize) -> u8
 }
 
 // The 64 bytes of a rule, made here and then stored or compared as any other bytes are.
-pub fn pattern_bytes(rule: u32) -> [u8; 64]
+pub fn pattern_bytes(rule: u32) -> [u8; CELL_SIZE]
     ensures { result ≡ pattern rule }
 {
-    let mut bytes = [0u8; 64];
-    let mut i: usize = 0;
-    while i < CELL_SIZE {
-        bytes[i] = pattern_byte(rule, i);
-        i += 1;
+    let mut bytes = [0u8; CELL_SIZE];
+    for (i, byte) in bytes.iter_mut().enumerate() {
+        *byte = pattern_byte(rule, i);
     }
     bytes
 }

@@ -1,5 +1,5 @@
 -- Cells and bodies: 64 bytes each, starting at 64 times their number.
-use Rattle.std.specs.Prelude.{ℕ, ◌+◌, Bool, List, ◌≡◌, eqb, get_or, take, drop}
+use Rattle.std.specs.Prelude.{ℕ, ◌+◌, ◌≤◌, Bool, List, ◌≡◌, eqb, length, get_or, take, drop}
 use Rattle.words.specs.Scan.{all}
 use Rattle.words.specs.Layout.{cell_size, cell_at}
 use Rattle.words.specs.Stores.{Store, ◌≔◌, stores, tab}
@@ -7,6 +7,10 @@ use Rattle.words.specs.Stores.{Store, ◌≔◌, stores, tab}
 -- the bytes of cell or body c
 abbrev pub cell_bytes : List ℕ → ℕ → List ℕ
 cell_bytes s c = take cell_size (drop (cell_at c) s)
+
+-- does the list have cell or body c?
+abbrev pub HasCell : List ℕ → ℕ → Type 0
+HasCell s c = cell_at c + cell_size ≤ length s
 
 -- do two cells' bytes agree?
 unfoldable pub same_cell : List ℕ → List ℕ → Bool

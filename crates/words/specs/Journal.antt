@@ -1,5 +1,5 @@
 -- The journal (document 01: pending pairs). In all of this `first` is where the pairs begin, and a change is a word's number and its new value.
-use Rattle.std.specs.Prelude.{ℕ, ◌+◌, ◌*◌, Bool, true, cond, ◌&&◌, ◌||◌, List, [], ◌∷◌, ◌++◌, eqb, leb, ltb, get_or, length, set, take}
+use Rattle.std.specs.Prelude.{ℕ, ◌+◌, ◌*◌, ◌≤◌, ◌<◌, Bool, true, cond, ◌&&◌, ◌||◌, List, [], ◌∷◌, ◌++◌, eqb, leb, ltb, get_or, length, set, take}
 use Rattle.words.specs.Layout.{pending_at, live_at, next_at, handle_at}
 use Rattle.words.specs.Stores.{Store, ◌≔◌, tab, stores}
 
@@ -16,6 +16,10 @@ pairs t first p = tab p (pair_at t first)
 -- how many pairs are pending
 abbrev pub pending : List ℕ → ℕ
 pending t = get_or t pending_at 0
+
+-- p pairs are written: the table is long enough for them, and each names a word in front of them
+abbrev pub Written : List ℕ → ℕ → ℕ → Type 0
+Written t first p = (first + 2 * p ≤ length t) × (pending_at < first) × ((j : ℕ) → j < p → get_or t (first + 2 * j) 0 < first)
 
 -- "Pending pairs name words 4, 5, 8 to 15 or an entry word": may a pair name word w?
 unfoldable pub name_ok : ℕ → ℕ → Bool

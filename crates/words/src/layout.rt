@@ -47,7 +47,7 @@ pub fn cell_at(c: usize) -> usize
     CELL_SIZE * c
 }
 
-// How many cells a buffer of so many bytes has.
+// How many cells a buffer of so many bytes has, or how many bodies.
 pub fn cells_of(bytes: usize) -> usize
     ensures { result ≡ cells_of bytes }
 {
@@ -55,10 +55,11 @@ pub fn cells_of(bytes: usize) -> usize
 }
 
 // And how many bodies.
+// old form: goes when its callers have gone over to `cells_of`
 pub fn bodies_of(bytes: usize) -> usize
     ensures { result ≡ bodies_of bytes }
 {
-    bytes / CELL_SIZE
+    cells_of(bytes)
 }
 
 // The length in words of a table with so many slots.
@@ -73,7 +74,7 @@ pub fn table_words(slots: usize) -> usize
 pub fn slots_of(words: usize) -> usize
     ensures { result ≡ slots_of words }
 {
-    if words < 36 { 0 } else { (words - 36) / 6 }
+    words.saturating_sub(36) / 6
 }
 
 // The word of the handle of live domain k, counted from 0 at the outermost.
@@ -84,7 +85,7 @@ pub fn handle_at(k: usize) -> usize
     8 + k
 }
 
-// The two words of entry i.
+// The first of the two words of entry i, and the second.
 pub fn first_at(slots: usize, i: usize) -> usize
     requires { (i < slots) × (slots ≤ max_slots) }
     ensures { result ≡ first_at slots i }
@@ -96,7 +97,7 @@ pub fn second_at(slots: usize, i: usize) -> usize
     requires { (i < slots) × (slots ≤ max_slots) }
     ensures { result ≡ second_at slots i }
 {
-    17 + 2 * i
+    first_at(slots, i) + 1
 }
 
 // How many pairs there is room for.

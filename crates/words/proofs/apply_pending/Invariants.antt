@@ -1,14 +1,10 @@
 -- `words::apply_pending` meets its contract. The loop's invariant: `j` pairs are in place, in the plan's order. No pair names a word among the
 -- pairs, so each is read as it was at the start. Assumes nothing.
 use mathlib.Core.Path.{◌≡◌}
-use Prim.Native.Nat.{◌-◌, ◌≤◌}
-use lib.ListN.{length, take}
+use lib.ListN.{take}
 use Rattle.words.specs.Stores.{stores}
 use Rattle.words.specs.Journal.{pairs}
 use Rattle.words.proofs.apply_pending.Given as goal
 
 abbrev pub invariant-loop-j : goal.invariant-loop-j
-invariant-loop-j l = (l.j ≤ l.n) × (l.table ≡ stores (take l.j (pairs l.initial.table l.first l.p)) l.initial.table) × (length l.table ≡ length l.initial.table)
-
-abbrev pub decreases-loop-j : goal.decreases-loop-j
-decreases-loop-j l = l.n - l.j
+invariant-loop-j l = l.table ≡ stores (take l.j (pairs l.initial.table l.first l.p)) l.initial.table

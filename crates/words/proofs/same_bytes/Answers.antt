@@ -1,4 +1,4 @@
-use mathlib.Core.Path.{◌≡◌, refl, ◌∙◌}
+use mathlib.Core.Path.{◌≡◌, refl}
 use Prim.Native.Nat.{ℕ}
 use native.Mathlib.Omega.{arith}
 use lib.Dec.{eqb}
@@ -10,27 +10,15 @@ use Rattle.words.proofs.same_bytes.Goals as goal
 
 pub loop-k-init : goal.loop-k-init
 unfolding all
-loop-k-init c = (omega arith, refl)
-
-pub bounds-a-k : goal.bounds-a-k
-bounds-a-k c = omega arith
-
-pub bounds-b-k : goal.bounds-b-k
-bounds-b-k c = omega arith
-
-pub overflow_add-k : goal.overflow_add-k
-overflow_add-k c = omega arith
-
-pub loop-k-smaller : goal.loop-k-smaller
-loop-k-smaller c = omega arith
+loop-k-init c = refl
 
 pub loop-k-preserved : goal.loop-k-preserved
 loop-k-preserved c =
     let a = c.args in
-    (omega arith, rw c.loop-k.invariant.1 (all_next c.loop-k.k (λ (j : ℕ). eqb (get_or a.a.now j 0) (get_or a.b.now j 0))))
+    rw c.loop-k.invariant (all_next c.loop-k.k (λ (j : ℕ). eqb (get_or a.a.now j 0) (get_or a.b.now j 0)))
 
 pub returns : goal.returns
 unfolding same_cell
 returns c =
     let e : c.loop-k.k ≡ 64 = omega arith in
-    c.loop-k.invariant.1 ∙ rw e
+    rw e at c.loop-k.invariant
