@@ -1,4 +1,5 @@
 -- Laws that belong to no one function.
+pub mod Listed
 pub mod Entry
 pub mod Made
 pub mod Rule
