@@ -9,6 +9,7 @@ pub mod Marks
 pub mod Seconds
 pub mod Parts
 pub mod Passing
+pub mod Decided
 pub mod Pairs
 pub mod Checks
 pub mod Head

@@ -1,11 +1,13 @@
-use Rattle.std.proofs.Common.{rules, ◌≡◌, ℕ, ◌+◌, ◌*◌, ◌<◌, ◌≤◌, length, get_or, take, ◌-◌, ◌/◌, ◌%◌, Bool, true, false, nat_eq, nat_lt, List, [], ◌∷◌, ◌++◌, slice_set, bit_and, bit_or, Fits, w8, w32, w64, Bor, MutBor}
-use Rattle.words.specs.Layout.{table_words, max_slots}
-use Rattle.words.specs.Stores.{stores}
-use Rattle.words.specs.Journal.{name_ok, names_ok, pairs, pair_plans}
-use Rattle.table.specs.Changes.{put, entry_stores}
-use Rattle.table.specs.Rule.{pairs_ok}
+-- `table::journal::write_entry` meets its contract. Assumes nothing.
+use mathlib.Core.List.{[], ◌∷◌}
+use Rattle.words.specs.Layout.{first_at, second_at}
+use Rattle.words.specs.Stores.{◌≔◌}
+use Rattle.words.proofs.Phases.{pair_more}
 use Rattle.table.proofs.journal.write_entry.Goals as goal
 
--- src/journal.rt:65:1
 pub returns : goal.returns
-returns c = ?
+returns c =
+    let a = c.args in
+    let e₁ = rw c.first_at.ensures at c.write_pair.ensures in
+    let e₂ = rw (c.remaining.ensures, c.second_at.ensures) at c.write_pair-2.ensures in
+    pair_more a.at ((first_at a.slots a.i ≔ a.words.0) ∷ []) (second_at a.slots a.i ≔ a.words.1) a.budget a.table.now _ _ e₁ e₂

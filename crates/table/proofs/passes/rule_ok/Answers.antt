@@ -1,45 +1,43 @@
-use Rattle.std.proofs.Common.{rules, ◌≡◌, true, false, not, ℕ, ◌+◌, ◌<◌, ◌≤◌, length, MatchOption, ◌-◌, ◌*◌, ◌/◌, ◌%◌, Bool, nat_eq, nat_lt, List, [], ◌∷◌, ◌++◌, slice_index_or, slice_set, bit_and, bit_or, Fits, w8, w32, w64, Bor, MutBor}
-use Rattle.words.specs.Layout.{pairs_at, table_words, max_bodies, max_cells, max_live, handle_at, group_of}
-use Rattle.words.specs.Scan.{all}
-use Rattle.words.specs.Journal.{effective, pending}
-use Rattle.table.specs.Entry.{live, via_of, pattern_of, depth_of, cell_of, is_pattern, parent}
-use Rattle.table.specs.Rule.{handle_ok, head_ok, kind_ok, pairs_ok, rule_ok, table_ok}
-use Rattle.marks.specs.Blocks.{cells_in, Kept, Spare, Room}
-use Rattle.table.specs.Marks.{has, mark_at, mark_entry, Marked, CellsOnce, ViasMarkable, ViaInner, parent_told, all_told, placed, mark_body, body_fits, Blank, NoVias, Passed, PassedAll, RulesMarked, AllMarked}
+-- `table::passes::rule_ok` meets its contract. Assumes nothing.
+use Rattle.std.proofs.Common.{refl, sym, ap, ◌∙◌, arith, rules}
+use Rattle.table.proofs.Rule.{no_head}
+use Rattle.table.proofs.Parts.{live_small, no_once, decided}
+use Rattle.table.proofs.Passing.{rule_least}
+use Rattle.table.proofs.Decided.{parents_asked, parents_missing, right_alone, rules_first, right_once}
 use Rattle.table.proofs.passes.rule_ok.Goals as goal
 
--- src/passes.rt:269:9
 pub returns-then-not-head_ok-clause-value : goal.returns-then-not-head_ok-clause-value
-returns-then-not-head_ok-clause-value c = ?
+returns-then-not-head_ok-clause-value c = sym (no_head _ _ _ _ (sym c.if-not-head_ok.ensures))
 
--- src/passes.rt:273:22
 pub pass_entries-requires-clause-sizes : goal.pass_entries-requires-clause-sizes
-pass_entries-requires-clause-sizes c = ?
+pass_entries-requires-clause-sizes c =
+    (live_small 0 0 0 _ (sym c.if-not-head_ok.ensures), omega (arith, c.min-named.ensures), omega (arith, c.min-named.ensures, c.requires.sizes.1), search rules)
 
--- src/passes.rt:274:9
 pub returns-in_default-clause-value : goal.returns-in_default-clause-value
-returns-in_default-clause-value c = ?
+returns-in_default-clause-value c = sym (rw (c.min-named.ensures, rule_least c.args.cells c.args.table.now.slots c.args.bodies c.args.table.now.words.now) at c.in_default.ensures)
 
--- src/passes.rt:276:9
 pub parents_ok-requires : goal.parents_ok-requires
-parents_ok-requires c = ?
+parents_ok-requires c = parents_asked _ _ _ _ _ _ _ _ _ _ c.min-named.ensures (sym c.if-not-head_ok.ensures) c.in-Some.ensures
 
--- src/passes.rt:277:9
 pub returns-then-not-parents_ok-clause-value : goal.returns-then-not-parents_ok-clause-value
-returns-then-not-parents_ok-clause-value c = ?
+returns-then-not-parents_ok-clause-value c =
+    sym (parents_missing _ _ _ _ _ _ _ _ _ _ c.min-named.ensures (sym c.if-not-head_ok.ensures) c.in-Some.ensures (sym c.if-not-parents_ok.ensures))
 
--- src/passes.rt:280:9
 pub returns-then-pass-eq0-clause-value : goal.returns-then-pass-eq0-clause-value
-returns-then-pass-eq0-clause-value c = ?
+returns-then-pass-eq0-clause-value c =
+    sym (right_alone _ _ _ _ _ _ _ _ _ _ c.min-named.ensures (sym c.if-not-head_ok.ensures) c.in-Some.ensures (sym c.if-not-parents_ok.ensures) c.if-pass-eq0.true).0
 
--- src/passes.rt:280:9
 pub returns-then-pass-eq0-clause-marks : goal.returns-then-pass-eq0-clause-marks
-returns-then-pass-eq0-clause-marks c = ?
+returns-then-pass-eq0-clause-marks c = λ r.
+    (right_alone _ _ _ _ _ _ _ _ _ _ c.min-named.ensures (sym c.if-not-head_ok.ensures) c.in-Some.ensures (sym c.if-not-parents_ok.ensures) c.if-pass-eq0.true).1
 
--- src/passes.rt:282:5
 pub mark_rules-requires : goal.mark_rules-requires
-mark_rules-requires c = ?
+mark_rules-requires c =
+    rules_first _ _ _ _ _ _ _ _ _ _ c.min-named.ensures (sym c.if-not-head_ok.ensures) c.in-Some.ensures (sym c.if-not-parents_ok.ensures) c.args.table.now.ends
+    (omega (arith, c.pass_entries.auto.seen, c.min-named.ensures, c.requires.sizes.1))
 
--- src/passes.rt:256:1
 pub returns-clause-value : goal.returns-clause-value
-returns-clause-value c = ?
+returns-clause-value c =
+    decided c.args.cells c.args.table.now.slots c.args.bodies c.args.table.now.words.now _
+    (λ r. right_once _ _ _ _ _ _ _ _ _ _ c.min-named.ensures (sym c.if-not-head_ok.ensures) c.in-Some.ensures (sym c.if-not-parents_ok.ensures) (c.mark_rules.ensures.right r).0)
+    (λ r. no_once _ _ _ _ (c.mark_rules.ensures.wrong r))
