@@ -332,12 +332,12 @@ rule_least m e b t = rw (all_ext e (entry_ok (min m max_cells) e b t) (entry_ok 
 -- ---- runs of free entries
 
 -- one more of them, by the test of the code
-pub run_more : (e : ℕ) (t : List ℕ) (n k : ℕ) (free : Bool) → (free ≡ true → FreeRun e t n k)
-    → (free && (eqb (word1 e t k) 0 && eqb (word2 e t k) 0)) ≡ true → FreeRun e t n (k + 1)
+pub run_more : (e : ℕ) (t : List ℕ) (n k : ℕ) (free : Bool) → (free ≡ true → FreeRun e t n (n + k))
+    → (free && (eqb (word1 e t (n + k)) 0 && eqb (word2 e t (n + k)) 0)) ≡ true → FreeRun e t n (n + (k + 1))
 run_more e t n k free so_far h i low l =
     let both = and_split free _ h in
-    let here = and_split (eqb (word1 e t k) 0) _ both.1 in
-    split k i l (λ q. rw q (eqb-true _ _ here.0, eqb-true _ _ here.1)) (λ near. so_far both.0 i low near)
+    let here = and_split (eqb (word1 e t (n + k)) 0) _ both.1 in
+    split (n + k) i (omega arith) (λ q. rw q (eqb-true _ _ here.0, eqb-true _ _ here.1)) (λ near. so_far both.0 i low near)
 
 -- a run in front of the end of the table
 pub ends_before : (e : ℕ) (t : List ℕ) (n k : ℕ) → k ≤ n → EndsAt e t n → FreeRun e t k n → EndsAt e t k

@@ -18,8 +18,8 @@ impl<'a> Entries<'a> {
         ensures { result ≡ true → FreeRun self.now.slots self.now.words.now i (i + MANY) }
     {
         let mut free = true;
-        for k in i..i + MANY {
-            free = free & ((self.first_word(k) == 0) & (self.second_word(k) == 0));
+        for k in 0..MANY {
+            free = free & ((self.first_word(i + k) == 0) & (self.second_word(i + k) == 0));
         }
         free
     }
@@ -43,10 +43,8 @@ impl<'a> Entries<'a> {
     // stand side by side.
     pub fn next_entry(&self, from: usize) -> Option<usize>
         requires { from ≤ self.now.top }
-        ensures {
-            MatchOption result (FreeRun self.now.slots self.now.words.now from self.now.top)
-                (λ i. (from ≤ i) × (i < self.now.top) × FreeRun self.now.slots self.now.words.now from i)
-        }
+        ensures { MatchOption result (FreeRun self.now.slots self.now.words.now from self.now.top)
+            (λ i. (from ≤ i) × (i < self.now.top) × FreeRun self.now.slots self.now.words.now from i) }
     {
         if from == self.top {
             return None;
@@ -85,10 +83,8 @@ impl<'a> Entries<'a> {
     // where the number of its slots is not allowed. Entries are taken from the front and most tables have room to spare: that is passed over by
     // sixteens, and then four are asked at once, so that the top may be three too high.
     pub fn reached(words: &'a [u32]) -> Option<Self>
-        ensures {
-            MatchOption result (1 ≤ slots_of (length words.now) → slots_of (length words.now) ≤ max_slots → ⊥)
-                (λ table. (table.words.now ≡ words.now) × (table.slots ≡ slots_of (length words.now)) × Reaches table.slots words.now table.top)
-        }
+        ensures { MatchOption result (1 ≤ slots_of (length words.now) → slots_of (length words.now) ≤ max_slots → ⊥)
+            (λ table. (table.words.now ≡ words.now) × (table.slots ≡ slots_of (length words.now)) × Reaches table.slots words.now table.top) }
     {
         let slots = slots_of(words.len());
         if slots < 1 {

@@ -15,11 +15,13 @@ ghost use Rattle.table.specs.Marks.{has, mark_at, mark_entry, Marked, CellsOnce,
 ghost use Rattle.table.specs.Marks.{Blank, NoVias, Passed, PassedAll, RulesMarked, AllMarked};
 
 use crate::fields::{below_kind, cell_of, depth_of, is_pattern, is_via, pattern_of, via_of};
-use crate::lent::Entries;
 use crate::journal::{pairs_ok, put_pairs};
+use crate::lent::Entries;
 use marks::{mark_cell, mark_of};
 use patterns::MAX_RULE;
-use words::layout::{LIVE_AT, MAX_CELLS, MAX_FRONT, MAX_LIVE, NEXT_AT, PENDING_AT, handle_at, pairs_at};
+use words::layout::{
+    LIVE_AT, MAX_CELLS, MAX_FRONT, MAX_LIVE, NEXT_AT, PENDING_AT, handle_at, pairs_at,
+};
 use words::wide;
 
 // ---- the head
@@ -199,10 +201,8 @@ fn pass_entries(
 ) -> Option<Pass>
     requires sizes { (live table.now.words.now ≤ max_live) × (cells ≤ max_cells) × Room table.now.top cells seen.old × (bodies ≤ length used.old) }
     requires blank { Blank seen.old × Blank used.old }
-    ensures {
-        MatchOption result (rule_ok cells table.now.slots bodies table.now.words.now ≡ false)
-            (λ pass. PassedAll cells table.now.slots bodies table.now.words.now table.now.top pass.vias pass.rules seen.new used.new)
-    }
+    ensures { MatchOption result (rule_ok cells table.now.slots bodies table.now.words.now ≡ false)
+        (λ pass. PassedAll cells table.now.slots bodies table.now.words.now table.now.top pass.vias pass.rules seen.new used.new) }
 {
     let mut vias = 0;
     let mut rules = 0;
