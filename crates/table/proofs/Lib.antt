@@ -1,4 +1,5 @@
 -- Laws that belong to no one function.
+pub mod Listed
 pub mod Entry
 pub mod Made
 pub mod Rule
@@ -8,6 +9,7 @@ pub mod Marks
 pub mod Seconds
 pub mod Parts
 pub mod Passing
+pub mod Decided
 pub mod Pairs
 pub mod Checks
 pub mod Head

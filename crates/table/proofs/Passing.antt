@@ -16,7 +16,7 @@ use Rattle.words.proofs.Nth.{count_below}
 use Rattle.table.specs.Entry.{live, word1, word2, depth_of, via_of, pattern_of, unused_of, cell_of, is_pattern}
 use Rattle.table.specs.Rule.{head_ok, kind_ok, entry_ok, parent_ok, rule_ok}
 use Rattle.marks.specs.Blocks.{block_at, cells_in, taken, Spare, Room}
-use Rattle.table.specs.Marks.{Blank, has, cell_in, mark_at, mark_entry, IsCopy, mark_body, body_fits, placed, FreeRun, EndsAt, CellsOnce, PlainBelow, AllBut, Marked, NoVias, parent_told, all_told, rules_below, Passed, RulesPlaced, RulesMarked, AllMarked}
+use Rattle.table.specs.Marks.{Blank, has, cell_in, mark_at, mark_entry, IsCopy, mark_body, body_fits, placed, FreeRun, EndsAt, CellsOnce, PlainBelow, AllBut, Marked, NoVias, parent_told, all_told, rules_below, Passed, PassedAll, RulesPlaced, RulesMarked, AllMarked}
 use Rattle.marks.proofs.Digits.{has_none}
 use Rattle.marks.proofs.Blocks.{kept_cells, kept_none, taken_none, outside_none, cells_none, cell_one, cell_kept, cell_blocks, cell_outside, room_spare}
 use Rattle.table.proofs.Marks.{owns_facts, owns_not, split, marks_none, marks_skip, marked_same, once_same, once_not, once_more, marked_more, parent_told_lem, distinct_none, distinct_more, bodies_more, single_more}
@@ -310,6 +310,20 @@ pub vias_more : (e : ℕ) (t : List ℕ) (n vias : ℕ) → NoVias e t n vias �
 vias_more e t n vias so_far none i l =
     split n i l (λ q. rw q (omega (arith, none))) (λ near. so_far (omega (arith, none)) i near)
 
+-- the pass ends where all that is left in front of `top` is free
+pub passed_all : {m e b : ℕ} {t : List ℕ} {n : ℕ} {seen used : List ℕ} (p : Passed m e b t n seen used) {top vias rules : ℕ} → n ≤ top → FreeRun e t n top
+    → EndsAt e t top → NoVias e t n vias → rules ≡ rules_below e t n → PassedAll m e b t top vias rules seen used
+passed_all {m} {e} {b} {t} {n} p {top} low near ends alone counted =
+    let free : FreeRun e t n e = λ i l h. by_le top i (λ far. ends.1 i far h) (λ k. near i l k) in
+    let high : n ≤ e = omega (arith, ends.0) in
+    let rules = rules_free e t n e high free in
+    record {
+      passed = passed_free m e b t n _ _ p e high free;
+      alone = vias_free e t n e _ high free alone;
+      counted = counted ∙ sym rules;
+      few = omega (arith, p.few, rules);
+    }
+
 -- the rule asks for no more cells than an entry can name
 pub rule_least : (m e b : ℕ) (t : List ℕ) → rule_ok (min m max_cells) e b t ≡ rule_ok m e b t
 unfolding rule_ok
@@ -323,9 +337,7 @@ pub run_more : (e : ℕ) (t : List ℕ) (n k : ℕ) (free : Bool) → (free ≡ 
 run_more e t n k free so_far h i low l =
     let both = and_split free _ h in
     let here = and_split (eqb (word1 e t (n + k)) 0) _ both.1 in
-    by_le (n + k) i
-    (λ far. let q : i ≡ n + k = omega arith in rw q (eqb-true _ _ here.0, eqb-true _ _ here.1))
-    (λ near. so_far both.0 i low near)
+    split (n + k) i (omega arith) (λ q. rw q (eqb-true _ _ here.0, eqb-true _ _ here.1)) (λ near. so_far both.0 i low near)
 
 -- a run in front of the end of the table
 pub ends_before : (e : ℕ) (t : List ℕ) (n k : ℕ) → k ≤ n → EndsAt e t n → FreeRun e t k n → EndsAt e t k

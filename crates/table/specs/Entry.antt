@@ -1,8 +1,13 @@
 -- Document 01, "Three lent buffers": the words of an entry, and which entry is found for a depth and a cell.
 -- e is the table's number of entry slots, t its words.
-use Rattle.std.specs.Prelude.{ℕ, zero, suc, ◌+◌, ◌-◌, ◌*◌, ◌/◌, ◌%◌, Bool, not, ◌&&◌, List, get_or, ltb, leb, eqb}
+use Rattle.std.specs.Prelude.{◌≡◌, ℕ, zero, suc, ◌+◌, ◌-◌, ◌*◌, ◌/◌, ◌%◌, ◌<◌, Bool, not, ◌&&◌, List, Result, MatchResult, get_or, ltb, leb, eqb}
 use Rattle.words.specs.Layout.{live_at, next_at, handle_at, first_at, second_at}
 use Rattle.words.specs.Scan.{first}
+use Rattle.table.specs.declared.fields.Kind.{Kind}
+use Rattle.table.specs.declared.fields.Kind.TheVariants.{Copy, ViaParent, ByRule}
+use Rattle.table.specs.declared.fields.Label.{Label}
+use Rattle.table.specs.declared.fields.Label.TheVariants.{ReadOnly, ReadWrite}
+use Rattle.table.specs.declared.fields.UnknownNumber.{UnknownNumber}
 
 -- how many domains are live, the next handle, and the handle of live domain k, counted from 0 at the outermost
 abbrev pub live : List ℕ → ℕ
@@ -65,7 +70,24 @@ is_pattern w = eqb (pattern_of w) 1
 abbrev pub owns_body : ℕ → Bool
 owns_body w = not (eqb w 0) && (eqb (via_of w) 0 && eqb (pattern_of w) 0)
 
--- the bits of a kind as add numbers it: 0 copy, 1 via parent, 2 by rule
+-- the numbers by which a range names a kind and a label
+abbrev pub kind_number : Kind → ℕ
+kind_number Copy = 0
+kind_number ViaParent = 1
+kind_number ByRule = 2
+
+abbrev pub label_number : Label → ℕ
+label_number ReadOnly = 0
+label_number ReadWrite = 1
+
+-- the kind or the label with this number, or a number that none has
+abbrev pub NamesKind : ℕ → Result Kind UnknownNumber → Type 0
+NamesKind n r = MatchResult r (λ kind. kind_number kind ≡ n) (λ e. (e.0 ≡ n) × (2 < n))
+
+abbrev pub NamesLabel : ℕ → Result Label UnknownNumber → Type 0
+NamesLabel n r = MatchResult r (λ label. label_number label ≡ n) (λ e. (e.0 ≡ n) × (1 < n))
+
+-- the bits of a kind by its number: 0 copy, 1 via parent, 2 by rule
 abbrev pub kind_bits : ℕ → ℕ
 kind_bits zero = 0
 kind_bits (suc zero) = 67_108_864

@@ -1,8 +1,101 @@
 // The fields of an entry's first word, read and made here alone: bits 28 to 31 are the depth, bit 27 the label, bits 26 and 25 the kind, and
 // bits 0 to 15 the cell. And what its second word is, by its kind.
-ghost use Rattle.std.specs.Prelude.{◌≡◌, ◌≤◌, ◌<◌};
+ghost use Rattle.std.specs.Prelude.{◌≡◌, ◌*◌, ◌≤◌, ◌<◌};
 ghost use Rattle.words.specs.Layout.{max_cells};
+ghost use Rattle.table.specs.Entry.{kind_number, label_number, NamesKind, NamesLabel};
 ghost use Rattle.table.specs.Entry.{depth_of, cell_of, writable_of, via_of, pattern_of, below_kind, is_writable, is_via, is_pattern, owns_body, kind_bits, entry_word, second_word, writable, outward, as_copy};
+
+// How a domain holds a cell: by a copy of its bytes in a body, by what its parent holds, or by the rule that they follow.
+#[derive(Clone, Copy, PartialEq, Eq, Debug)]
+pub enum Kind {
+    Copy,
+    ViaParent,
+    ByRule,
+}
+
+// May the domain write the cell?
+#[derive(Clone, Copy, PartialEq, Eq, Debug)]
+pub enum Label {
+    ReadOnly,
+    ReadWrite,
+}
+
+// A number that no kind has, or no label.
+#[derive(Clone, Copy, PartialEq, Eq, Debug)]
+pub struct UnknownNumber(pub u32);
+
+impl TryFrom<u32> for Kind {
+    type Error = UnknownNumber;
+
+    ghost try_from_gives = { NamesKind };
+
+    fn try_from(number: u32) -> Result<Self, UnknownNumber> {
+        match number {
+            0 => Ok(Kind::Copy),
+            1 => Ok(Kind::ViaParent),
+            2 => Ok(Kind::ByRule),
+            _ => Err(UnknownNumber(number)),
+        }
+    }
+}
+
+impl TryFrom<u32> for Label {
+    type Error = UnknownNumber;
+
+    ghost try_from_gives = { NamesLabel };
+
+    fn try_from(number: u32) -> Result<Self, UnknownNumber> {
+        match number {
+            0 => Ok(Label::ReadOnly),
+            1 => Ok(Label::ReadWrite),
+            _ => Err(UnknownNumber(number)),
+        }
+    }
+}
+
+impl Kind {
+    // Its bits in a first word.
+    pub fn bits(self) -> u32
+        ensures { result ≡ kind_bits (kind_number self) }
+    {
+        match self {
+            Kind::Copy => 0,
+            Kind::ViaParent => 67108864,
+            Kind::ByRule => 33554432,
+        }
+    }
+
+    // The first word of an entry of this kind, with this depth, label and cell.
+    pub fn entry_word(self, depth: u32, label: Label, cell: u32) -> u32
+        requires { (depth < 16) × (cell < max_cells) }
+        ensures { result ≡ entry_word depth (kind_number self) (label_number label) cell }
+    {
+        268435456 * depth + label.bit() + self.bits() + cell
+    }
+
+    // Its second word: a copy's body, or the rule; via parent has 0.
+    pub fn second_of(self, rule: u32, body: u32) -> u32
+        ensures { result ≡ second_word (kind_number self) rule body }
+    {
+        match self {
+            Kind::Copy => body,
+            Kind::ViaParent => 0,
+            Kind::ByRule => rule,
+        }
+    }
+}
+
+impl Label {
+    // Its bit in a first word.
+    pub fn bit(self) -> u32
+        ensures { result ≡ 134217728 * label_number self }
+    {
+        match self {
+            Label::ReadOnly => 0,
+            Label::ReadWrite => 134217728,
+        }
+    }
+}
 
 pub fn depth_of(word: u32) -> u32
     ensures { result ≡ depth_of word }
@@ -70,6 +163,7 @@ pub fn owns_body(word: u32) -> bool
 }
 
 // The bits of a kind as add numbers it: 0 copy, 1 via parent, 2 by rule.
+// old form: goes when its callers have gone over
 pub fn kind_bits(kind: u32) -> u32
     ensures { result ≡ kind_bits kind }
 {
@@ -81,6 +175,7 @@ pub fn kind_bits(kind: u32) -> u32
 }
 
 // The first word of an entry of this depth, kind, label and cell.
+// old form: goes when its callers have gone over
 pub fn entry_word(depth: u32, kind: u32, label: u32, cell: u32) -> u32
     requires { (depth < 16) × (label ≤ 1) × (cell < max_cells) }
     ensures { result ≡ entry_word depth kind label cell }
@@ -89,6 +184,7 @@ pub fn entry_word(depth: u32, kind: u32, label: u32, cell: u32) -> u32
 }
 
 // Its second word: a copy's body, or the rule; via parent has 0.
+// old form: goes when its callers have gone over
 pub fn second_of(kind: u32, rule: u32, body: u32) -> u32
     ensures { result ≡ second_word kind rule body }
 {

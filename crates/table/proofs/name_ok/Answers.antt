@@ -1,7 +1,0 @@
--- `table::name_ok` meets its contract. Assumes nothing.
-use Rattle.words.specs.Journal.{name_ok}
-use Rattle.table.proofs.name_ok.Goals as goal
-
-pub returns : goal.returns
-unfolding name_ok
-returns c = rw c.handle_at.ensures

@@ -1,0 +1,106 @@
+// Runs of free entries, which no pass need look at: those behind the last entry in use, and those between others.
+ghost use Rattle.std.specs.Prelude.{◌≡◌, true, ◌+◌, ◌<◌, ◌≤◌, MatchOption, length};
+ghost use Rattle.words.specs.Layout.{slots_of, max_slots};
+ghost use Rattle.table.specs.Marks.{FreeRun, Reaches};
+
+use crate::lent::Entries;
+use words::layout::{MAX_SLOTS, PENDING_AT, slots_of};
+
+// So many entries are asked at once between others, and so many in the room to spare behind the last one in use.
+pub const FOUR: usize = 4;
+
+pub const SIXTEEN: usize = 16;
+
+impl<'a> Entries<'a> {
+    // Are the entries from i on, so many of them, free? All are asked, with no branch, so that the compiler can ask many words at once.
+    pub fn are_free<const MANY: usize>(&self, i: usize) -> bool
+        requires { i + MANY ≤ self.now.slots }
+        ensures { result ≡ true → FreeRun self.now.slots self.now.words.now i (i + MANY) }
+    {
+        let mut free = true;
+        for k in 0..MANY {
+            free = free & ((self.first_word(i + k) == 0) & (self.second_word(i + k) == 0));
+        }
+        free
+    }
+
+    // Passes over free entries from `from` on and before the top, four at a time.
+    fn past_free(&self, from: usize) -> usize
+        requires { from ≤ self.now.top }
+        ensures { (from ≤ result) × (result ≤ self.now.top) × FreeRun self.now.slots self.now.words.now from result }
+    {
+        let fours = (self.top - from) / FOUR;
+        for k in 0..fours {
+            let at = from + FOUR * k;
+            if !self.are_free::<FOUR>(at) {
+                return at;
+            }
+        }
+        from + FOUR * fours
+    }
+
+    // The entry to pass next, from `from` on and before the top: that one where it is in use, which is asked first, since entries in use mostly
+    // stand side by side.
+    pub fn next_entry(&self, from: usize) -> Option<usize>
+        requires { from ≤ self.now.top }
+        ensures { MatchOption result (FreeRun self.now.slots self.now.words.now from self.now.top)
+            (λ i. (from ≤ i) × (i < self.now.top) × FreeRun self.now.slots self.now.words.now from i) }
+    {
+        if from == self.top {
+            return None;
+        }
+        if self.first_word(from) != 0 {
+            return Some(from);
+        }
+        let next = self.past_free(from);
+        if next == self.top { None } else { Some(next) }
+    }
+
+    // The same entries with a lower top, from which on all are free: so many are asked at once, so that it may be too high by one less.
+    pub fn without_free<const MANY: usize>(self) -> Self
+        requires { 0 < MANY }
+        ensures words { result.words.now ≡ self.entry.words.now }
+        ensures slots { result.slots ≡ self.entry.slots }
+    {
+        let runs = self.top / MANY;
+        for k in 0..runs {
+            let top = self.top - MANY * k;
+            if !self.are_free::<MANY>(top - MANY) {
+                return Entries {
+                    words: self.words,
+                    slots: self.slots,
+                    top,
+                };
+            }
+        }
+        Entries {
+            words: self.words,
+            slots: self.slots,
+            top: self.top - MANY * runs,
+        }
+    }
+    // The entries of a table that question 4 passes: those up to the last in use; all of them where pairs are pending, which may fill others. None
+    // where the number of its slots is not allowed. Entries are taken from the front and most tables have room to spare: that is passed over by
+    // sixteens, and then four are asked at once, so that the top may be three too high.
+    pub fn reached(words: &'a [u32]) -> Option<Self>
+        ensures { MatchOption result (1 ≤ slots_of (length words.now) → slots_of (length words.now) ≤ max_slots → ⊥)
+            (λ table. (table.words.now ≡ words.now) × (table.slots ≡ slots_of (length words.now)) × Reaches table.slots words.now table.top) }
+    {
+        let slots = slots_of(words.len());
+        if slots < 1 {
+            return None;
+        }
+        if MAX_SLOTS < slots {
+            return None;
+        }
+        let all = Entries {
+            words,
+            slots,
+            top: slots,
+        };
+        if words[PENDING_AT] != 0 {
+            return Some(all);
+        }
+        Some(all.without_free::<SIXTEEN>().without_free::<FOUR>())
+    }
+}
