@@ -1,3 +1,4 @@
 -- The definitions that the contracts of `ranges` cite.
 pub mod Ranges
 pub mod Batch
+pub mod Lists

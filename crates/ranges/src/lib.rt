@@ -1,12 +1,16 @@
 // What an add names: a lent list of records, each with first cell, count, kind, rule and label (document 02, A.3).
 //
-// One thin walk reads the lent slice of structs: it takes each record apart and gives its numbers to `keep`, which puts them into a batch, five
-// numbers for each record. All that follows reads these numbers. No table is known here.
+// The list is read where it is lent (`list`), and no table is known here.
 //
-// A list is stored in the order of the cells and not of the records, so it is told in segments: cells that lie beside each other and of which
-// the same is asked. The records are put into the order of their first cells. Where, so ordered, each ends before the next one begins, the
-// segments are the records; else each is looked for among all of them.
+// A list is stored in the order of the cells and not of the ranges, so it is told in segments: cells that lie beside each other and of which
+// the same is asked (`segments`). The ranges are put into the order of their first cells (`order`). Where, so ordered, each ends before the next one
+// begins, the segments are the ranges; else each is looked for among all of them.
 #![tactic(auto)]
+
+pub mod fitting;
+pub mod list;
+pub mod order;
+pub mod segments;
 
 ghost use Rattle.std.specs.Prelude.{◌≡◌, ℕ, ◌+◌, ◌*◌, ◌%◌, ◌<◌, ◌≤◌, max, true, false, List, length};
 ghost use Rattle.ranges.specs.Ranges.{covers, named, label_for, max_ranges};
@@ -16,7 +20,8 @@ use std::num::wrapping_sub_usize;
 use words::{least, wide};
 
 // What an add names: `count` cells from `first` on, to be held as copies (kind 0), via parent (kind 1) or by a rule (kind 2), which other kinds
-// ignore, read-only (label 0) or read-write (label 1).
+// ignore, read-only (label 0) or read-write (label 1). It is the record that C hands over, so that its kind and its label are numbers here, whatever
+// C put there; question 7 asks whether they are such.
 #[repr(C)]
 #[derive(Clone, Copy)]
 pub struct Range {
@@ -29,6 +34,8 @@ pub struct Range {
 
 // A list has at most so many.
 pub const MAX_RANGES: usize = 64;
+
+// ---- old form: all below is over the numbers that a lent list is gathered into, and goes when its callers have gone over to the list itself
 
 // So many numbers has a record.
 const RECORD_SIZE: usize = 5;

@@ -1,6 +1,6 @@
 use Rattle.std.proofs.Common.{◌-◌, refl, arith, rules}
 use Rattle.ranges.specs.Batch.{range_at}
-use Rattle.ranges.proofs.Segments.{apart, earlier_less}
+use Rattle.ranges.proofs.Numbered.{apart, earlier_less}
 use Rattle.ranges.proofs.earlier.Goals as goal
 
 pub loop-j-init : goal.loop-j-init

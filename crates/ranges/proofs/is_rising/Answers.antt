@@ -1,7 +1,7 @@
 use Rattle.std.proofs.Common.{ℕ, ◌+◌, ◌<◌, ◌≤◌, sym, arith, rules, below_none, below_more}
 use mathlib.Core.Bool.{false≢true}
 use Rattle.ranges.specs.Batch.{range_at, record_by}
-use Rattle.ranges.proofs.Segments.{rising_more}
+use Rattle.ranges.proofs.Numbered.{rising_more}
 use Rattle.ranges.proofs.is_rising.Goals as goal
 
 pub loop-k-init : goal.loop-k-init

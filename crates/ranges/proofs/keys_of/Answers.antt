@@ -1,5 +1,5 @@
 use Rattle.std.proofs.Common.{ℕ, ◌%◌, refl, ap, ◌∙◌, arith, length-set, get_or-set_other, get_or-set_same, rules, below_none, below_more}
-use Rattle.ranges.proofs.Segments.{orders_keys}
+use Rattle.ranges.proofs.Numbered.{orders_keys}
 use Rattle.ranges.proofs.keys_of.Goals as goal
 
 pub loop-i-init : goal.loop-i-init

@@ -1,6 +1,6 @@
 -- `ranges::mixed_segment` meets its contract: up to where a record begins or ends, the list asks for each cell what it asks for the first. Assumes nothing.
 use Rattle.std.proofs.Common.{false, arith}
-use Rattle.ranges.proofs.Segments.{segment_none, mixed_next, naming_below}
+use Rattle.ranges.proofs.Numbered.{segment_none, mixed_next, naming_below}
 use Rattle.ranges.proofs.mixed_segment.Goals as goal
 
 pub returns-then-cells-at : goal.returns-then-cells-at

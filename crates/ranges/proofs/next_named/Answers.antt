@@ -1,7 +1,7 @@
 use Rattle.std.proofs.Common.{ℕ, subst, arith, rules, below_none}
 use Rattle.ranges.specs.Batch.{NextNamed}
 use Rattle.ranges.proofs.Ranges.{named_none}
-use Rattle.ranges.proofs.Segments.{lowest_next}
+use Rattle.ranges.proofs.Numbered.{lowest_next}
 use Rattle.ranges.proofs.next_named.Goals as goal
 
 pub loop-i-init : goal.loop-i-init

@@ -3,7 +3,7 @@ use Rattle.std.proofs.Common.{◌≡◌, true, false, refl, arith}
 use Rattle.ranges.specs.Ranges.{covers}
 use Rattle.ranges.specs.Batch.{range_at, record_by}
 use Rattle.ranges.proofs.Ranges.{covers_not, named_none}
-use Rattle.ranges.proofs.Segments.{by_order, segment_none, rising_next}
+use Rattle.ranges.proofs.Numbered.{by_order, segment_none, rising_next}
 use Rattle.ranges.proofs.rising_segment.Goals as goal
 
 pub returns-then-n-next : goal.returns-then-n-next

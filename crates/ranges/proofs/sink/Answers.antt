@@ -1,5 +1,5 @@
 use Rattle.std.proofs.Common.{◌-◌, get_or, set, refl, ◌∙◌, arith, length-set, get_or-set_same, rules}
-use Rattle.ranges.proofs.Segments.{orders_exchanged}
+use Rattle.ranges.proofs.Numbered.{orders_exchanged}
 use Rattle.ranges.proofs.sink.Goals as goal
 
 pub loop-k-init : goal.loop-k-init

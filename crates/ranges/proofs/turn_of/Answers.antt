@@ -1,7 +1,7 @@
 -- `ranges::turn_of` meets its contract: up to the turn the cells lie before the record, in it or behind it. Assumes nothing.
 use Rattle.std.proofs.Common.{arith, rules}
 use Rattle.ranges.specs.Batch.{range_at}
-use Rattle.ranges.proofs.Segments.{all_before, all_inside, all_behind}
+use Rattle.ranges.proofs.Numbered.{all_before, all_inside, all_behind}
 use Rattle.ranges.proofs.turn_of.Goals as goal
 
 pub returns-then-at-first : goal.returns-then-at-first
