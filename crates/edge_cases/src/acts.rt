@@ -191,16 +191,12 @@ impl Act {
 impl fmt::Display for Act {
     fn fmt<W: fmt::Write>(&self, f: &mut fmt::Formatter<W>) -> fmt::Result {
         let name = self.name();
-        match *self {
+        match self {
             Act::Add(handle, cells, kind, label) => {
                 write!(f, "{name}, handle {handle}, {cells}, {kind}, {label}")
             }
             Act::AddRanges(handle, ranges) => {
-                write!(f, "{name}, handle {handle}")?;
-                for range in ranges {
-                    write!(f, " ({range})")?;
-                }
-                Ok(())
+                write!(f, "{name}, handle {handle}{}", Listed(ranges))
             }
             Act::Delete(handle, cells) => write!(f, "{name}, handle {handle}, {cells}"),
             Act::Advance(handle) | Act::Commit(handle) | Act::Restore(handle) => {
@@ -208,7 +204,7 @@ impl fmt::Display for Act {
             }
             Act::Look(handle, cell) => write!(f, "{name}, handle {handle}, cell {cell}"),
             Act::Write(cell, byte) => write!(f, "write {byte} to cell {cell}"),
-            Act::Repeat(cell, bytes) => write!(f, "write {} to cell {cell}", Bytes(&bytes)),
+            Act::Repeat(cell, bytes) => write!(f, "write {} to cell {cell}", Bytes(bytes)),
             Act::Rise(cell) => write!(f, "write 0..63 to cell {cell}"),
             Act::Byte(cell, place, byte) => {
                 write!(f, "write {byte} to byte {place} of cell {cell}")
@@ -216,6 +212,19 @@ impl fmt::Display for Act {
             Act::Set(word, value) => write!(f, "word {word} is {value}"),
             _ => write!(f, "{name}"),
         }
+    }
+}
+
+// The ranges of a list, each in brackets.
+#[derive(Clone, Copy)]
+struct Listed<'a>(&'a [Range]);
+
+impl fmt::Display for Listed<'_> {
+    fn fmt<W: fmt::Write>(&self, f: &mut fmt::Formatter<W>) -> fmt::Result {
+        for range in self.0 {
+            write!(f, " ({range})")?;
+        }
+        Ok(())
     }
 }
 

@@ -81,11 +81,10 @@ pub struct Seen<'a> {
 impl<'a> Seen<'a> {
     pub fn list(&self) -> Result<Listing, Refusal> {
         let listing = begin::list(self.memory, self.bodies, self.table);
+        let count = listing.count;
+        let handles = listing.handles;
         answer_of(listing.answer)?;
-        Ok(Listing {
-            count: listing.count,
-            handles: listing.handles,
-        })
+        Ok(Listing { count, handles })
     }
 
     pub fn look(&self, handle: u32, cell: u32) -> Look<'a> {
@@ -110,103 +109,116 @@ pub struct Lent<'a> {
 }
 
 impl Lent<'_> {
-    pub fn seen(&self) -> Seen<'_> {
-        Seen {
-            memory: self.memory,
-            bodies: self.bodies,
-            table: self.table,
-        }
-    }
-
-    // What a call answers, or nothing for an act that is none. Of a reading, only the answer is told.
-    pub fn call(&mut self, act: Act, budget: usize) -> Option<Answer> {
+    // What a call answers, or nothing for an act that is none.
+    pub fn call(self, act: Act, budget: usize) -> Option<Answer> {
+        let Lent {
+            memory,
+            bodies,
+            table,
+        } = self;
         let answer = match act {
-            Act::Make => begin::make(self.memory, self.bodies, self.table, budget),
-            Act::Open => begin::open(self.memory, self.bodies, self.table, budget),
-            Act::Create => begin::create(self.memory, self.bodies, self.table, budget),
-            Act::Add(handle, cells, kind, label) => {
-                self.add(
-                    handle,
-                    Range {
-                        times: 1,
-                        cells,
-                        kind,
-                        label,
-                    },
-                    budget,
-                )
-            }
-            Act::AddRanges(handle, ranges) => self.add_ranges(handle, ranges, budget),
+            Act::Make => begin::make(memory, bodies, table, budget),
+            Act::Open => begin::open(memory, bodies, table, budget),
+            Act::Create => begin::create(memory, bodies, table, budget),
             Act::Delete(handle, Cells(first, count)) => {
-                let Lent {
-                    memory,
-                    bodies,
-                    table,
-                } = self;
                 delete::delete(memory, bodies, table, handle, first, count, budget)
             }
-            Act::Advance(h) => advance::advance(self.memory, self.bodies, self.table, h, budget),
-            Act::Commit(h) => commit::commit(self.memory, self.bodies, self.table, h, budget),
-            Act::Restore(h) => restore::restore(self.memory, self.bodies, self.table, h, budget),
-            Act::List => return Some(self.seen().list().map(|_| NOTHING_DONE)),
-            Act::Look(h, cell) => return Some(
-                self.seen().look(h, cell).answer.map(|_| NOTHING_DONE),
-            ),
-            _ => return None,
+            Act::Advance(handle) => advance::advance(memory, bodies, table, handle, budget),
+            Act::Commit(handle) => commit::commit(memory, bodies, table, handle, budget),
+            Act::Restore(handle) => restore::restore(memory, bodies, table, handle, budget),
+            Act::Add(handle, cells, kind, label) => {
+                let range = Range {
+                    times: 1,
+                    cells,
+                    kind,
+                    label,
+                };
+                add(memory, bodies, table, handle, range, budget)
+            }
+            Act::AddRanges(handle, ranges) => {
+                let batch = batch_of(ranges);
+                add::add_batch(memory, bodies, table, handle, batch, budget)
+            }
+            _ => return read(memory, bodies, table, act),
         };
         Some(answer_of(answer))
     }
+}
 
-    fn add(&mut self, handle: u32, range: Range, budget: usize) -> store::Answer {
-        let Range {
-            cells: Cells(first, count),
-            kind,
-            label,
-            ..
-        } = range;
-        let (kind, rule) = kind.numbers();
-        add::add(
-            self.memory,
-            self.bodies,
-            self.table,
-            handle,
+// Of a reading, only the answer is told.
+fn read(memory: &[u8], bodies: &[u8], table: &[u32], act: Act) -> Option<Answer> {
+    let seen = Seen {
+        memory,
+        bodies,
+        table,
+    };
+    let nothing = Ended::Done {
+        steps: 0,
+        handle: 0,
+    };
+    match act {
+        Act::List => Some(seen.list().map(|_| nothing)),
+        Act::Look(handle, cell) => Some(seen.look(handle, cell).answer.map(|_| nothing)),
+        _ => None,
+    }
+}
+
+// A range as an add takes it.
+impl From<Range> for ranges::Range {
+    fn from(range: Range) -> ranges::Range {
+        let Cells(first, count) = range.cells;
+        let (kind, rule) = range.kind.numbers();
+        let label = range.label.number();
+        ranges::Range {
             first,
             count,
             kind,
             rule,
-            label.number(),
-            budget,
-        )
-    }
-
-    // The ranges are gathered here into such a batch as `add_ranges` and the C function make of theirs. These two are tried from C and from Rust.
-    fn add_ranges(&mut self, handle: u32, ranges: &[Range], budget: usize) -> store::Answer {
-        let mut batch = ranges::no_batch();
-        for range in ranges {
-            batch = kept(batch, *range);
+            label,
         }
-        add::add_batch(self.memory, self.bodies, self.table, handle, batch, budget)
     }
 }
 
-// A reading stores nothing.
-const NOTHING_DONE: Ended = Ended::Done {
-    steps: 0,
-    handle: 0,
-};
+fn add(
+    memory: &[u8],
+    bodies: &mut [u8],
+    table: &mut [u32],
+    handle: u32,
+    range: Range,
+    budget: usize,
+) -> store::Answer {
+    let ranges::Range {
+        first,
+        count,
+        kind,
+        rule,
+        label,
+    } = range.into();
+    add::add(
+        memory, bodies, table, handle, first, count, kind, rule, label, budget,
+    )
+}
 
-// As often as it stands in its list.
-fn kept(batch: ranges::Batch, range: Range) -> ranges::Batch {
-    let (kind, rule) = range.kind.numbers();
+// The ranges are gathered here into such a batch as `add_ranges` and the C function make of theirs, each as often as it stands in its list. These two are
+// tried from C and from Rust.
+fn batch_of(ranges: &[Range]) -> ranges::Batch {
+    let mut batch = ranges::no_batch();
+    for range in ranges {
+        batch = kept(batch, (*range).into(), range.times);
+    }
+    batch
+}
+
+fn kept(batch: ranges::Batch, range: ranges::Range, times: u32) -> ranges::Batch {
     let mut next = batch;
-    for _ in 0..range.times {
+    for _ in 0..times {
         next = ranges::keep(
             next,
-            range.cells.0,
-            range.cells.1,
-            kind,
-            rule,
-            range.label.number(),
+            range.first,
+            range.count,
+            range.kind,
+            range.rule,
+            range.label,
         );
     }
     next

@@ -12,21 +12,28 @@ struct Entry<'a> {
 }
 
 // An entry's first word has the depth in bits 28 to 31, bit 27 for read-write, bit 26 for via parent, bit 25 for a rule and the cell in bits 0 to 15.
+const READ_WRITE: u32 = 1 << 27;
+
+const VIA_PARENT: u32 = 1 << 26;
+
+const BY_RULE: u32 = 1 << 25;
+
 impl fmt::Display for Entry<'_> {
     fn fmt<W: fmt::Write>(&self, f: &mut fmt::Formatter<W>) -> fmt::Result {
-        let depth = self.first >> 28;
-        let cell = self.first & 0xffff;
-        let label = if self.has_bit(27) {
+        let first = self.first;
+        let second = self.second;
+        let depth = first >> 28;
+        let cell = first & 0xffff;
+        let label = if first & READ_WRITE != 0 {
             "read-write"
         } else {
             "read-only"
         };
         write!(f, "depth {depth} holds cell {cell} {label}")?;
-        if self.has_bit(26) {
+        if first & VIA_PARENT != 0 {
             return write!(f, " via parent");
         }
-        let second = self.second;
-        if self.has_bit(25) {
+        if first & BY_RULE != 0 {
             return write!(f, " by rule {second}");
         }
         write!(f, " copied as")?;
@@ -34,14 +41,6 @@ impl fmt::Display for Entry<'_> {
             write!(f, " {}", Bytes(body))?;
         }
         write!(f, " in body {second}")
-    }
-}
-
-impl Entry<'_> {
-    fn has_bit(&self, bit: u32) -> bool
-        requires { bit < 32 }
-    {
-        self.first >> bit & 1 == 1
     }
 }
 

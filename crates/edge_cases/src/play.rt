@@ -1,6 +1,6 @@
 // The player of the acts: it performs them on the buffers, and prints what they give.
 use crate::acts::{Act, Cells, EDGE, Kind, Label, Lengths, Shape};
-use crate::buffers::{Buffers, Copied, is_prefix, likeness};
+use crate::buffers::{Buffers, Snapshot, is_prefix, likeness};
 use crate::calls::Answer;
 use crate::told::Told;
 use arrayvec::ArrayString;
@@ -26,8 +26,8 @@ enum Style {
 #[derive(Drop)]
 pub struct Player {
     now: Buffers,
-    kept: Copied,
-    left: Copied,
+    kept: Snapshot,
+    left: Snapshot,
     shape: Shape,
     lent: Lengths,
     budget: usize,
@@ -39,7 +39,7 @@ pub struct Player {
 impl Player {
     pub fn new() -> Player {
         let now = Buffers::new();
-        let none = now.copied();
+        let none = now.snapshot();
         Player {
             now,
             kept: none,
@@ -65,6 +65,42 @@ impl Player {
 
     fn perform(&mut self, act: Act) -> fmt::Result {
         match act {
+            Act::Fresh(shape) => self.fresh(shape),
+            Act::Keep => self.kept = self.now.snapshot(),
+            Act::Whole => self.left = self.now.snapshot(),
+            Act::Back => {
+                let kept = self.kept;
+                self.bring_back(&kept);
+            }
+            Act::After => {
+                let left = self.left;
+                self.bring_back(&left);
+            }
+            Act::Cut(steps) => self.budget = steps,
+            Act::CutBySweep => self.budget = self.swept,
+            _ => return self.print(act),
+        }
+        Ok(())
+    }
+
+    // ---- stores. One that is made or comes back is lent whole
+
+    fn fresh(&mut self, shape: Shape) {
+        self.shape = shape;
+        self.lent = shape.lengths();
+        self.now.fill(shape);
+        self.now.lent(self.lent).call(Act::Make, ENOUGH);
+    }
+
+    fn bring_back(&mut self, snapshot: &Snapshot) {
+        self.lent = self.shape.lengths();
+        self.now.bring_back(snapshot);
+    }
+
+    // ---- lines
+
+    fn print(&mut self, act: Act) -> fmt::Result {
+        match act {
             Act::Text(text) => self.text(text),
             Act::Case(text) => self.case(text),
             Act::Harm(text, word, value) => {
@@ -77,46 +113,11 @@ impl Player {
                 self.tell(Act::Make)?;
                 self.tell(Act::List)
             }
-            Act::Cut(steps) => {
-                self.budget = steps;
-                Ok(())
-            }
-            Act::CutBySweep => {
-                self.budget = self.swept;
-                Ok(())
-            }
-            Act::Fresh(_) | Act::Keep | Act::Whole | Act::Back | Act::After => {
-                self.set(act);
-                Ok(())
-            }
             _ => self.tell(act),
         }
     }
 
-    // ---- stores
-
-    // The whole store is lent again.
-    fn set(&mut self, act: Act) {
-        match act {
-            Act::Fresh(shape) => self.fresh(shape),
-            Act::Keep => self.kept = self.now.copied(),
-            Act::Whole => self.left = self.now.copied(),
-            Act::Back => self.now.bring_back(&self.kept),
-            Act::After => self.now.bring_back(&self.left),
-            _ => {}
-        }
-        self.lent = self.shape.lengths();
-    }
-
-    fn fresh(&mut self, shape: Shape) {
-        self.shape = shape;
-        self.now.fill(shape);
-        self.now.lent(shape.lengths()).call(Act::Make, ENOUGH);
-    }
-
-    // ---- lines
-
-    fn print(&mut self) {
+    fn flush(&mut self) {
         io::write_all(1, self.line.as_str().as_bytes());
         self.line.clear();
     }
@@ -128,20 +129,21 @@ impl Player {
         }
         self.style = Style::Lines;
         writeln!(self.line, ".")?;
-        self.print();
+        self.flush();
         Ok(())
     }
 
     fn text(&mut self, text: &str) -> fmt::Result {
         self.end_line()?;
         writeln!(self.line, "{text}")?;
-        self.print();
+        self.flush();
         Ok(())
     }
 
     fn case(&mut self, text: &str) -> fmt::Result {
         self.end_line()?;
-        self.set(Act::Back);
+        let kept = self.kept;
+        self.bring_back(&kept);
         self.style = Style::FirstOfLine;
         write!(self.line, "{text}")
     }
@@ -161,7 +163,7 @@ impl Player {
         self.budget = ENOUGH;
         if self.style == Style::Lines {
             writeln!(self.line, ".")?;
-            self.print();
+            self.flush();
             return Ok(());
         }
         self.style = Style::InLine;
@@ -178,26 +180,17 @@ impl Player {
 
     fn give(&mut self, act: Act) -> fmt::Result {
         match act {
-            Act::Write(..) | Act::Repeat(..) | Act::Rise(_) | Act::Byte(..) | Act::Set(..) => {
-                self.write(act);
-                write!(self.line, "{act}")
-            }
-            Act::List | Act::Look(..) | Act::State => self.read(act),
-            Act::Same | Act::PutBack(_) | Act::Stored(_) => self.compare(act),
-            Act::Probe => self.probe(),
-            _ => self.call(act),
-        }
-    }
-
-    fn write(&mut self, act: Act) {
-        match act {
             Act::Write(cell, byte) => self.now.write(cell, [byte; 4]),
             Act::Repeat(cell, bytes) => self.now.write(cell, bytes),
             Act::Rise(cell) => self.now.rise(cell),
             Act::Byte(cell, place, byte) => self.now.write_byte(cell, place, byte),
             Act::Set(word, value) => self.now.set_word(word, value),
-            _ => {}
+            Act::List | Act::Look(..) | Act::State => return self.read(act),
+            Act::Same | Act::PutBack(_) | Act::Stored(_) => return self.compare(act),
+            Act::Probe => return self.probe(),
+            _ => return self.call(act),
         }
+        write!(self.line, "{act}")
     }
 
     fn read(&mut self, act: Act) -> fmt::Result {
@@ -216,48 +209,38 @@ impl Player {
     }
 
     fn compare(&mut self, act: Act) -> fmt::Result {
-        let now = self.now.copied();
-        let swept = self.swept;
-        let (is_prefix, done) = match act {
-            Act::PutBack(most) => (
-                is_prefix(
-                    now.memory(),
-                    self.left.memory(),
-                    self.kept.memory(),
-                    swept.min(most),
-                ),
-                "put back",
-            ),
-            Act::Stored(most) => (
-                is_prefix(
-                    now.bodies(),
-                    self.left.bodies(),
-                    self.kept.bodies(),
-                    swept.min(most),
-                ),
-                "copied",
-            ),
+        let now = self.now.snapshot();
+        let kept = &self.kept;
+        let left = &self.left;
+        let steps = self.swept;
+        match act {
+            Act::PutBack(most) => {
+                let is_prefix = is_prefix(&now.memory, &left.memory, &kept.memory, steps.min(most));
+                self.tell_prefix(is_prefix, "put back")
+            }
+            Act::Stored(most) => {
+                let is_prefix = is_prefix(&now.bodies, &left.bodies, &kept.bodies, steps.min(most));
+                self.tell_prefix(is_prefix, "copied")
+            }
             _ => {
                 let words = self.shape.lengths().words;
-                return write!(
-                    self.line,
-                    "{}",
-                    likeness(&now, &self.kept, &self.left, words)
-                );
+                write!(self.line, "{}", likeness(&now, kept, left, words))
             }
-        };
-        if is_prefix {
-            write!(self.line, "as many bytes {done} as steps")
-        } else {
-            write!(self.line, "bytes astray")
         }
+    }
+
+    fn tell_prefix(&mut self, is_prefix: bool, done: &str) -> fmt::Result {
+        if is_prefix {
+            return write!(self.line, "as many bytes {done} as steps");
+        }
+        write!(self.line, "bytes astray")
     }
 
     // ---- calls
 
     // In a line of its own a call is told whether it changed anything.
     fn call(&mut self, act: Act) -> fmt::Result {
-        let before = self.now.copied();
+        let before = self.now.snapshot();
         let answer = self.now.lent(self.lent).call(act, self.budget);
         if let Some(answer) = answer {
             let told = Told {
@@ -274,7 +257,7 @@ impl Player {
 
     // Nine calls always are, and an answer stands before the calls that give it.
     fn probe(&mut self) -> fmt::Result {
-        let before = self.now.copied();
+        let before = self.now.snapshot();
         let mut last = None;
         write!(self.line, "nine calls")?;
         for act in PROBES {
@@ -304,8 +287,8 @@ impl Player {
     }
 
     // Is every byte and word of the store as it was before the call?
-    fn tell_unchanged(&mut self, before: &Copied) -> fmt::Result {
-        if self.now.copied() == *before {
+    fn tell_unchanged(&mut self, before: &Snapshot) -> fmt::Result {
+        if self.now.snapshot() == *before {
             return write!(self.line, "; nothing changed");
         }
         Ok(())
@@ -323,7 +306,7 @@ impl Player {
                 before = self.line;
                 self.line.clear();
                 write!(self.line, "  From budget {budget}{before}.\n")?;
-                self.print();
+                self.flush();
             }
             self.line.clear();
         }
@@ -334,7 +317,8 @@ impl Player {
 
     // The acts at one budget, from the store that was kept.
     fn at_budget(&mut self, budget: usize, acts: &[Act]) -> fmt::Result {
-        self.set(Act::Back);
+        let kept = self.kept;
+        self.bring_back(&kept);
         self.style = Style::FirstOfLine;
         self.budget = budget;
         self.swept = budget;
