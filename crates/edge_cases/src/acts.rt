@@ -1,5 +1,5 @@
 // The acts: a table of them is a section, or a part of one. What an act gives is not in the table: it is printed, and the file `stdout` has what it
-// should be. An act of a call has the call's arguments in their order, and those of a list follow `lists`.
+// should be. An act of a call has the call's own arguments in their order.
 use crate::told::{Bytes, Count};
 use std::fmt;
 
@@ -168,7 +168,7 @@ impl Shape {
 // ---- how they are printed
 
 impl Act {
-    // A call's name, which is all that the nine calls in a row are told by.
+    // A call's name. What is no call has none.
     pub fn name(self) -> &'static str {
         match self {
             Act::Make => "make",

@@ -68,36 +68,14 @@ impl Player {
             Act::Fresh(shape) => self.fresh(shape),
             Act::Keep => self.kept = self.now.snapshot(),
             Act::Whole => self.left = self.now.snapshot(),
-            Act::Back => {
-                let kept = self.kept;
-                self.bring_back(&kept);
-            }
-            Act::After => {
-                let left = self.left;
-                self.bring_back(&left);
-            }
+            Act::Back => self.back(),
+            Act::After => self.after(),
             Act::Cut(steps) => self.budget = steps,
             Act::CutBySweep => self.budget = self.swept,
             _ => return self.print(act),
         }
         Ok(())
     }
-
-    // ---- stores. One that is made or comes back is lent whole
-
-    fn fresh(&mut self, shape: Shape) {
-        self.shape = shape;
-        self.lent = shape.lengths();
-        self.now.fill(shape);
-        self.now.lent(self.lent).call(Act::Make, ENOUGH);
-    }
-
-    fn bring_back(&mut self, snapshot: &Snapshot) {
-        self.lent = self.shape.lengths();
-        self.now.bring_back(snapshot);
-    }
-
-    // ---- lines
 
     fn print(&mut self, act: Act) -> fmt::Result {
         match act {
@@ -117,6 +95,28 @@ impl Player {
         }
     }
 
+    // ---- stores. One that is made or comes back is lent whole
+
+    fn fresh(&mut self, shape: Shape) {
+        self.shape = shape;
+        self.lent = shape.lengths();
+        self.now.fill(shape);
+        self.now.lent(self.lent).call(Act::Make, ENOUGH);
+    }
+
+    fn back(&mut self) {
+        self.lent = self.shape.lengths();
+        self.now.bring_back(&self.kept);
+    }
+
+    fn after(&mut self) {
+        self.lent = self.shape.lengths();
+        self.now.bring_back(&self.left);
+    }
+
+    // ---- lines
+
+    // stays: the kit's `io` writes, since std's `print!` rests on the C library's errno too, an axiom more.
     fn flush(&mut self) {
         io::write_all(1, self.line.as_str().as_bytes());
         self.line.clear();
@@ -142,8 +142,7 @@ impl Player {
 
     fn case(&mut self, text: &str) -> fmt::Result {
         self.end_line()?;
-        let kept = self.kept;
-        self.bring_back(&kept);
+        self.back();
         self.style = Style::FirstOfLine;
         write!(self.line, "{text}")
     }
@@ -215,12 +214,12 @@ impl Player {
         let steps = self.swept;
         match act {
             Act::PutBack(most) => {
-                let is_prefix = is_prefix(&now.memory, &left.memory, &kept.memory, steps.min(most));
-                self.tell_prefix(is_prefix, "put back")
+                let holds = is_prefix(&now.memory, &left.memory, &kept.memory, steps.min(most));
+                self.tell_prefix(holds, "put back")
             }
             Act::Stored(most) => {
-                let is_prefix = is_prefix(&now.bodies, &left.bodies, &kept.bodies, steps.min(most));
-                self.tell_prefix(is_prefix, "copied")
+                let holds = is_prefix(&now.bodies, &left.bodies, &kept.bodies, steps.min(most));
+                self.tell_prefix(holds, "copied")
             }
             _ => {
                 let words = self.shape.lengths().words;
@@ -229,8 +228,8 @@ impl Player {
         }
     }
 
-    fn tell_prefix(&mut self, is_prefix: bool, done: &str) -> fmt::Result {
-        if is_prefix {
+    fn tell_prefix(&mut self, holds: bool, done: &str) -> fmt::Result {
+        if holds {
             return write!(self.line, "as many bytes {done} as steps");
         }
         write!(self.line, "bytes astray")
@@ -238,7 +237,7 @@ impl Player {
 
     // ---- calls
 
-    // In a line of its own a call is told whether it changed anything.
+    // In a line of its own a call is told whether it changed anything, and nine calls always are. Only for that the store is copied before it.
     fn call(&mut self, act: Act) -> fmt::Result {
         let before = self.now.snapshot();
         let answer = self.now.lent(self.lent).call(act, self.budget);
@@ -255,30 +254,25 @@ impl Player {
         Ok(())
     }
 
-    // Nine calls always are, and an answer stands before the calls that give it.
+    // An answer stands before the calls that give it.
     fn probe(&mut self) -> fmt::Result {
         let before = self.now.snapshot();
         let mut last = None;
         write!(self.line, "nine calls")?;
         for act in PROBES {
-            let answer = self.now.lent(self.lent).call(act, ENOUGH);
-            self.tell_probe(answer, last, act)?;
-            last = answer;
+            if let Some(answer) = self.now.lent(self.lent).call(act, ENOUGH) {
+                self.tell_probe(last, answer, act)?;
+                last = Some(answer);
+            }
         }
         self.tell_unchanged(&before)
     }
 
-    fn tell_probe(
-        &mut self,
-        answer: Option<Answer>,
-        last: Option<Answer>,
-        act: Act,
-    ) -> fmt::Result {
+    fn tell_probe(&mut self, last: Option<Answer>, answer: Answer, act: Act) -> fmt::Result {
         let name = act.name();
-        if answer == last {
+        if last == Some(answer) {
             return write!(self.line, ", {name}");
         }
-        let Some(answer) = answer else { return Ok(()) };
         let told = Told {
             answer,
             swept: self.swept,
@@ -317,8 +311,7 @@ impl Player {
 
     // The acts at one budget, from the store that was kept.
     fn at_budget(&mut self, budget: usize, acts: &[Act]) -> fmt::Result {
-        let kept = self.kept;
-        self.bring_back(&kept);
+        self.back();
         self.style = Style::FirstOfLine;
         self.budget = budget;
         self.swept = budget;
