@@ -1,10 +1,10 @@
 -- Laws of marks that are kept in blocks: what taking a block and storing a mark do to the marks of all cells. Assumes nothing.
 use Prim.Native.Nat.{ℕ, zero, suc, ◌+◌, ◌-◌, ◌*◌, ◌/◌, ◌%◌, ◌<◌, ◌≤◌}
-use mathlib.Core.Bool.{Bool, true, false, cond, not, ◌||◌}
+use mathlib.Core.Bool.{Bool, true, false, cond, not}
 use mathlib.Core.List.{List}
 use mathlib.Core.Path.{◌≡◌, refl, sym, ap, ap₂, ◌∙◌}
 use native.Mathlib.Omega.{arith}
-use borrow.Author.Tests.{not-false, eq-eqb, ne_eqb, eqb-true, eqb-false, lt-ltb, ltb-true, le-leb, leb-true}
+use borrow.Author.Tests.{eq-eqb, ne_eqb, eqb-true, eqb-false, lt-ltb, ltb-true, le-leb}
 use lib.Bits.{bit_and, and_zero_l, and_le_r, and_block}
 use lib.Dec.{eqb, ltb, leb}
 use lib.ListN.{length, get_or, set, take, drop, replicate, length-set, length-replicate}
@@ -13,7 +13,7 @@ use Rattle.std.proofs.lemmas.List.{get_or_past, get_or-replicate}
 use Rattle.std.specs.Int.{w64, from_le_bytes}
 use Rattle.words.specs.Layout.{max_cells, group_of}
 use Rattle.words.specs.Scan.{count}
-use Rattle.words.proofs.Scan.{by_bool, by_le, or_split, is_false, count_le, count_flip, count_ext, count_none}
+use Rattle.words.proofs.Scan.{by_bool, by_le, is_false, count_le, count_flip, count_ext, count_none}
 use Rattle.marks.specs.Blocks.{number, put_number, taken, block_of, owns, max_groups, groups_for, directory_end, block_at, place_of, mark_of, cells_in, Kept, Outside, with_block, mark_cell, Spare, Room, OneMark, Blank, zeros, Enough, EnoughBytes, most_bytes, with_depth, packed, spread, run_held}
 
 -- ---- where marks stand
@@ -31,13 +31,6 @@ unfolding place_of
 place_is s c = refl
 
 -- marks can be read where there is a directory
-pub cells_facts : (s : List ℕ) (c : ℕ) → c < cells_in s → (c < max_cells) × (directory_end ≤ length s)
-unfolding cells_in
-cells_facts s c l =
-    by_bool (leb directory_end (length s))
-    (λ h. (rw h at l, leb-true _ _ h))
-    (λ h. absurd (omega (arith, rw h at l)))
-
 pub cells_all : (s : List ℕ) → directory_end ≤ length s → cells_in s ≡ max_cells
 unfolding cells_in
 cells_all s l = rw (le-leb directory_end (length s) l)
@@ -97,11 +90,6 @@ zeros_length n = length-replicate n 0
 
 pub blank_zeros : (n : ℕ) → Blank (zeros n)
 blank_zeros n k = zeros_clear n k
-
--- an array of so many zeros, as the code writes it
-pub zeros_is : (n : ℕ) → replicate n 0 ≡ zeros n
-unfolding zeros
-zeros_is n = refl
 
 -- so many bytes have room for the blocks of n entries' cells
 pub enough_room : (bytes n m : ℕ) → EnoughBytes bytes n m → Room n m (zeros bytes)
@@ -421,15 +409,6 @@ room_spare s n m c ok out few l small room none =
 
 -- ---- groups without a block
 
--- x says whether one of the first j bytes is not 0
-pub bytes_more : (part : List ℕ) (j : ℕ) (x : Bool) → (x ≡ false → (k : ℕ) → k < j → get_or part k 0 ≡ 0)
-    → (x || not (eqb (get_or part j 0) 0)) ≡ false → (k : ℕ) → k < j + 1 → get_or part k 0 ≡ 0
-bytes_more part j x so_far h k l =
-    let both = or_split x (not (eqb (get_or part j 0) 0)) h in
-    by_le j k
-    (λ far. let q : k ≡ j = omega (arith, far, l) in rw q (eqb-true _ 0 (not-false _ both.1)))
-    (λ near. so_far both.0 k near)
-
 -- a row of the directory's numbers, two bytes each
 pub row_blank : (s : List ℕ) (at n g from : ℕ) → at ≡ 2 + 2 * g → 64 ≤ n → ((j : ℕ) → j < 64 → get_or (take n (drop at s)) j 0 ≡ 0)
     → ((k : ℕ) → from ≤ k → k < g → block_of s k ≡ 0) → (k : ℕ) → from ≤ k → k < g + 32 → block_of s k ≡ 0
@@ -485,10 +464,6 @@ unfolding packed
 packed_eight l k bytes same =
     let read : from_le_bytes w64 bytes ≡ packed bytes 0 8 = omega arith in
     read ∙ packed_same bytes l 0 k 8 (λ j h. let z : 0 + j ≡ j = omega arith in rw z (same j h))
-
-pub spread_eight : (mask : ℕ) → spread mask 8 ≡ 72340172838076673 * mask
-unfolding spread
-spread_eight mask = omega arith
 
 module _ (s : List ℕ) (mask : ℕ) (small : mask < 256) where
   -- byte by byte, what it has in common with a mask that is spread

@@ -1,5 +1,5 @@
 // Marks that are lent to be read: what a reader asks of them stands in these two types.
-ghost use Rattle.std.specs.Prelude.{◌≡◌, ℕ, true, false, ◌+◌, ◌*◌, ◌<◌, ◌≤◌, length, get_or};
+ghost use Rattle.std.specs.Prelude.{◌≡◌, ℕ, false, ◌+◌, ◌<◌, ◌≤◌, length, get_or};
 ghost use Rattle.words.specs.Layout.{max_cells, group_size, in_group};
 ghost use Rattle.marks.specs.Blocks.{Kept, block_of, place_of, max_groups, directory_end, run_size, packed, spread, run_held};
 

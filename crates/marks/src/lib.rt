@@ -5,11 +5,10 @@
 // has none. The blocks stand behind it; block 0 belongs to no group and is blank. How marks are kept is known here alone.
 #![tactic(auto)]
 
-ghost use Rattle.std.specs.Prelude.{◌≡◌, true, false, not, ℕ, ◌+◌, ◌*◌, ◌/◌, ◌<◌, ◌≤◌, min, length, get_or, set};
-ghost use Rattle.std.specs.Int.Bits.{bit_and};
+ghost use Rattle.std.specs.Prelude.{◌≡◌, true, false, not, ℕ, ◌+◌, ◌*◌, ◌<◌, ◌≤◌, min, length, set};
 ghost use Rattle.words.specs.Layout.{max_cells, max_live, group_size, group_of, in_group};
 ghost use Rattle.marks.specs.Blocks.{has, with_depth, zeros, number, put_number, taken, block_of, max_groups, groups_for, directory_end, place_of, mark_of};
-ghost use Rattle.marks.specs.Blocks.{cells_in, Kept, with_block, mark_cell, Spare, run_size, packed, spread, run_held};
+ghost use Rattle.marks.specs.Blocks.{cells_in, Kept, with_block, mark_cell, Spare, run_size, spread, run_held};
 
 pub mod lent;
 
@@ -58,6 +57,7 @@ pub fn block_of(seen: &[u8], g: usize) -> usize
 }
 
 // Gives a group a block if it has none.
+#[tactic(auto, unfolding(crate::specs::Blocks::with_block))]
 fn take_block(seen: &mut [u8], g: usize)
     requires { (g < max_groups) × (directory_end ≤ length seen.old) × (taken seen.old < 65535) }
     ensures { seen.new ≡ with_block seen.old g }
@@ -72,16 +72,13 @@ fn take_block(seen: &mut [u8], g: usize)
 // ---- a mark
 
 // The mark of a cell: which domains hold it. A place behind the end has none, so that a reader need not know that the directory is right.
+#[tactic(auto, unfolding(crate::specs::Blocks::mark_of, crate::specs::Blocks::cells_in))]
 pub fn mark_of(seen: &[u8], cell: usize) -> u8
     requires { cell < cells_in seen.now }
     ensures { result ≡ mark_of seen.now cell }
 {
     let directory = Directory { seen };
-    let at = directory.place_of(cell);
-    if seen.len() <= at {
-        return 0;
-    }
-    seen[at]
+    seen.get(directory.place_of(cell)).copied().unwrap_or(0)
 }
 
 // Does a mark have this depth? The shift takes no branch, where scattered depths would be guessed wrong.
@@ -101,6 +98,7 @@ fn with_depth(mark: u8, depth: u32) -> u8
 }
 
 // Marks a cell as held at this depth. False where the mark has the depth already.
+// stays: marks that are changed are lent as bytes, as a type that has them as they are kept would be made again behind each store
 pub fn mark_cell(seen: &mut [u8], depth: u32, cell: usize) -> bool
     requires { (depth ≤ max_live) × (cell < max_cells) × Kept seen.old × Spare seen.old (group_of cell) }
     ensures { (result ≡ not (has depth (mark_of seen.old cell))) × (result ≡ true → seen.new ≡ mark_cell depth cell seen.old) }
@@ -117,6 +115,7 @@ pub fn mark_cell(seen: &mut [u8], depth: u32, cell: usize) -> bool
 }
 
 // Gives a cell another mark. Its group must have a block, which the caller sees to: block 0 stays blank.
+#[tactic(auto, using(crate::proofs::Blocks::place_fits))]
 pub fn change_mark(seen: &mut [u8], cell: usize, mark: u8)
     requires { (cell < max_cells) × Kept seen.old }
     ensures { seen.new ≡ set seen.old (place_of seen.old cell) mark }
@@ -190,11 +189,11 @@ pub fn many_marks() -> [u8; 67712]
 pub const RUN_SIZE: usize = 8;
 
 // A mask eight times side by side.
-#[tactic(auto, using(crate::proofs::Blocks::spread_eight))]
+#[tactic(auto, unfolding(crate::specs::Blocks::spread))]
 pub fn spread_mask(mask: u8) -> u64
     ensures { result ≡ spread mask run_size }
 {
-    72340172838076673 * u64::from(mask)
+    u64::from_le_bytes([mask; RUN_SIZE])
 }
 
 // What the marks of the eight cells from this one on, where a run begins, have of a mask that is spread.

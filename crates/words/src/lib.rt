@@ -74,6 +74,7 @@ fn quarter_of(src: &[u8], at: usize) -> [u8; 16]
 
 // Stores a quarter in dst from `at` on: where dst has the bytes of some s up to `at`, and the quarter is the next of s, it then has them up to
 // `at + 16`.
+#[tactic(auto, using(crate::proofs::Plans::quarter_turn))]
 fn put_quarter(quarter: &[u8; 16], dst: &mut [u8], at: usize)
     requires { (at + 16 ≤ cell_size) × (length dst.old ≡ cell_size) }
     ensures { (s d : List ℕ) → ((j : ℕ) → j < 16 → get_or quarter.now j 0 ≡ get_or s (at + j) 0)
@@ -106,6 +107,7 @@ fn copy_whole(src: &[u8], dst: &mut [u8])
 }
 
 // Copies the first n of the 64 bytes of src over those of dst, byte by byte.
+#[tactic(auto, using(crate::proofs::Plans::copy_turn))]
 fn copy_first(src: &[u8], dst: &mut [u8], n: usize)
     requires { (n ≤ cell_size) × (length src.now ≡ cell_size) × (length dst.old ≡ cell_size) }
     ensures { Copied src.now dst.old n dst.new }
@@ -128,6 +130,7 @@ pub fn copy_bytes(src: &[u8], dst: &mut [u8], budget: usize)
 }
 
 // Copies cell `from` of src over cell `to` of dst, at most budget bytes of it.
+#[tactic(auto, using(crate::proofs::Cells::copy_part))]
 pub fn copy_cell(src: &[u8], from: usize, dst: &mut [u8], to: usize, budget: usize)
     requires { HasCell src.now from × HasCell dst.old to }
     ensures { dst.new ≡ stores (take budget (cell_plan src.now from to)) dst.old }
@@ -172,6 +175,7 @@ pub fn apply_pending(table: &mut [u32], first: usize, p: usize, budget: usize)
 }
 
 // Makes p written pairs pending by storing their number in word 6, and then applies them.
+#[tactic(auto, using(crate::proofs::Phases::publish_run))]
 pub fn publish(table: &mut [u32], first: usize, p: u32, budget: usize)
     requires { Written table.old first p }
     ensures { table.new ≡ stores (take budget (publish_plan table.old first p)) table.old }
@@ -184,6 +188,7 @@ pub fn publish(table: &mut [u32], first: usize, p: u32, budget: usize)
 }
 
 // After the writing of p pairs under a budget: finishes the journal on what remains of it, and returns the steps of the whole journal uncut.
+#[tactic(auto, using(crate::proofs::Phases::finish_none, crate::proofs::Phases::finish_some))]
 pub fn finish_journal(table: &mut [u32], first: usize, p: usize, budget: usize) -> usize
     requires { (p ≤ max_pairs max_slots) × (2 * p ≤ budget → Written table.old first p) }
     ensures made { result ≡ journal_steps p }
