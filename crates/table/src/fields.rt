@@ -135,6 +135,7 @@ pub fn is_pattern(word: u32) -> bool
 }
 
 // The label as a number, for code with no branch: 1 for read-write, else 0.
+// old form: goes when its callers have gone over, to `is_writable` or a number made of it
 pub fn writable_of(word: u32) -> u32
     ensures { result ≡ writable_of word }
 {

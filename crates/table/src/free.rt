@@ -87,10 +87,7 @@ impl<'a> Entries<'a> {
             (λ table. (table.words.now ≡ words.now) × (table.slots ≡ slots_of (length words.now)) × Reaches table.slots words.now table.top) }
     {
         let slots = slots_of(words.len());
-        if slots < 1 {
-            return None;
-        }
-        if MAX_SLOTS < slots {
+        if !(1..=MAX_SLOTS).contains(&slots) {
             return None;
         }
         let all = Entries {

@@ -16,7 +16,7 @@ ghost use Rattle.table.specs.Marks.{BlankRoom, NoVias, Passed, PassedAll, RulesM
 
 use crate::fields::{below_kind, cell_of, depth_of, is_pattern, is_via};
 use crate::journal::{pairs_ok, put_pairs};
-use crate::lent::Entries;
+use crate::lent::{Entries, Sound};
 use marks::{mark_cell, mark_of};
 use patterns::MAX_RULE;
 use words::layout::{
@@ -343,4 +343,15 @@ pub fn table_ok(
         return idle_ok(table, cells, bodies, seen, used);
     }
     pending_ok::<MAX_FRONT>(table, cells, bodies, seen, used)
+}
+
+impl<'a> Sound<'a> {
+    // A table that question 4 let pass, with no pairs pending.
+    pub fn of(entries: &Entries<'a>) -> Self
+        requires passed { (m b : ℕ) × (table_ok m entries.now.slots b entries.now.words.now ≡ true) }
+        requires idle { pending entries.now.words.now ≡ 0 }
+        ensures { result.entries ≡ entries.now }
+    {
+        Sound { entries: *entries }
+    }
 }
