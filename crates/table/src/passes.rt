@@ -151,6 +151,9 @@ fn mark_body(used: &mut [u8], word: u32, second: u32, bodies: u32) -> bool
 
 // ---- the pass over the entries
 
+// stays: `seen` and `used` are two parameters wherever both are lent. A struct of the two references is no plainer: the contract of each function
+// that is lent it would have to promise that it still holds the same two.
+
 // Is entry i right, by itself and beside those in front of it? Marks its cell and, of a copy, its body; an entry that follows a rule is not
 // marked yet.
 fn pass_entry(
