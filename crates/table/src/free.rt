@@ -79,6 +79,7 @@ impl<'a> Entries<'a> {
             top: self.top - MANY * runs,
         }
     }
+
     // The entries of a table that question 4 passes: those up to the last in use; all of them where pairs are pending, which may fill others. None
     // where the number of its slots is not allowed. Entries are taken from the front and most tables have room to spare: that is passed over by
     // sixteens, and then four are asked at once, so that the top may be three too high.
