@@ -62,21 +62,21 @@ impl<'a> Entries<'a> {
         ensures words { result.words.now ≡ self.entry.words.now }
         ensures slots { result.slots ≡ self.entry.slots }
     {
-        let runs = self.top / MANY;
-        for k in 0..runs {
-            let top = self.top - MANY * k;
-            if !self.are_free::<MANY>(top - MANY) {
+        let rest = self.top % MANY;
+        for k in (0..self.top / MANY).rev() {
+            let at = rest + MANY * k;
+            if !self.are_free::<MANY>(at) {
                 return Entries {
                     words: self.words,
                     slots: self.slots,
-                    top,
+                    top: at + MANY,
                 };
             }
         }
         Entries {
             words: self.words,
             slots: self.slots,
-            top: self.top - MANY * runs,
+            top: rest,
         }
     }
 
