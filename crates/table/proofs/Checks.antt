@@ -7,7 +7,7 @@ use borrow.Author.Tests.{eq-eqb, leb-true, eqb-true}
 use lib.Dec.{leb, eqb}
 use lib.ListN.{length, get_or}
 use Rattle.words.specs.Layout.{cell_at, cells_of, bodies_of, max_cells, max_bodies, max_slots, table_words, slots_of, magic, magic_at, cells_at, slots_at, bodies_at, zero_at}
-use Rattle.words.proofs.Scan.{and_split, and_join}
+use Rattle.words.proofs.Scan.{and_split, and_join, is_false}
 use Rattle.table.specs.Checks.{between1, lengths_ok, header_ok}
 
 -- ---- question 1
@@ -49,6 +49,10 @@ module _ (m b t : ℕ) where
         slots_high = z.1;
         table_exact = z.2;
       }
+
+  -- a table whose number of slots is not allowed
+  pub lengths_none : (1 ≤ slots_of t → slots_of t ≤ max_slots → ⊥) → lengths_ok m b t ≡ false
+  lengths_none h = is_false (lengths_ok m b t) (λ p. let f = lengths_facts p in h f.slots_low f.slots_high)
 
 -- ---- question 2, for buffers of m and b bytes
 pub record Header (m b : ℕ) (t : List ℕ) : Type 0 where

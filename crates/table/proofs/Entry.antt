@@ -1,6 +1,7 @@
 -- Laws of the search for an entry. Assumes nothing.
 use Prim.Native.Nat.{ℕ, ◌≤◌, ◌<◌}
-use mathlib.Core.Path.{◌≡◌}
+use mathlib.Core.Path.{◌≡◌, sym}
+use mir.Val.{bool_byte}
 use native.Mathlib.Omega.{arith}
 use borrow.Author.Tests.{eq-eqb, eqb-true, eqb-false, lt-ltb, le-ltb, ltb-true, ltb-false, ne_eqb}
 use mathlib.Core.Bool.{true, false, not}
@@ -27,6 +28,13 @@ pattern_zero w p = let q = eqb-false (pattern_of w) 1 p in omega (arith, q)
 
 pub pattern_none : (w : ℕ) → pattern_of w ≡ 0 → is_pattern w ≡ false
 pattern_none w z = ne_eqb (pattern_of w) 1 (λ q. omega (arith, z, q))
+
+-- a truth as the number that code adds up
+pub via_number : (w : ℕ) → bool_byte (is_via w) ≡ via_of w
+via_number w = by_bool (is_via w) (λ p. rw p (sym (via_one w p))) (λ p. rw p (sym (via_zero w p)))
+
+pub pattern_number : (w : ℕ) → bool_byte (is_pattern w) ≡ pattern_of w
+pattern_number w = by_bool (is_pattern w) (λ p. rw p (sym (pattern_one w p))) (λ p. rw p (sym (pattern_zero w p)))
 
 pub read_only : (w : ℕ) → not (eqb (writable_of w) 1) ≡ eqb (writable_of w) 0
 read_only w =

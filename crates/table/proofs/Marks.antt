@@ -246,8 +246,9 @@ module _ (e : ℕ) (t : List ℕ) (n : ℕ) (s : List ℕ) (m : Marks (IsCopy e 
 
 -- ---- room for marks, none made yet
 module _ (t : List ℕ) (m n : ℕ) (reach : Reached t n) where
-  room_in : (k : ℕ) → Enough k n m → (long : ℕ) → block_at (k + 1) ≤ long → RoomForMarks t m n (zeros long) (zeros max_bodies)
-  room_in k few long fits =
+  -- so many blocks in so many bytes
+  pub room_with : (k : ℕ) → Enough k n m → (long : ℕ) → block_at (k + 1) ≤ long → RoomForMarks t m n (zeros long) (zeros max_bodies)
+  room_with k few long fits =
       record {
         room = omega (arith, few, fits, zeros_length long);
         bodies = zeros_length max_bodies;
@@ -257,11 +258,11 @@ module _ (t : List ℕ) (m n : ℕ) (reach : Reached t n) where
       }
 
   pub room_few : Enough 64 n m → RoomForMarks t m n (zeros 6272) (zeros 4096)
-  room_few few = room_in 64 few 6272 (omega arith)
+  room_few few = room_with 64 few 6272 (omega arith)
 
   pub room_some : Enough 256 n m → RoomForMarks t m n (zeros 18560) (zeros 4096)
-  room_some few = room_in 256 few 18560 (omega arith)
+  room_some few = room_with 256 few 18560 (omega arith)
 
   -- no memory has more groups
   pub room_many : RoomForMarks t m n (zeros 67712) (zeros 4096)
-  room_many = room_in 1024 (omega arith) 67712 (omega arith)
+  room_many = room_with 1024 (omega arith) 67712 (omega arith)

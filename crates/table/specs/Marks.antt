@@ -161,6 +161,10 @@ pub record AllMarked (e : ℕ) (t : List ℕ) (seen used : List ℕ) : Type 0 wh
   pub copies : Marks (IsCopy e t) (word2 e t) 1 e used
   pub kept : Kept seen
 
+-- room for the marks of n entries of a memory of m cells, and of b bodies, none made yet
+abbrev pub BlankRoom : (n m b : ℕ) (seen used : List ℕ) → Type 0
+BlankRoom n m b seen used = Room n m seen × (b ≤ length used) × Blank seen × Blank used
+
 -- what a call is lent for question 4: room for the marks of n entries of a memory of m cells, and of every body, none made yet; and n is how many
 -- entries question 4 passes
 pub record RoomForMarks (t : List ℕ) (m n : ℕ) (seen used : List ℕ) : Type 0 where

@@ -3,7 +3,7 @@
 ghost use Rattle.std.specs.Prelude.{◌≡◌, ◌*◌, ◌≤◌, ◌<◌};
 ghost use Rattle.words.specs.Layout.{max_cells};
 ghost use Rattle.table.specs.Entry.{kind_number, label_number, NamesKind, NamesLabel};
-ghost use Rattle.table.specs.Entry.{depth_of, cell_of, writable_of, via_of, pattern_of, below_kind, is_writable, is_via, is_pattern, owns_body, kind_bits, entry_word, second_word, writable, outward, as_copy};
+ghost use Rattle.table.specs.Entry.{depth_of, cell_of, writable_of, below_kind, is_writable, is_via, is_pattern, owns_body, kind_bits, entry_word, second_word, writable, outward, as_copy};
 
 // How a domain holds a cell: by a copy of its bytes in a body, by what its parent holds, or by the rule that they follow.
 #[derive(Clone, Copy, PartialEq, Eq, Debug)]
@@ -135,24 +135,11 @@ pub fn is_pattern(word: u32) -> bool
 }
 
 // The label as a number, for code with no branch: 1 for read-write, else 0.
+// old form: goes when its callers have gone over, to `is_writable` or a number made of it
 pub fn writable_of(word: u32) -> u32
     ensures { result ≡ writable_of word }
 {
     word / 134217728 % 2
-}
-
-// And the kind: 1 for via parent, else 0.
-pub fn via_of(word: u32) -> usize
-    ensures { result ≡ via_of word }
-{
-    (word / 67108864 % 2) as usize
-}
-
-// 1 for by rule, else 0.
-pub fn pattern_of(word: u32) -> usize
-    ensures { result ≡ pattern_of word }
-{
-    (word / 33554432 % 2) as usize
 }
 
 // Is the entry's second word a body? It is where the entry is in use and a copy.

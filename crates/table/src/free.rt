@@ -6,14 +6,14 @@ ghost use Rattle.table.specs.Marks.{FreeRun, Reaches};
 use crate::lent::Entries;
 use words::layout::{MAX_SLOTS, PENDING_AT, slots_of};
 
-// So many entries are asked at once between others, and so many in the room to spare behind the last one in use.
-pub const FOUR: usize = 4;
+// So many entries are asked at once between others, and then so many in the room to spare behind the last one in use.
+const RUN: usize = 4;
 
-pub const SIXTEEN: usize = 16;
+const LONG_RUN: usize = 16;
 
 impl<'a> Entries<'a> {
     // Are the entries from i on, so many of them, free? All are asked, with no branch, so that the compiler can ask many words at once.
-    pub fn are_free<const MANY: usize>(&self, i: usize) -> bool
+    fn are_free<const MANY: usize>(&self, i: usize) -> bool
         requires { i + MANY ≤ self.now.slots }
         ensures { result ≡ true → FreeRun self.now.slots self.now.words.now i (i + MANY) }
     {
@@ -29,14 +29,14 @@ impl<'a> Entries<'a> {
         requires { from ≤ self.now.top }
         ensures { (from ≤ result) × (result ≤ self.now.top) × FreeRun self.now.slots self.now.words.now from result }
     {
-        let fours = (self.top - from) / FOUR;
-        for k in 0..fours {
-            let at = from + FOUR * k;
-            if !self.are_free::<FOUR>(at) {
+        let runs = (self.top - from) / RUN;
+        for k in 0..runs {
+            let at = from + RUN * k;
+            if !self.are_free::<RUN>(at) {
                 return at;
             }
         }
-        from + FOUR * fours
+        from + RUN * runs
     }
 
     // The entry to pass next, from `from` on and before the top: that one where it is in use, which is asked first, since entries in use mostly
@@ -57,28 +57,29 @@ impl<'a> Entries<'a> {
     }
 
     // The same entries with a lower top, from which on all are free: so many are asked at once, so that it may be too high by one less.
-    pub fn without_free<const MANY: usize>(self) -> Self
+    fn without_free<const MANY: usize>(self) -> Self
         requires { 0 < MANY }
         ensures words { result.words.now ≡ self.entry.words.now }
         ensures slots { result.slots ≡ self.entry.slots }
     {
-        let runs = self.top / MANY;
-        for k in 0..runs {
-            let top = self.top - MANY * k;
-            if !self.are_free::<MANY>(top - MANY) {
+        let rest = self.top % MANY;
+        for k in (0..self.top / MANY).rev() {
+            let at = rest + MANY * k;
+            if !self.are_free::<MANY>(at) {
                 return Entries {
                     words: self.words,
                     slots: self.slots,
-                    top,
+                    top: at + MANY,
                 };
             }
         }
         Entries {
             words: self.words,
             slots: self.slots,
-            top: self.top - MANY * runs,
+            top: rest,
         }
     }
+
     // The entries of a table that question 4 passes: those up to the last in use; all of them where pairs are pending, which may fill others. None
     // where the number of its slots is not allowed. Entries are taken from the front and most tables have room to spare: that is passed over by
     // sixteens, and then four are asked at once, so that the top may be three too high.
@@ -87,10 +88,7 @@ impl<'a> Entries<'a> {
             (λ table. (table.words.now ≡ words.now) × (table.slots ≡ slots_of (length words.now)) × Reaches table.slots words.now table.top) }
     {
         let slots = slots_of(words.len());
-        if slots < 1 {
-            return None;
-        }
-        if MAX_SLOTS < slots {
+        if !(1..=MAX_SLOTS).contains(&slots) {
             return None;
         }
         let all = Entries {
@@ -101,6 +99,6 @@ impl<'a> Entries<'a> {
         if words[PENDING_AT] != 0 {
             return Some(all);
         }
-        Some(all.without_free::<SIXTEEN>().without_free::<FOUR>())
+        Some(all.without_free::<LONG_RUN>().without_free::<RUN>())
     }
 }

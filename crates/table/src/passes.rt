@@ -12,11 +12,11 @@ ghost use Rattle.table.specs.Entry.{live, via_of, pattern_of, depth_of, cell_of,
 ghost use Rattle.table.specs.Rule.{handle_ok, head_ok, kind_ok, pairs_ok, rule_ok, table_ok};
 ghost use Rattle.marks.specs.Blocks.{cells_in, Kept, Spare, Room};
 ghost use Rattle.table.specs.Marks.{has, mark_at, mark_entry, Marked, CellsOnce, ViasMarkable, ViaInner, parent_told, all_told, placed, mark_body, body_fits};
-ghost use Rattle.table.specs.Marks.{Blank, NoVias, Passed, PassedAll, RulesMarked, AllMarked};
+ghost use Rattle.table.specs.Marks.{BlankRoom, NoVias, Passed, PassedAll, RulesMarked, AllMarked};
 
-use crate::fields::{below_kind, cell_of, depth_of, is_pattern, is_via, pattern_of, via_of};
+use crate::fields::{below_kind, cell_of, depth_of, is_pattern, is_via};
 use crate::journal::{pairs_ok, put_pairs};
-use crate::lent::Entries;
+use crate::lent::{Entries, Sound};
 use marks::{mark_cell, mark_of};
 use patterns::MAX_RULE;
 use words::layout::{
@@ -151,6 +151,9 @@ fn mark_body(used: &mut [u8], word: u32, second: u32, bodies: u32) -> bool
 
 // ---- the pass over the entries
 
+// stays: `seen` and `used` are two parameters wherever both are lent. A struct of the two references is no plainer: the contract of each function
+// that is lent it would have to promise that it still holds the same two.
+
 // Is entry i right, by itself and beside those in front of it? Marks its cell and, of a copy, its body; an entry that follows a rule is not
 // marked yet.
 fn pass_entry(
@@ -199,8 +202,7 @@ fn pass_entries(
     seen: &mut [u8],
     used: &mut [u8],
 ) -> Option<Pass>
-    requires sizes { (live table.now.words.now ≤ max_live) × (cells ≤ max_cells) × Room table.now.top cells seen.old × (bodies ≤ length used.old) }
-    requires blank { Blank seen.old × Blank used.old }
+    requires { (live table.now.words.now ≤ max_live) × (cells ≤ max_cells) × BlankRoom table.now.top cells bodies seen.old used.old }
     ensures { MatchOption result (rule_ok cells table.now.slots bodies table.now.words.now ≡ false)
         (λ pass. PassedAll cells table.now.slots bodies table.now.words.now table.now.top pass.vias pass.rules seen.new used.new) }
 {
@@ -212,8 +214,8 @@ fn pass_entries(
             return None;
         }
         let word = table.first_word(i);
-        vias += via_of(word);
-        rules += pattern_of(word);
+        vias += usize::from(is_via(word));
+        rules += usize::from(is_pattern(word));
         from = i + 1;
     }
     Some(Pass { vias, rules })
@@ -260,8 +262,7 @@ fn rule_ok(
     seen: &mut [u8],
     used: &mut [u8],
 ) -> bool
-    requires sizes { (bodies ≤ max_bodies) × Room table.now.top cells seen.old × (bodies ≤ length used.old) }
-    requires blank { Blank seen.old × Blank used.old }
+    requires { (bodies ≤ max_bodies) × BlankRoom table.now.top cells bodies seen.old used.old }
     ensures value { result ≡ rule_ok cells table.now.slots bodies table.now.words.now }
     ensures marks { result ≡ true → AllMarked table.now.slots table.now.words.now seen.new used.new }
 {
@@ -290,8 +291,8 @@ pub fn idle_ok(
     seen: &mut [u8],
     used: &mut [u8],
 ) -> bool
-    requires sizes { (bodies ≤ max_bodies) × Room table.now.top cells seen.old × (bodies ≤ length used.old) }
-    requires blank { Blank seen.old × Blank used.old × (pending table.now.words.now ≡ 0) }
+    requires idle { pending table.now.words.now ≡ 0 }
+    requires marks { (bodies ≤ max_bodies) × BlankRoom table.now.top cells bodies seen.old used.old }
     ensures value { result ≡ table_ok cells table.now.slots bodies table.now.words.now }
     ensures marks { result ≡ true → AllMarked table.now.slots table.now.words.now seen.new used.new }
 {
@@ -309,9 +310,8 @@ fn pending_ok<const FRONT: usize>(
     used: &mut [u8],
 ) -> bool
     requires front { (pairs_at table.now.slots ≤ FRONT) × (FRONT < 100000) }
-    requires sizes { (length table.now.words.now ≡ table_words table.now.slots) × (bodies ≤ max_bodies)
-        × (pairs_ok table.now.slots table.now.words.now ≡ true) × Room table.now.slots cells seen.old × (bodies ≤ length used.old) }
-    requires blank { Blank seen.old × Blank used.old }
+    requires pairs { (length table.now.words.now ≡ table_words table.now.slots) × (pairs_ok table.now.slots table.now.words.now ≡ true) }
+    requires marks { (bodies ≤ max_bodies) × BlankRoom table.now.slots cells bodies seen.old used.old }
     ensures { result ≡ rule_ok cells table.now.slots bodies (effective (pairs_at table.now.slots) table.now.words.now) }
 {
     let slots = table.slots;
@@ -335,9 +335,8 @@ pub fn table_ok(
     seen: &mut [u8],
     used: &mut [u8],
 ) -> bool
-    requires sizes { (length table.now.words.now ≡ table_words table.now.slots) × (bodies ≤ max_bodies)
-        × ((pending table.now.words.now ≡ 0 → ⊥) → table.now.top ≡ table.now.slots) × Room table.now.top cells seen.old × (bodies ≤ length used.old) }
-    requires blank { Blank seen.old × Blank used.old }
+    requires pairs { (length table.now.words.now ≡ table_words table.now.slots) × ((pending table.now.words.now ≡ 0 → ⊥) → table.now.top ≡ table.now.slots) }
+    requires marks { (bodies ≤ max_bodies) × BlankRoom table.now.top cells bodies seen.old used.old }
     ensures { result ≡ table_ok cells table.now.slots bodies table.now.words.now }
 {
     if !pairs_ok(table.words, table.slots) {
@@ -347,4 +346,15 @@ pub fn table_ok(
         return idle_ok(table, cells, bodies, seen, used);
     }
     pending_ok::<MAX_FRONT>(table, cells, bodies, seen, used)
+}
+
+impl<'a> Sound<'a> {
+    // A table that question 4 let pass, with no pairs pending.
+    pub fn of(entries: &Entries<'a>) -> Self
+        requires passed { (m b : ℕ) × (table_ok m entries.now.slots b entries.now.words.now ≡ true) }
+        requires idle { pending entries.now.words.now ≡ 0 }
+        ensures { result.entries ≡ entries.now }
+    {
+        Sound { entries: *entries }
+    }
 }

@@ -4,4 +4,4 @@ use Rattle.table.proofs.Pairs.{idle_rule}
 use Rattle.table.proofs.passes.idle_ok.Goals as goal
 
 pub returns-clause-value : goal.returns-clause-value
-returns-clause-value c = c.rule_ok.ensures.value ∙ sym (idle_rule _ _ _ _ c.requires.blank.2)
+returns-clause-value c = c.rule_ok.ensures.value ∙ sym (idle_rule _ _ _ _ c.requires.idle)

@@ -1,7 +1,9 @@
-use Rattle.std.proofs.Common.{ap, ◌∙◌, arith}
+use Rattle.std.proofs.Common.{◌≡◌, ap, ◌∙◌, arith}
+use mir.Val.{bool_byte}
 use native.Mathlib.Nat.{not-suc-le-zero}
 use Rattle.words.proofs.Scan.{count_le}
 use Rattle.table.specs.Entry.{word1, via_of, pattern_of, is_pattern}
+use Rattle.table.proofs.Entry.{via_number, pattern_number}
 use Rattle.table.proofs.Passing.{passed_none, passed_free, vias_free, vias_more, rules_free, rules_bit, passed_all}
 use Rattle.table.proofs.passes.pass_entries.Goals as goal
 
@@ -9,7 +11,7 @@ pub loop-i-init : goal.loop-i-init
 loop-i-init c = let e = c.args.table.now in record {
   inside = omega arith;
   few = omega arith;
-  passed = passed_none _ e.slots _ _ _ _ c.requires.blank.0 c.requires.blank.1 (omega (arith, c.requires.sizes.2));
+  passed = passed_none _ e.slots _ _ _ _ c.requires.2.2 c.requires.2.3 (omega (arith, c.requires.2.0));
   alone = λ none k l. absurd (not-suc-le-zero l);
   counted = omega (arith, count_le 0 (λ k. is_pattern (word1 e.slots e.words.now k)));
 }
@@ -23,8 +25,10 @@ loop-i-preserved c =
     let e = c.args.table.now in
     let turn = c.loop-i.invariant in
     let near = c.in-Some.ensures in
-    let via = c.via_of-vias.ensures ∙ ap via_of c.first_word-word.ensures in
-    let rule = c.pattern_of-rules.ensures ∙ ap pattern_of c.first_word-word.ensures in record {
+    let via : c.from-vias.result ≡ via_of (word1 e.slots e.words.now c.in-Some.i) =
+    c.from-vias.ensures ∙ ap bool_byte c.is_via.ensures ∙ via_number _ ∙ ap via_of c.first_word-word.ensures in
+    let rule : c.from-rules.result ≡ pattern_of (word1 e.slots e.words.now c.in-Some.i) =
+    c.from-rules.ensures ∙ ap bool_byte c.is_pattern.ensures ∙ pattern_number _ ∙ ap pattern_of c.first_word-word.ensures in record {
       inside = omega (arith, near.1);
       few = omega (arith, near.0, via, turn.few);
       passed = c.pass_entry.ensures.right c.if-not-pass_entry.false;

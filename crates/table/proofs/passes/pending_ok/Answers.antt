@@ -12,7 +12,7 @@ pub put_pairs-requires-clause-sizes : goal.put_pairs-requires-clause-sizes
 put_pairs-requires-clause-sizes g c =
     let long : length c.copy_from_slice.new.self ≡ c.pairs_at-first.result =
     c.copy_from_slice.ensures.len ∙ simp (length-take, length-replicate) (omega (arith, c.requires.front.0, c.pairs_at-first.ensures)) in (
-      omega (arith, c.requires.sizes.0, c.pairs_at-first.ensures, c.wide.ensures, pairs_few c.args.table.now.slots c.args.table.now.words.now c.requires.sizes.2),
+      omega (arith, c.requires.pairs.0, c.pairs_at-first.ensures, c.wide.ensures, pairs_few c.args.table.now.slots c.args.table.now.words.now c.requires.pairs.1),
       rw length-append (omega (arith, long)),
     )
 
@@ -22,7 +22,7 @@ put_pairs-requires-clause-pairs g c =
     let copied = c.copy_from_slice.ensures.after in
     let long : length c.copy_from_slice.new.self ≡ c.pairs_at-first.result =
     c.copy_from_slice.ensures.len ∙ simp (length-take, length-replicate) (omega (arith, c.requires.front.0, c.pairs_at-first.ensures)) in (
-      (λ j l. rw c.pairs_at-first.ensures (pairs_fine e.slots e.words.now c.requires.sizes.2 j (rw c.wide.ensures at l)).0),
+      (λ j l. rw c.pairs_at-first.ensures (pairs_fine e.slots e.words.now c.requires.pairs.1 j (rw c.wide.ensures at l)).0),
       (λ k l. let low : k < length c.copy_from_slice.new.self = omega (arith, l, long) in rw (get_or_append_left, copied) (get_or-take c.pairs_at-first.result e.words.now k 0 l)),
     )
 

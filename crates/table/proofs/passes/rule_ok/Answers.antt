@@ -1,5 +1,5 @@
 -- `table::passes::rule_ok` meets its contract. Assumes nothing.
-use Rattle.std.proofs.Common.{sym, arith, rules}
+use Rattle.std.proofs.Common.{sym, arith}
 use Rattle.table.proofs.Rule.{no_head}
 use Rattle.table.proofs.Parts.{live_small, no_once, decided}
 use Rattle.table.proofs.Passing.{rule_least}
@@ -9,9 +9,12 @@ use Rattle.table.proofs.passes.rule_ok.Goals as goal
 pub returns-then-not-head_ok-clause-value : goal.returns-then-not-head_ok-clause-value
 returns-then-not-head_ok-clause-value c = sym (no_head _ _ _ _ (sym c.if-not-head_ok.ensures))
 
-pub pass_entries-requires-clause-sizes : goal.pass_entries-requires-clause-sizes
-pass_entries-requires-clause-sizes c =
-    (live_small 0 0 0 _ (sym c.if-not-head_ok.ensures), omega (arith, c.min-named.ensures), omega (arith, c.min-named.ensures, c.requires.sizes.1), search rules)
+pub pass_entries-requires : goal.pass_entries-requires
+pass_entries-requires c = (
+  live_small 0 0 0 _ (sym c.if-not-head_ok.ensures),
+  omega (arith, c.min-named.ensures),
+  (omega (arith, c.min-named.ensures, c.requires.1.0), c.requires.1.1, c.requires.1.2, c.requires.1.3),
+)
 
 pub returns-in_default-clause-value : goal.returns-in_default-clause-value
 returns-in_default-clause-value c = sym (rw (c.min-named.ensures, rule_least c.args.cells c.args.table.now.slots c.args.bodies c.args.table.now.words.now) at c.in_default.ensures)
@@ -34,7 +37,7 @@ returns-then-pass-eq0-clause-marks c = λ r.
 pub mark_rules-requires : goal.mark_rules-requires
 mark_rules-requires c =
     rules_first _ _ _ _ _ _ _ _ _ _ c.min-named.ensures (sym c.if-not-head_ok.ensures) c.in-Some.ensures (sym c.if-not-parents_ok.ensures) c.args.table.now.ends
-    (omega (arith, c.pass_entries.auto.seen, c.min-named.ensures, c.requires.sizes.1))
+    (omega (arith, c.pass_entries.auto.seen, c.min-named.ensures, c.requires.1.0))
 
 pub returns-clause-value : goal.returns-clause-value
 returns-clause-value c =
