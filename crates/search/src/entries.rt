@@ -49,8 +49,25 @@ fn four_named(entries: &Entries<'_>, key: u32, i: usize) -> bool
     (a | b) | (c | d)
 }
 
+// How far the entries from `from` on and before `end` can be passed over eight at a time, since none of them is named: a search of a long table
+// spends nearly all its time here. There is one such loop, which is not copied into its callers.
+#[inline(never)]
+fn pass_eights(entries: &Entries<'_>, key: u32, from: usize, end: usize) -> usize
+    requires { (from ≤ end) × (end ≤ entries.now.slots) × Bare key }
+    ensures { (from ≤ result) × (result ≤ end) × Unnamed entries.now.slots entries.now.words.now key from result }
+{
+    let eights = (end - from) / 8;
+    for k in 0..eights {
+        let i = from + 8 * k;
+        if four_named(entries, key, i) | four_named(entries, key, i + 4) {
+            return i;
+        }
+    }
+    from + 8 * eights
+}
+
 // How far the entries from `from` on and before `end` can be passed over, since none of them is named. The first is asked alone, since a place to
-// begin at is mostly right; then eight at a time: a search of a long table spends nearly all its time here.
+// begin at is mostly right.
 pub fn pass_over(entries: &Entries<'_>, key: u32, from: usize, end: usize) -> usize
     requires { (from ≤ end) × (end ≤ entries.now.slots) × Bare key }
     ensures { (from ≤ result) × (result ≤ end) × Unnamed entries.now.slots entries.now.words.now key from result }
@@ -61,14 +78,7 @@ pub fn pass_over(entries: &Entries<'_>, key: u32, from: usize, end: usize) -> us
     if is_named(entries.first_word(from), key) {
         return from;
     }
-    let eights = (end - from) / 8;
-    for k in 0..eights {
-        let i = from + 8 * k;
-        if four_named(entries, key, i) | four_named(entries, key, i + 4) {
-            return i;
-        }
-    }
-    from + 8 * eights
+    pass_eights(entries, key, from, end)
 }
 
 // Where a search of the slots before `top` begins: at the slot asked for, or at the first where that is none of them.
@@ -84,7 +94,12 @@ fn find_named(entries: &Entries<'_>, key: u32, from: usize, end: usize) -> Optio
     ensures { MatchOption result (Unnamed entries.now.slots entries.now.words.now key from end)
         (λ i. (i < end) × (named_by key (word1 entries.now.slots entries.now.words.now i) ≡ true)) }
 {
-    (pass_over(entries, key, from, end)..end).find(|i| is_named(entries.first_word(*i), key))
+    for i in pass_over(entries, key, from, end)..end {
+        if is_named(entries.first_word(i), key) {
+            return Some(i);
+        }
+    }
+    None
 }
 
 // The entry of this depth and cell. A depth or a cell that no word can hold has none. The search begins at slot `begin`, which may be any number,

@@ -39,23 +39,21 @@ impl<const N: usize> Notes<N> {
         }
     }
 
-    // Notes of the entries in use, as many as there is room for.
-    pub fn of(entries: &Entries<'_>) -> Self
+    // Notes the entries in use, as many as there is room for.
+    pub fn note(&mut self, entries: &Entries<'_>)
         requires { N ≤ MANY_NOTES }
     {
-        let mut notes = Notes::none();
         if N < FEW_NOTES {
-            return notes;
+            return;
         }
         for i in 0..entries.top.min(N) {
             let word = entries.first_word(i);
             if word != 0 {
                 let at = cell_of(word) % N;
-                notes.before[i] = notes.last[at];
-                notes.last[at] = (i + 1) as u16;
+                self.before[i] = self.last[at];
+                self.last[at] = (i + 1) as u16;
             }
         }
-        notes
     }
 
     // A slot to begin at for this depth and cell: the first in its bucket that is named, or 0 where the notes tell of none.
