@@ -6,7 +6,7 @@
 ghost use Rattle.std.specs.Prelude.{◌≡◌, ◌<◌, ◌≤◌, length};
 ghost use Rattle.words.specs.Layout.{pairs_at, max_slots};
 
-use crate::entries::{is_named, key_of};
+use crate::key::Key;
 use table::fields::cell_of;
 use table::first_word;
 use table::lent::Entries;
@@ -61,14 +61,14 @@ impl<const N: usize> Notes<N> {
         if (N < FEW_NOTES) | (16 <= depth) | (65536 <= cell) {
             return 0;
         }
-        let key = key_of(depth, cell);
+        let key = Key::of(depth, cell);
         let end = entries.slots.min(N);
         let mut at = usize::from(self.last[cell as usize % N]);
         for _ in 0..MAX_LINKS {
             if (at == 0) | (end < at) {
                 return 0;
             }
-            if is_named(entries.first_word(at - 1), key) {
+            if key.names(entries.first_word(at - 1)) {
                 return at - 1;
             }
             at = usize::from(self.before[at - 1]);
@@ -148,7 +148,7 @@ pub fn noted(
     if (16 <= depth) | (65536 <= cell) {
         return 0;
     }
-    let key = key_of(depth, cell);
+    let key = Key::of(depth, cell);
     let end = least(slots, before.len());
     let mut at = index_of(last[bucket_of(last.len(), wide(cell))]);
     let mut left = MAX_LINKS;
@@ -159,7 +159,7 @@ pub fn noted(
         if end < at {
             return 0;
         }
-        if is_named(first_word(table, slots, at - 1), key) {
+        if key.names(first_word(table, slots, at - 1)) {
             return at - 1;
         }
         at = index_of(before[at - 1]);
