@@ -5,6 +5,7 @@
 // Nothing is promised of notes but safety: a search looks at every entry wherever it begins. So they may be old, or of another table, or lie.
 ghost use Rattle.std.specs.Prelude.{◌≡◌, ◌<◌, ◌≤◌, length};
 ghost use Rattle.words.specs.Layout.{pairs_at, max_slots};
+ghost use Rattle.search.specs.declared.notes.TheConstants.{MANY_NOTES};
 
 use crate::key::Key;
 use table::fields::cell_of;
@@ -22,10 +23,13 @@ pub const FEW_NOTES: usize = 256;
 pub const MANY_NOTES: usize = 4096;
 
 // Notes in N buckets of as many entries. With fewer buckets than `FEW_NOTES` nothing is noted: a call that searches once or not at all has one.
+//
+// stays: a number has 0 for none, since an `Option<u16>` takes twice the room, and a call clears it all
 #[derive(Drop)]
 pub struct Notes<const N: usize> {
     last: [u16; N],
     before: [u16; N],
+    ghost room: { N ≤ MANY_NOTES },
 }
 
 impl<const N: usize> Notes<N> {
@@ -39,10 +43,8 @@ impl<const N: usize> Notes<N> {
         }
     }
 
-    // Notes the entries in use, as many as there is room for.
-    pub fn note(&mut self, entries: &Entries<'_>)
-        requires { N ≤ MANY_NOTES }
-    {
+    // Notes the entries in use, as many as there is room for. They are made in place: so many numbers handed back would be copied.
+    pub fn note(&mut self, entries: &Entries<'_>) {
         if N < FEW_NOTES {
             return;
         }
