@@ -1,50 +1,12 @@
 -- Laws of the search for an entry by its key. Assumes nothing.
-use Rattle.std.proofs.Common.{◌≡◌, ℕ, ◌+◌, ◌/◌, ◌%◌, ◌^◌, ◌<◌, ◌≤◌, Bool, true, false, ◌&&◌, ◌||◌, eqb, leb, List, get_or, sym, ap, ◌∙◌, arith, eq-eqb, eqb-true, leb-false, leb-true}
+use Rattle.std.proofs.Common.{◌≡◌, ℕ, ◌+◌, ◌^◌, ◌<◌, ◌≤◌, Bool, true, false, ◌||◌, eqb, leb, List, get_or, sym, ap, ◌∙◌, arith, eqb-true, leb-false, leb-true}
 use borrow.Author.Tests.{eqb-false}
 use Rattle.words.specs.Layout.{max_cells}
-use Rattle.words.proofs.Scan.{by_bool, and_split, and_join, is_false, true≢, or_split}
+use Rattle.words.proofs.Scan.{by_bool, or_split}
 use Rattle.table.specs.Entry.{word1, depth_of, cell_of, names, find_in}
 use Rattle.table.proofs.Entry.{find_at, find_none}
-use Rattle.search.specs.Search.{Bare, IsKey, named_by, Unnamed}
+use Rattle.search.specs.Search.{IsKey, named_by, Unnamed}
 use Rattle.search.proofs.From.{Failing, failing_join}
-
--- ---- the test of a word
-
--- a word with a key's depth and cell is the key and more
-key_least : (key w : ℕ) → Bare key → depth_of w ≡ depth_of key → cell_of w ≡ cell_of key → key ≤ w
-key_least key w bare high low =
-    let same : key % 268_435_456 ≡ key % 65_536 = omega arith in
-    let less : w % 65_536 ≤ w % 268_435_456 = omega arith in
-    omega arith
-
-unwrapped : (key w apart : ℕ) → key ≤ w → apart < 2 ^ 32 → (apart + key) % 2 ^ 32 ≡ w → w ≡ apart + key
-unwrapped key w apart l small back = omega arith
-
-near : (key w apart : ℕ) → Bare key → w ≡ apart + key → depth_of w ≡ depth_of key → cell_of w ≡ cell_of key → (apart / 268_435_456 ≡ 0) × (apart % 65_536 ≡ 0)
-near key w apart bare sum high low = (omega arith, omega arith)
-
--- apart is the word's difference from the key, around 2 ^ 32
-module _ (key w apart : ℕ) (bare : Bare key) (known : key < 2 ^ 32) (small : apart < 2 ^ 32) (back : (apart + key) % 2 ^ 32 ≡ w) where
-  near_named : apart / 268_435_456 ≡ 0 → apart % 65_536 ≡ 0 → (depth_of w ≡ depth_of key) × (cell_of w ≡ cell_of key)
-  near_named high low = (omega arith, omega arith)
-
-  named_near : depth_of w ≡ depth_of key → cell_of w ≡ cell_of key → (apart / 268_435_456 ≡ 0) × (apart % 65_536 ≡ 0)
-  named_near high low = let sum = unwrapped key w apart (key_least key w bare high low) small back in near key w apart bare sum high low
-
-  pub near_test : (eqb (apart / 268_435_456) 0 && eqb (apart % 65_536) 0) ≡ named_by key w
-  near_test =
-      by_bool (named_by key w)
-      (λ y.
-      let n = and_split (eqb (depth_of w) (depth_of key)) (eqb (cell_of w) (cell_of key)) y in
-      let f = named_near (eqb-true _ _ n.0) (eqb-true _ _ n.1) in
-      and_join _ _ (eq-eqb _ _ f.0) (eq-eqb _ _ f.1) ∙ sym y)
-      (λ y.
-      is_false (eqb (apart / 268_435_456) 0 && eqb (apart % 65_536) 0)
-      (λ p.
-      let n = and_split (eqb (apart / 268_435_456) 0) (eqb (apart % 65_536) 0) p in
-      let f = near_named (eqb-true _ _ n.0) (eqb-true _ _ n.1) in
-      true≢ (and_join _ _ (eq-eqb _ _ f.0) (eq-eqb _ _ f.1)) y)
-      ∙ sym y)
 
 -- ---- entries that are passed over
 

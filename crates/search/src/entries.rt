@@ -1,66 +1,40 @@
 // The search for an entry by its depth and its cell.
-//
-// An entry is looked for by a key: the word with its depth and its cell and no other bit.
 ghost use Rattle.std.specs.Prelude.{◌≡◌, ℕ, ◌+◌, ◌<◌, ◌≤◌, true, false, MatchOption};
-ghost use Rattle.words.specs.Layout.{max_cells};
 ghost use Rattle.table.specs.Entry.{word1, find_in};
-ghost use Rattle.search.specs.Search.{Bare, IsKey, named_by, Unnamed, Found};
+ghost use Rattle.search.specs.Search.{IsKey, named_by, Unnamed, Found};
 
-use table::fields::{cell_of, depth_of, entry_word};
+use crate::key::Key;
 use table::lent::{Entries, Sound};
 
-// The key of a depth and a cell.
-pub fn key_of(depth: u32, cell: u32) -> u32
-    requires { (depth < 16) × (cell < max_cells) }
-    ensures { IsKey depth cell result }
-{
-    entry_word(depth, 0, 0, cell)
-}
-
-// The same for any depth and cell: none where no word can hold them, so that none of these words is an entry of theirs.
-fn key_in(words: &[u32], depth: u32, cell: u32) -> Option<u32>
-    ensures { MatchOption result ((e : ℕ) → find_in e words.now depth cell ≡ e) (λ key. IsKey depth cell key) }
+// The key of a depth and a cell; none where no word can hold them, so that none of these words is an entry of theirs.
+fn key_in(words: &[u32], depth: u32, cell: u32) -> Option<Key>
+    ensures { MatchOption result ((e : ℕ) → find_in e words.now depth cell ≡ e) (λ key. IsKey depth cell key.word) }
 {
     if (16 <= depth) | (65536 <= cell) {
         return None;
     }
-    Some(key_of(depth, cell))
-}
-
-// Does an entry's first word name the depth and the cell of a key? It does where the two differ in label, kind and unused bits alone, which
-// the difference shows in one test.
-pub fn is_named(word: u32, key: u32) -> bool
-    requires { Bare key }
-    ensures { result ≡ named_by key word }
-{
-    let apart = word.wrapping_sub(key);
-    (depth_of(apart) == 0) & (cell_of(apart) == 0)
+    Some(Key::of(depth, cell))
 }
 
 // Is one of the four entries from `i` on named? All four are asked, with no branch.
-fn four_named(entries: &Entries<'_>, key: u32, i: usize) -> bool
-    requires { Bare key × (i + 4 ≤ entries.now.slots) }
-    ensures { result ≡ false → Unnamed entries.now.slots entries.now.words.now key i (i + 4) }
+fn four_named(entries: &Entries<'_>, key: Key, i: usize) -> bool
+    requires { i + 4 ≤ entries.now.slots }
+    ensures { result ≡ false → Unnamed entries.now.slots entries.now.words.now key.word i (i + 4) }
 {
-    let a = is_named(entries.first_word(i), key);
-    let b = is_named(entries.first_word(i + 1), key);
-    let c = is_named(entries.first_word(i + 2), key);
-    let d = is_named(entries.first_word(i + 3), key);
+    let a = key.names(entries.first_word(i));
+    let b = key.names(entries.first_word(i + 1));
+    let c = key.names(entries.first_word(i + 2));
+    let d = key.names(entries.first_word(i + 3));
     (a | b) | (c | d)
 }
 
-// How far the entries from `from` on and before `end` can be passed over, since none of them is named. The first is asked alone, since a place to
-// begin at is mostly right; then eight at a time: a search of a long table spends nearly all its time here.
-pub fn pass_over(entries: &Entries<'_>, key: u32, from: usize, end: usize) -> usize
-    requires { (from ≤ end) × (end ≤ entries.now.slots) × Bare key }
-    ensures { (from ≤ result) × (result ≤ end) × Unnamed entries.now.slots entries.now.words.now key from result }
+// How far the entries from `from` on and before `end` can be passed over eight at a time, since none of them is named: a search of a long table
+// spends nearly all its time here. There is one such loop, which is not copied into its callers.
+#[inline(never)]
+fn pass_eights(entries: &Entries<'_>, key: Key, from: usize, end: usize) -> usize
+    requires { (from ≤ end) × (end ≤ entries.now.slots) }
+    ensures { (from ≤ result) × (result ≤ end) × Unnamed entries.now.slots entries.now.words.now key.word from result }
 {
-    if from == end {
-        return end;
-    }
-    if is_named(entries.first_word(from), key) {
-        return from;
-    }
     let eights = (end - from) / 8;
     for k in 0..eights {
         let i = from + 8 * k;
@@ -71,6 +45,21 @@ pub fn pass_over(entries: &Entries<'_>, key: u32, from: usize, end: usize) -> us
     from + 8 * eights
 }
 
+// How far the entries from `from` on and before `end` can be passed over, since none of them is named. The first is asked alone, since a place to
+// begin at is mostly right.
+pub fn pass_over(entries: &Entries<'_>, key: Key, from: usize, end: usize) -> usize
+    requires { (from ≤ end) × (end ≤ entries.now.slots) }
+    ensures { (from ≤ result) × (result ≤ end) × Unnamed entries.now.slots entries.now.words.now key.word from result }
+{
+    if from == end {
+        return end;
+    }
+    if key.names(entries.first_word(from)) {
+        return from;
+    }
+    pass_eights(entries, key, from, end)
+}
+
 // Where a search of the slots before `top` begins: at the slot asked for, or at the first where that is none of them.
 pub fn start_at(top: usize, begin: usize) -> usize
     ensures { result ≤ top }
@@ -79,17 +68,23 @@ pub fn start_at(top: usize, begin: usize) -> usize
 }
 
 // The first entry from `from` on and before `end` that is named.
-fn find_named(entries: &Entries<'_>, key: u32, from: usize, end: usize) -> Option<usize>
-    requires { (from ≤ end) × (end ≤ entries.now.slots) × Bare key }
-    ensures { MatchOption result (Unnamed entries.now.slots entries.now.words.now key from end)
-        (λ i. (i < end) × (named_by key (word1 entries.now.slots entries.now.words.now i) ≡ true)) }
+fn find_named(entries: &Entries<'_>, key: Key, from: usize, end: usize) -> Option<usize>
+    requires { (from ≤ end) × (end ≤ entries.now.slots) }
+    ensures { MatchOption result (Unnamed entries.now.slots entries.now.words.now key.word from end)
+        (λ i. (i < end) × (named_by key.word (word1 entries.now.slots entries.now.words.now i) ≡ true)) }
 {
-    (pass_over(entries, key, from, end)..end).find(|i| is_named(entries.first_word(*i), key))
+    for i in pass_over(entries, key, from, end)..end {
+        if key.names(entries.first_word(i)) {
+            return Some(i);
+        }
+    }
+    None
 }
 
 // The entry of this depth and cell. A depth or a cell that no word can hold has none. The search begins at slot `begin`, which may be any number,
 // and goes on from the front: no depth has a cell twice, so that it finds the same entry wherever it begins, and a good place only saves time. It
-// ends at the last entry in use.
+// ends at the last entry in use. It is copied into the one search that calls it.
+#[inline(always)]
 pub fn find_entry(table: &Sound<'_>, depth: u32, cell: u32, begin: usize) -> Option<usize>
     requires { 1 ≤ depth }
     ensures { Found table.now.entries.slots (find_in table.now.entries.slots table.now.entries.words.now depth cell) result }

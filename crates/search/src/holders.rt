@@ -4,7 +4,8 @@ ghost use Rattle.table.specs.Entry.{word1, word2, depth_of, cell_of};
 ghost use Rattle.search.specs.Search.{HasSource, source_in, Found};
 ghost use Rattle.search.specs.Holders.{holder_in, value_of, value_from};
 
-use crate::entries::{find_entry, is_named, key_of, pass_over, start_at};
+use crate::entries::{find_entry, pass_over, start_at};
+use crate::key::Key;
 use crate::notes::Notes;
 use table::domains::parent_of;
 use table::fields::{cell_of, depth_of, is_pattern, is_via};
@@ -33,7 +34,8 @@ pub struct Held {
 }
 
 // The first holder of a cell from this depth to the innermost. At each depth the search begins at slot `begin`, which may be any number, and
-// goes on from the front.
+// goes on from the front. It is copied into its callers, since a holder handed back through memory takes a fifth of a search that begins well.
+#[inline(always)]
 pub fn find_holder(table: &Sound<'_>, from: u32, cell: u32, begin: usize) -> Option<Holder>
     requires { 1 ≤ from }
     ensures { result ≡ holder_in table.now.entries.slots table.now.entries.words.now from cell }
@@ -44,16 +46,17 @@ pub fn find_holder(table: &Sound<'_>, from: u32, cell: u32, begin: usize) -> Opt
     let entries = &table.entries;
     let live = entries.words[LIVE_AT];
     let start = start_at(entries.top, begin);
+    // stays: the search for a holder is nested loops over depths and entries, left by a label with the holder found (a named form)
     'search: {
         for depth in from..live + 1 {
-            let key = key_of(depth, cell);
+            let key = Key::of(depth, cell);
             for i in pass_over(entries, key, start, entries.top)..entries.top {
-                if is_named(entries.first_word(i), key) {
+                if key.names(entries.first_word(i)) {
                     break 'search Some(Holder { depth, entry: i });
                 }
             }
             for j in pass_over(entries, key, 0, start)..start {
-                if is_named(entries.first_word(j), key) {
+                if key.names(entries.first_word(j)) {
                     break 'search Some(Holder { depth, entry: j });
                 }
             }
@@ -82,7 +85,9 @@ pub fn find_source<const N: usize>(
     None
 }
 
-// The entry that has the value of entry i, which is in use: itself, or for via parent the one at the end of the chain outwards.
+// The entry that has the value of entry i, which is in use: itself, or for via parent the one at the end of the chain outwards. It is copied into
+// its callers, since mostly there is nothing to search for.
+#[inline(always)]
 pub fn source_of<const N: usize>(table: &Sound<'_>, i: usize, notes: &Notes<N>) -> Option<usize>
     requires slot { i < table.now.entries.slots }
     requires used { 1 ≤ depth_of (word1 table.now.entries.slots table.now.entries.words.now i) }

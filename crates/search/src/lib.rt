@@ -5,6 +5,7 @@
 pub mod domains;
 pub mod entries;
 pub mod holders;
+pub mod key;
 pub mod notes;
 pub mod places;
 pub mod writable;
@@ -14,12 +15,13 @@ ghost use Rattle.words.specs.Layout.{pairs_at, handle_at, max_slots, max_live};
 ghost use Rattle.table.specs.Entry.{live, find_in};
 ghost use Rattle.marks.specs.Blocks.{Kept};
 ghost use Rattle.table.specs.Marks.{Marked, CellsOnce, FreeRun, EndsAt};
-ghost use Rattle.search.specs.Search.{Bare, Unnamed, HasSource, holder_in, source_in, held_by, value_from};
+ghost use Rattle.search.specs.Search.{Unnamed, HasSource, holder_in, source_in, held_by, value_from};
 ghost use Rattle.search.specs.Free.{used_slots, copies, free_from, unmarked_from};
 ghost use Rattle.search.specs.Domain.{depth_named};
 ghost use Rattle.search.specs.Writable.{TellWritable};
 
-use entries::{is_named, key_of, start_at};
+use entries::start_at;
+use key::Key;
 use notes::noted;
 use places::InUse;
 use table::domains::parent_of;
@@ -49,27 +51,27 @@ pub enum Held {
 // old form, down to `find_value`: goes when its callers have gone over
 
 // Is one of the four entries from `i` on named? All four are asked, with no branch.
-fn four_named(table: &[u32], slots: usize, key: u32, i: usize) -> bool
-    requires { (slots ≤ max_slots) × (pairs_at slots ≤ length table.now) × Bare key × (i + 4 ≤ slots) }
-    ensures { result ≡ false → Unnamed slots table.now key i (i + 4) }
+fn four_named(table: &[u32], slots: usize, key: Key, i: usize) -> bool
+    requires { (slots ≤ max_slots) × (pairs_at slots ≤ length table.now) × (i + 4 ≤ slots) }
+    ensures { result ≡ false → Unnamed slots table.now key.word i (i + 4) }
 {
-    let a = is_named(first_word(table, slots, i), key);
-    let b = is_named(first_word(table, slots, i + 1), key);
-    let c = is_named(first_word(table, slots, i + 2), key);
-    let d = is_named(first_word(table, slots, i + 3), key);
+    let a = key.names(first_word(table, slots, i));
+    let b = key.names(first_word(table, slots, i + 1));
+    let c = key.names(first_word(table, slots, i + 2));
+    let d = key.names(first_word(table, slots, i + 3));
     (a | b) | (c | d)
 }
 
 // How far the entries from `from` on and before `end` can be passed over, since none of them is named. The first is asked alone, since a place to
 // begin at is mostly right; then eight at a time: a search of a long table spends nearly all its time here.
-fn pass_over(table: &[u32], slots: usize, key: u32, from: usize, end: usize) -> usize
-    requires { (from ≤ end) × (end ≤ slots) × (slots ≤ max_slots) × (pairs_at slots ≤ length table.now) × Bare key }
-    ensures { (from ≤ result) × (result ≤ end) × Unnamed slots table.now key from result }
+fn pass_over(table: &[u32], slots: usize, key: Key, from: usize, end: usize) -> usize
+    requires { (from ≤ end) × (end ≤ slots) × (slots ≤ max_slots) × (pairs_at slots ≤ length table.now) }
+    ensures { (from ≤ result) × (result ≤ end) × Unnamed slots table.now key.word from result }
 {
     if from == end {
         return end;
     }
-    if is_named(first_word(table, slots, from), key) {
+    if key.names(first_word(table, slots, from)) {
         return from;
     }
     let mut i = from;
@@ -94,17 +96,17 @@ fn find_entry(table: &[u32], slots: usize, top: usize, depth: u32, cell: u32, be
         return slots;
     }
     let start = start_at(top, begin);
-    let key = key_of(depth, cell);
+    let key = Key::of(depth, cell);
     let mut i = pass_over(table, slots, key, start, top);
     while i < top {
-        if is_named(first_word(table, slots, i), key) {
+        if key.names(first_word(table, slots, i)) {
             return i;
         }
         i += 1;
     }
     let mut j = pass_over(table, slots, key, 0, start);
     while j < start {
-        if is_named(first_word(table, slots, j), key) {
+        if key.names(first_word(table, slots, j)) {
             return j;
         }
         j += 1;
@@ -136,17 +138,17 @@ fn find_holder(
         if live < depth {
             break 'search Holder::Nobody;
         }
-        let key = key_of(depth, cell);
+        let key = Key::of(depth, cell);
         let mut i = pass_over(table, slots, key, start, top);
         while i < top {
-            if is_named(first_word(table, slots, i), key) {
+            if key.names(first_word(table, slots, i)) {
                 break 'search Holder::At(depth, i);
             }
             i += 1;
         }
         let mut j = pass_over(table, slots, key, 0, start);
         while j < start {
-            if is_named(first_word(table, slots, j), key) {
+            if key.names(first_word(table, slots, j)) {
                 break 'search Holder::At(depth, j);
             }
             j += 1;

@@ -5,8 +5,9 @@
 // Nothing is promised of notes but safety: a search looks at every entry wherever it begins. So they may be old, or of another table, or lie.
 ghost use Rattle.std.specs.Prelude.{◌≡◌, ◌<◌, ◌≤◌, length};
 ghost use Rattle.words.specs.Layout.{pairs_at, max_slots};
+ghost use Rattle.search.specs.declared.notes.TheConstants.{MANY_NOTES};
 
-use crate::entries::{is_named, key_of};
+use crate::key::Key;
 use table::fields::cell_of;
 use table::first_word;
 use table::lent::Entries;
@@ -22,10 +23,13 @@ pub const FEW_NOTES: usize = 256;
 pub const MANY_NOTES: usize = 4096;
 
 // Notes in N buckets of as many entries. With fewer buckets than `FEW_NOTES` nothing is noted: a call that searches once or not at all has one.
+//
+// stays: a number has 0 for none, since an `Option<u16>` takes twice the room, and a call clears it all
 #[derive(Drop)]
 pub struct Notes<const N: usize> {
     last: [u16; N],
     before: [u16; N],
+    ghost room: { N ≤ MANY_NOTES },
 }
 
 impl<const N: usize> Notes<N> {
@@ -39,23 +43,19 @@ impl<const N: usize> Notes<N> {
         }
     }
 
-    // Notes of the entries in use, as many as there is room for.
-    pub fn of(entries: &Entries<'_>) -> Self
-        requires { N ≤ MANY_NOTES }
-    {
-        let mut notes = Notes::none();
+    // Notes the entries in use, as many as there is room for. They are made in place: so many numbers handed back would be copied.
+    pub fn note(&mut self, entries: &Entries<'_>) {
         if N < FEW_NOTES {
-            return notes;
+            return;
         }
         for i in 0..entries.top.min(N) {
             let word = entries.first_word(i);
             if word != 0 {
                 let at = cell_of(word) % N;
-                notes.before[i] = notes.last[at];
-                notes.last[at] = (i + 1) as u16;
+                self.before[i] = self.last[at];
+                self.last[at] = (i + 1) as u16;
             }
         }
-        notes
     }
 
     // A slot to begin at for this depth and cell: the first in its bucket that is named, or 0 where the notes tell of none.
@@ -63,14 +63,14 @@ impl<const N: usize> Notes<N> {
         if (N < FEW_NOTES) | (16 <= depth) | (65536 <= cell) {
             return 0;
         }
-        let key = key_of(depth, cell);
+        let key = Key::of(depth, cell);
         let end = entries.slots.min(N);
         let mut at = usize::from(self.last[cell as usize % N]);
         for _ in 0..MAX_LINKS {
             if (at == 0) | (end < at) {
                 return 0;
             }
-            if is_named(entries.first_word(at - 1), key) {
+            if key.names(entries.first_word(at - 1)) {
                 return at - 1;
             }
             at = usize::from(self.before[at - 1]);
@@ -150,7 +150,7 @@ pub fn noted(
     if (16 <= depth) | (65536 <= cell) {
         return 0;
     }
-    let key = key_of(depth, cell);
+    let key = Key::of(depth, cell);
     let end = least(slots, before.len());
     let mut at = index_of(last[bucket_of(last.len(), wide(cell))]);
     let mut left = MAX_LINKS;
@@ -161,7 +161,7 @@ pub fn noted(
         if end < at {
             return 0;
         }
-        if is_named(first_word(table, slots, at - 1), key) {
+        if key.names(first_word(table, slots, at - 1)) {
             return at - 1;
         }
         at = index_of(before[at - 1]);

@@ -36,7 +36,12 @@ pub fn next_free_slot(entries: &Entries<'_>, from: usize) -> Option<usize>
     requires { from ≤ entries.now.slots }
     ensures { Found entries.now.slots (free_from entries.now.slots entries.now.words.now from) result }
 {
-    (from..entries.slots).find(|i| entries.first_word(*i) == 0)
+    for i in from..entries.slots {
+        if entries.first_word(i) == 0 {
+            return Some(i);
+        }
+    }
+    None
 }
 
 // The lowest body from `from` on that has no mark. `used` has the mark 1 at each body in use, so that a call that takes many bodies passes the
@@ -45,5 +50,10 @@ pub fn next_free_body(used: &[u8], bodies: usize, from: usize) -> Option<usize>
     requires { (bodies ≤ length used.now) × (from ≤ bodies) }
     ensures { Found bodies (unmarked_from bodies used.now from) result }
 {
-    (from..bodies).find(|k| used[*k] != 1)
+    for k in from..bodies {
+        if used[k] != 1 {
+            return Some(k);
+        }
+    }
+    None
 }

@@ -7,8 +7,8 @@ use Rattle.search.proofs.entries.four_named.Goals as goal
 pub returns : goal.returns
 returns c =
     let a = c.args in
-    none_of_four (λ k. named_by a.key (word1 a.entries.now.slots a.entries.now.words.now k)) a.i _ _ _ _
-    (c.is_named-a.ensures ∙ ap (named_by a.key) c.first_word.ensures)
-    (c.is_named-b.ensures ∙ ap (named_by a.key) c.first_word-2.ensures)
-    (c.is_named-c.ensures ∙ ap (named_by a.key) c.first_word-3.ensures)
-    (c.is_named-d.ensures ∙ ap (named_by a.key) c.first_word-4.ensures)
+    none_of_four (λ k. named_by a.key.word (word1 a.entries.now.slots a.entries.now.words.now k)) a.i _ _ _ _
+    (c.names-a.ensures ∙ ap (named_by a.key.word) c.first_word.ensures)
+    (c.names-b.ensures ∙ ap (named_by a.key.word) c.first_word-2.ensures)
+    (c.names-c.ensures ∙ ap (named_by a.key.word) c.first_word-3.ensures)
+    (c.names-d.ensures ∙ ap (named_by a.key.word) c.first_word-4.ensures)

@@ -1,9 +1,9 @@
-use Rattle.std.proofs.Common.{◌≡◌, ◌<◌, true, sym, ap, ◌∙◌, arith}
+use Rattle.std.proofs.Common.{◌≡◌, ◌<◌, true, sym, arith}
 use Rattle.table.specs.Entry.{word1}
 use Rattle.search.specs.Search.{named_by}
 use Rattle.search.proofs.Keys.{none_wide}
-use Rattle.search.proofs.Inwards.{lacking_more, holder_nobody, holder_none, holder_at}
-use Rattle.search.proofs.Anywhere.{found_anywhere, found_nowhere}
+use Rattle.search.proofs.Inwards.{lacking_more, holder_nobody, holder_none, holder_found}
+use Rattle.search.proofs.Anywhere.{found_nowhere}
 use Rattle.search.proofs.holders.find_holder.Goals as goal
 
 pub returns-then-cell-ge65536 : goal.returns-then-cell-ge65536
@@ -15,31 +15,31 @@ loop-depth-preserved c =
     let e = t.entries in
     let depth = c.loop-depth.depth in
     lacking_more e.slots e.words.now c.args.from c.args.cell depth c.loop-depth.auto.depth c.loop-depth.invariant
-    (found_nowhere e.slots e.words.now t.once depth c.args.cell _ (omega arith) c.key_of-key.ensures e.top c.start_at-start.result _ _ e.ends c.loop-i-test.false c.loop-j-test.false c.loop-i.invariant c.loop-j.invariant)
+    (found_nowhere e.slots e.words.now t.once depth c.args.cell _ (omega arith) c.of-key.ensures e.top c.start_at-start.result _ _ e.ends c.loop-i-test.false c.loop-j-test.false c.loop-i.invariant c.loop-j.invariant)
 
 pub returns-after-loop-depth : goal.returns-after-loop-depth
 returns-after-loop-depth c =
     let e = c.args.table.now.entries in
     sym (holder_nobody e.slots e.words.now c.args.from c.args.cell c.loop-depth.depth c.loop-depth.auto.depth (omega arith) c.loop-depth.invariant)
 
-pub returns-then-is_named : goal.returns-then-is_named
-returns-then-is_named c =
+pub returns-then-names : goal.returns-then-names
+returns-then-names c =
     let t = c.args.table.now in
     let e = t.entries in
-    let depth = c.loop-depth.depth in
     let i = c.loop-i.i in
     let within : i < e.slots = omega (arith, e.ends.0) in
-    let named : named_by c.key_of-key.result (word1 e.slots e.words.now i) ≡ true = ap (named_by _) (sym c.first_word.ensures) ∙ sym c.is_named.ensures ∙ c.if-is_named.true in
-    sym (holder_at e.slots e.words.now c.args.from c.args.cell depth i c.loop-depth.auto.depth (omega arith) c.loop-depth.invariant
-    (found_anywhere e.slots e.words.now t.once depth c.args.cell _ (omega arith) c.key_of-key.ensures i within named) within)
+    let named : named_by c.of-key.result.word (word1 e.slots e.words.now i) ≡ true = cc in
+    sym
+    (holder_found e.slots e.words.now c.args.from c.args.cell t.once c.requires c.loop-depth.depth i c.of-key.result.word c.loop-depth.auto.depth (omega arith)
+    c.loop-depth.invariant c.of-key.ensures within named)
 
-pub returns-then-is_named-2 : goal.returns-then-is_named-2
-returns-then-is_named-2 c =
+pub returns-then-names-2 : goal.returns-then-names-2
+returns-then-names-2 c =
     let t = c.args.table.now in
     let e = t.entries in
-    let depth = c.loop-depth.depth in
-    let i = c.loop-j.j in
-    let within : i < e.slots = omega (arith, e.ends.0) in
-    let named : named_by c.key_of-key.result (word1 e.slots e.words.now i) ≡ true = ap (named_by _) (sym c.first_word-in-loop-j.ensures) ∙ sym c.is_named-in-loop-j.ensures ∙ c.if-is_named-2.true in
-    sym (holder_at e.slots e.words.now c.args.from c.args.cell depth i c.loop-depth.auto.depth (omega arith) c.loop-depth.invariant
-    (found_anywhere e.slots e.words.now t.once depth c.args.cell _ (omega arith) c.key_of-key.ensures i within named) within)
+    let j = c.loop-j.j in
+    let within : j < e.slots = omega (arith, e.ends.0) in
+    let named : named_by c.of-key.result.word (word1 e.slots e.words.now j) ≡ true = cc in
+    sym
+    (holder_found e.slots e.words.now c.args.from c.args.cell t.once c.requires c.loop-depth.depth j c.of-key.result.word c.loop-depth.auto.depth (omega arith)
+    c.loop-depth.invariant c.of-key.ensures within named)

@@ -8,7 +8,7 @@ abbrev pub invariant-loop-depth : goal.invariant-loop-depth
 invariant-loop-depth l = Lacking l.entries.slots l.entries.words.now l.from l.cell (l.depth - l.from)
 
 abbrev pub invariant-loop-i : goal.invariant-loop-i
-invariant-loop-i l = Unnamed l.entries.slots l.entries.words.now l.key l.start l.i
+invariant-loop-i l = Unnamed l.entries.slots l.entries.words.now l.key.word l.start l.i
 
 abbrev pub invariant-loop-j : goal.invariant-loop-j
-invariant-loop-j l = Unnamed l.entries.slots l.entries.words.now l.key 0 l.j
+invariant-loop-j l = Unnamed l.entries.slots l.entries.words.now l.key.word 0 l.j

@@ -1,13 +1,14 @@
-use Rattle.std.proofs.Common.{◌≡◌, ℕ, Bool, true, false, rules}
-use Rattle.std.proofs.lemmas.Iterator.{first_from_Range}
-use borrow.Author.Tests.{tests}
+use Rattle.std.proofs.Common.{None, Some, not, ap, arith, ne_eqb}
 use Rattle.search.specs.Free.{unmarked, unmarked_from}
 use Rattle.search.proofs.From.{found_first}
 use Rattle.search.proofs.places.next_free_body.Goals as goal
 
+pub returns-then-used-k-ne1 : goal.returns-then-used-k-ne1
+unfolding unmarked_from
+returns-then-used-k-ne1 c =
+    let a = c.args in
+    found_first (unmarked a.used.now) a.from a.bodies (Some c.loop-k.k) c.requires.1 (c.loop-k.auto.k, c.loop-k-test.true, ap not (ne_eqb _ _ c.if-used-k-ne1.true), c.loop-k.invariant)
+
 pub returns : goal.returns
 unfolding unmarked_from
-returns c =
-    let f : ℕ → Bool = unmarked c.args.used.now in
-    found_first f c.args.from c.args.bodies c.find.result c.requires.1
-    (first_from_Range _ _ _ c.find.result (λ k. f k ≡ true) (λ k. f k ≡ false) c.find.ensures.ran (λ x q k. search (rules, tests)) (λ x q k. search (rules, tests)))
+returns c = let a = c.args in found_first (unmarked a.used.now) a.from a.bodies None c.requires.1 (λ k l h. c.loop-k.invariant k l (omega arith))

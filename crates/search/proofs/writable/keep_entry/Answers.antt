@@ -10,9 +10,6 @@ returns-then-depth_of-depth c = (keeps_same c.args.depth c.args.word c.args.seen
 pub mark_of-mark-requires : goal.mark_of-mark-requires
 mark_of-mark-requires c = rw (kept_cells c.args.seen.now c.requires.1) (omega (arith, c.cell_of-cell.ensures))
 
-pub overflow_sub-mark : goal.overflow_sub-mark
-overflow_sub-mark c = rw (c.taken_bit.ensures, c.mark_of-mark.ensures, c.cell_of-cell.ensures) c.requires.2
-
 pub returns : goal.returns
 returns c = let w = c.args.word in let s = c.args.seen.now in
     rw (c.change_mark.ensures, c.cell_of-cell.ensures) (keeps_stored c.args.depth w s c.requires.1 (c.requires.3 (sym c.depth_of.ensures ∙ c.if-depth_of-depth.false)) _ (rw (c.taken_bit.ensures, c.mark_of-mark.ensures, c.cell_of-cell.ensures)))

@@ -1,9 +1,6 @@
 use Rattle.std.proofs.Common.{◌≡◌, ℕ, ◌<◌, subst, arith}
-use Rattle.search.proofs.TakenOut.{TakenOut, kept_none, take_fits, marked_there, kept_more, kept_free, kept_end}
+use Rattle.search.proofs.TakenOut.{TakenOut, take_fits, marked_there, kept_more, kept_free, kept_end}
 use Rattle.search.proofs.writable.keep_writable.Goals as goal
-
-pub loop-i-init : goal.loop-i-init
-loop-i-init c = (kept_none _ _ _ _, c.requires.marked.0)
 
 pub keep_entry-requires : goal.keep_entry-requires
 keep_entry-requires c =
