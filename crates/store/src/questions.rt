@@ -1,13 +1,14 @@
 // The questions that several calls are put. Each answers nothing where the answer is yes, and the refusal of the first no.
-ghost use Rattle.std.specs.Prelude.{◌≡◌, ◌+◌, ◌<◌, ◌≤◌, min, length, IfOk, OnOk};
+ghost use Rattle.std.specs.Prelude.{◌≡◌, true, ◌+◌, ◌<◌, ◌≤◌, min, length, IfOk, OnOk};
 ghost use Rattle.words.specs.Layout.{cells_of, slots_of, max_live, handle_at};
+ghost use Rattle.words.specs.Journal.{pending};
 ghost use Rattle.table.specs.Entry.{live};
-ghost use Rattle.marks.specs.Blocks.{block_at, groups_for};
+ghost use Rattle.marks.specs.Blocks.{block_at, max_groups, groups_for};
 ghost use Rattle.table.specs.Marks.{Reached, RoomForMarks, AllMarked};
 ghost use Rattle.search.specs.Domain.{depth_named};
-ghost use Rattle.model.specs.Answer.{ended};
+ghost use Rattle.model.specs.Answer.{ask, ended};
 ghost use Rattle.model.specs.Holdings.{ask_range};
-ghost use Rattle.store.specs.Answer.{number_in, report};
+ghost use Rattle.store.specs.Answer.{question, number_in, report};
 ghost use Rattle.store.specs.Checks.{shape_check, idle_check, table_check, open_check, store_check, ask_live_in, ask_innermost_in, lent};
 ghost use Rattle.store.specs.Lent.{Passes, SoundOf};
 
@@ -18,20 +19,23 @@ use table::lent::{Entries, Sound};
 use table::{header_ok, idle_ok, lengths_ok, reach_of, table_ok};
 use words::layout::{LIVE_AT, MAX_BODIES, PENDING_AT, bodies_of, cells_of, slots_of};
 
+// One question: nothing where the answer is yes, and else this refusal.
+pub fn asked(yes: bool, why: Refusal) -> Result<(), Refusal>
+    ensures no { number_in result ≡ ask yes (question why) 0 }
+    ensures yes { OnOk result (yes ≡ true) }
+{
+    if yes { Ok(()) } else { Err(why) }
+}
+
 // ---- questions 1 to 4
 
 // Questions 1 and 2.
-#[tactic(auto, using(table::proofs::Checks::lengths_facts), unfolding(crate::specs::Checks::shape_check))]
+#[tactic(auto, using(crate::proofs::Refused::asking, table::proofs::Checks::lengths_facts), unfolding(crate::specs::Checks::shape_check))]
 fn shape_check(memory: usize, bodies: usize, table: &[u32]) -> Result<(), Refusal>
     ensures { number_in result ≡ shape_check (lent memory bodies table.now) }
 {
-    if !lengths_ok(memory, bodies, table.len()) {
-        return Err(Refusal::Lengths);
-    }
-    if !header_ok(memory, bodies, table) {
-        return Err(Refusal::NoStore);
-    }
-    Ok(())
+    asked(lengths_ok(memory, bodies, table.len()), Refusal::Lengths)?;
+    asked(header_ok(memory, bodies, table), Refusal::NoStore)
 }
 
 // Questions 1 to 3.
@@ -40,10 +44,35 @@ fn idle_check(memory: usize, bodies: usize, table: &[u32]) -> Result<(), Refusal
     ensures { number_in result ≡ idle_check (lent memory bodies table.now) }
 {
     shape_check(memory, bodies, table)?;
-    if table[PENDING_AT] != 0 {
-        return Err(Refusal::Pending);
+    asked(table[PENDING_AT] == 0, Refusal::Pending)
+}
+
+// Question 4, with room for marks. Where no pairs are pending, the marks of the table's entries are left there. Only pending pairs need a copy of the
+// table, so that a call which finds none has no room for it in its frame.
+#[tactic(auto, using(crate::proofs::Checks::shape_facts), unfolding(crate::specs::Checks::table_check))]
+fn table_marked(
+    memory: usize,
+    bodies: usize,
+    table: &[u32],
+    top: usize,
+    seen: &mut [u8],
+    used: &mut [u8],
+) -> Result<(), Refusal>
+    requires passed { shape_check (lent memory bodies table.now) ≡ 0 }
+    requires room { RoomForMarks table.now (cells_of memory) top seen.old used.old }
+    ensures no { number_in result ≡ table_check (lent memory bodies table.now) }
+    ensures marks { OnOk result (pending table.now ≡ 0 → AllMarked (slots_of (length table.now)) table.now seen.new used.new) }
+{
+    let cells = cells_of(memory);
+    let slots = slots_of(table.len());
+    let places = bodies_of(bodies);
+    if table[PENDING_AT] == 0 {
+        let right = idle_ok(table, cells, slots, top, places, seen, used);
+        asked(right, Refusal::Corrupt)
+    } else {
+        let right = table_ok(table, cells, slots, top, places, seen, used);
+        asked(right, Refusal::Corrupt)
     }
-    Ok(())
 }
 
 // How many bytes the marks of few blocks take, of some more, and of any memory.
@@ -53,8 +82,8 @@ const SOME_BYTES: usize = 18560;
 
 const MANY_BYTES: usize = 67712;
 
-// Question 4, with marks of its own. They come first and stay in a function of their own, so that its large frame is made where it begins: behind a
-// question, the compiler made it over a register in use.
+// The same with marks of its own. They come first, in a function that is taken into no other, so that its large frame is made where it begins: behind
+// a question, the compiler made it over a register in use.
 #[inline(never)]
 fn table_with<const BYTES: usize>(
     memory: usize,
@@ -64,19 +93,12 @@ fn table_with<const BYTES: usize>(
 ) -> Result<(), Refusal>
     requires passed { shape_check (lent memory bodies table.now) ≡ 0 }
     requires reached { Reached table.now top }
-    requires room { (block_at (min top (groups_for (cells_of memory)) + 1) ≤ BYTES) × (BYTES < 100000) }
+    requires room { (BYTES ≤ block_at (max_groups + 1)) × (block_at (min top (groups_for (cells_of memory)) + 1) ≤ BYTES) }
     ensures { number_in result ≡ table_check (lent memory bodies table.now) }
 {
     let mut seen = [0u8; BYTES];
     let mut used = [0u8; MAX_BODIES];
-    let cells = cells_of(memory);
-    let slots = slots_of(table.len());
-    let places = bodies_of(bodies);
-    if table_ok(table, cells, slots, top, places, &mut seen, &mut used) {
-        Ok(())
-    } else {
-        Err(Refusal::Corrupt)
-    }
+    table_marked(memory, bodies, table, top, &mut seen, &mut used)
 }
 
 // Question 4, with marks by how many entries there are to pass.
@@ -148,14 +170,8 @@ pub fn store_check<'a>(
     ensures marks { OnOk result (AllMarked (slots_of (length table.now)) table.now seen.new used.new) }
 {
     idle_check(memory, bodies, table)?;
-    let cells = cells_of(memory);
-    let slots = slots_of(table.len());
-    let places = bodies_of(bodies);
-    if idle_ok(table, cells, slots, top, places, seen, used) {
-        Ok(sound_of(table, top))
-    } else {
-        Err(Refusal::Corrupt)
-    }
+    table_marked(memory, bodies, table, top, seen, used)?;
+    Ok(sound_of(table, top))
 }
 
 // A table that questions 1 to 4 let pass, to search in.
@@ -196,10 +212,7 @@ pub fn innermost_check(table: &[u32], handle: u32) -> Result<(), Refusal>
     ensures inner { OnOk result ((depth_named table.now handle ≡ live table.now) × (1 ≤ live table.now)) }
 {
     let depth = live_check(table, handle)?;
-    if depth != table[LIVE_AT] {
-        return Err(Refusal::NotInnermost);
-    }
-    Ok(())
+    asked(depth == table[LIVE_AT], Refusal::NotInnermost)
 }
 
 // Question 8: at least one cell, and all of them in memory. No sum is made, since it could wrap.
@@ -207,10 +220,8 @@ pub fn range_check(cells: usize, first: usize, count: usize) -> Result<(), Refus
     ensures no { number_in result ≡ ask_range cells first count 0 }
     ensures within { OnOk result ((1 ≤ count) × (first + count ≤ cells)) }
 {
-    if count == 0 || cells < count || cells - count < first {
-        return Err(Refusal::Range);
-    }
-    Ok(())
+    let within = 1 <= count && count <= cells && first <= cells - count;
+    asked(within, Refusal::Range)
 }
 
 // ---- the answer
