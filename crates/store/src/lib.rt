@@ -16,9 +16,12 @@ ghost use Rattle.store.specs.Answer.{number_in};
 ghost use Rattle.store.specs.Checks.{open_check, store_check, ask_innermost_in, lent};
 
 pub mod answers;
+pub mod lent;
 pub mod questions;
 
 use answers::{Ended, Refusal};
+use lent::Lent;
+use table::reach_of;
 
 // old form: goes when its callers have gone over
 // What a call answers: the number of the question that refused it; or done, with its steps and, from create, the new handle; or stopped
@@ -64,7 +67,13 @@ pub fn store_check(
     ensures no { result ≡ store_check (lent memory bodies table.now) }
     ensures marks { result ≡ 0 → AllMarked (slots_of (length table.now)) table.now seen.new used.new }
 {
-    match questions::store_check(memory, bodies, table, top, seen, used) {
+    let lent = Lent {
+        memory,
+        bodies,
+        table,
+        top,
+    };
+    match lent.store_check(seen, used) {
         Ok(_) => 0,
         Err(why) => why.number(),
     }
@@ -74,14 +83,14 @@ pub fn store_check(
 pub fn open_check(memory: usize, bodies: usize, table: &[u32]) -> u32
     ensures { result ≡ open_check (lent memory bodies table.now) }
 {
-    number_of(questions::open_check(memory, bodies, table))
+    number_of(Lent::of(memory, bodies, table).open_check())
 }
 
 // old form: goes when its callers have gone over
 pub fn plain_check(memory: usize, bodies: usize, table: &[u32]) -> u32
     ensures { result ≡ store_check (lent memory bodies table.now) }
 {
-    number_of(questions::plain_check(memory, bodies, table))
+    reached_check(memory, bodies, table, reach_of(table))
 }
 
 // old form: goes when its callers have gone over
@@ -89,7 +98,13 @@ pub fn reached_check(memory: usize, bodies: usize, table: &[u32], top: usize) ->
     requires { Reached table.now top }
     ensures { result ≡ store_check (lent memory bodies table.now) }
 {
-    match questions::reached_check(memory, bodies, table, top) {
+    let lent = Lent {
+        memory,
+        bodies,
+        table,
+        top,
+    };
+    match lent.plain_check() {
         Ok(_) => 0,
         Err(why) => why.number(),
     }

@@ -1,7 +1,7 @@
--- `store::questions::table_marked` meets its contract. Assumes nothing.
+-- `store::lent::Lent::table_marked` meets its contract. Assumes nothing.
 use native.Mathlib.Omega.{arith}
 use Rattle.store.proofs.Checks.{shape_facts}
-use Rattle.store.proofs.questions.table_marked.Goals as goal
+use Rattle.store.proofs.lent.Lent.table_marked.Goals as goal
 
 pub idle_ok-right-requires-clause-sizes : goal.idle_ok-right-requires-clause-sizes
 idle_ok-right-requires-clause-sizes c =
