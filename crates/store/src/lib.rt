@@ -21,7 +21,6 @@ pub mod questions;
 
 use answers::{Ended, Refusal};
 use lent::Lent;
-use table::reach_of;
 
 // old form: goes when its callers have gone over
 // What a call answers: the number of the question that refused it; or done, with its steps and, from create, the new handle; or stopped
@@ -83,14 +82,14 @@ pub fn store_check(
 pub fn open_check(memory: usize, bodies: usize, table: &[u32]) -> u32
     ensures { result ≡ open_check (lent memory bodies table.now) }
 {
-    number_of(Lent::of(memory, bodies, table).open_check())
+    number_of(questions::open_check(memory, bodies, table))
 }
 
 // old form: goes when its callers have gone over
 pub fn plain_check(memory: usize, bodies: usize, table: &[u32]) -> u32
     ensures { result ≡ store_check (lent memory bodies table.now) }
 {
-    reached_check(memory, bodies, table, reach_of(table))
+    number_of(questions::plain_check(memory, bodies, table))
 }
 
 // old form: goes when its callers have gone over
@@ -104,7 +103,7 @@ pub fn reached_check(memory: usize, bodies: usize, table: &[u32], top: usize) ->
         table,
         top,
     };
-    match lent.plain_check() {
+    match lent.reached_check() {
         Ok(_) => 0,
         Err(why) => why.number(),
     }

@@ -9,7 +9,7 @@ ghost use Rattle.search.specs.Domain.{depth_named};
 ghost use Rattle.model.specs.Answer.{ask, ended};
 ghost use Rattle.model.specs.Holdings.{ask_range};
 ghost use Rattle.store.specs.Answer.{question, number_in, report};
-ghost use Rattle.store.specs.Checks.{shape_check, idle_check, table_check, open_check, store_check, ask_live_in, ask_innermost_in};
+ghost use Rattle.store.specs.Checks.{shape_check, idle_check, table_check, open_check, store_check, ask_live_in, ask_innermost_in, lent};
 ghost use Rattle.store.specs.Lent.{lent_by, SoundOf};
 
 use crate::answers::{Answer, Ended, Refusal};
@@ -125,18 +125,9 @@ impl<'a> Lent<'a> {
         }
     }
 
-    // The questions put to open.
-    #[tactic(auto, using(crate::proofs::Refused::asking), unfolding(crate::specs::Checks::open_check))]
-    pub fn open_check(&self) -> Result<(), Refusal>
-        ensures { number_in result ≡ open_check (lent_by self.now) }
-    {
-        self.shape_check()?;
-        self.table_check()
-    }
-
-    // The questions put to every call but make and open, of a call that needs no marks. It goes on with the table.
+    // The questions put to every call but make and open, of a call that needs no marks but goes on with the table.
     #[tactic(auto, using(crate::proofs::Refused::asking, crate::proofs::Checks::idle_facts, crate::proofs::Checks::store_parts))]
-    pub fn plain_check(&self) -> Result<Sound<'a>, Refusal>
+    pub fn reached_check(&self) -> Result<Sound<'a>, Refusal>
         ensures no { number_in result ≡ store_check (lent_by self.now) }
         ensures sound { IfOk result (SoundOf self.now.table.now self.now.top) }
     {
@@ -173,6 +164,25 @@ impl<'a> Lent<'a> {
             },
         }
     }
+}
+
+// The questions put to open.
+#[tactic(auto, using(crate::proofs::Refused::asking), unfolding(crate::specs::Checks::open_check))]
+pub fn open_check(memory: usize, bodies: usize, table: &[u32]) -> Result<(), Refusal>
+    ensures { number_in result ≡ open_check (lent memory bodies table.now) }
+{
+    let lent = Lent::of(memory, bodies, table);
+    lent.shape_check()?;
+    lent.table_check()
+}
+
+// The questions put to every call but make and open, of a call that neither needs marks nor searches.
+#[tactic(auto, using(crate::proofs::Refused::asking))]
+pub fn plain_check(memory: usize, bodies: usize, table: &[u32]) -> Result<(), Refusal>
+    ensures { number_in result ≡ store_check (lent memory bodies table.now) }
+{
+    Lent::of(memory, bodies, table).reached_check()?;
+    Ok(())
 }
 
 // ---- the questions behind these
