@@ -74,8 +74,24 @@ impl<'a> Lent<'a> {
         asked(self.table[PENDING_AT] == 0, Refusal::Pending)
     }
 
-    // Question 4, with room for marks. Where no pairs are pending, the marks of the table's entries are left there. Only pending pairs need a copy of
-    // the table, so that a call which finds none has no room for it in its frame.
+    // Question 4 of a table with pending pairs, of which a copy is made. It is taken into no other function, so that a call which finds none pending
+    // has no frame with room for the copy, and the frame is made where a function begins: behind a question, the compiler made it over a register in
+    // use.
+    #[inline(never)]
+    #[tactic(auto, using(crate::proofs::Checks::shape_facts), unfolding(crate::specs::Checks::table_check))]
+    fn pending_check(&self, seen: &mut [u8], used: &mut [u8]) -> Result<(), Refusal>
+        requires passed { shape_check (lent_by self.now) ≡ 0 }
+        requires room { RoomForMarks self.now.table.now (cells_of self.now.memory) self.now.top seen.old used.old }
+        ensures { number_in result ≡ table_check (lent_by self.now) }
+    {
+        let cells = cells_of(self.memory);
+        let slots = slots_of(self.table.len());
+        let places = bodies_of(self.bodies);
+        let right = table_ok(self.table, cells, slots, self.top, places, seen, used);
+        asked(right, Refusal::Corrupt)
+    }
+
+    // Question 4, with room for marks. Where no pairs are pending, the marks of the table's entries are left there.
     #[tactic(auto, using(crate::proofs::Checks::shape_facts), unfolding(crate::specs::Checks::table_check))]
     fn table_marked(&self, seen: &mut [u8], used: &mut [u8]) -> Result<(), Refusal>
         requires passed { shape_check (lent_by self.now) ≡ 0 }
@@ -84,20 +100,17 @@ impl<'a> Lent<'a> {
         ensures marks { OnOk result (pending self.now.table.now ≡ 0
             → AllMarked (slots_of (length self.now.table.now)) self.now.table.now seen.new used.new) }
     {
+        if self.table[PENDING_AT] != 0 {
+            return self.pending_check(seen, used);
+        }
         let cells = cells_of(self.memory);
         let slots = slots_of(self.table.len());
         let places = bodies_of(self.bodies);
-        if self.table[PENDING_AT] == 0 {
-            let right = idle_ok(self.table, cells, slots, self.top, places, seen, used);
-            asked(right, Refusal::Corrupt)
-        } else {
-            let right = table_ok(self.table, cells, slots, self.top, places, seen, used);
-            asked(right, Refusal::Corrupt)
-        }
+        let right = idle_ok(self.table, cells, slots, self.top, places, seen, used);
+        asked(right, Refusal::Corrupt)
     }
 
-    // The same with marks of its own. They come first, in a function that is taken into no other, so that its large frame is made where it begins:
-    // behind a question, the compiler made it over a register in use.
+    // The same with marks of its own. They come first, in a function that is taken into no other, for the same reason.
     #[inline(never)]
     fn table_with<const BYTES: usize>(&self) -> Result<(), Refusal>
         requires passed { shape_check (lent_by self.now) ≡ 0 }
