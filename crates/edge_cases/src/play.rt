@@ -21,8 +21,8 @@ enum Style {
     InLine,
 }
 
-// The store that is played, the one that was kept and the one that the whole call left; the shape of the store and what is lent of it; the next call's
-// budget, and a sweep's; and the line that is being printed.
+// The store that is played, the one that was kept and the one that the whole call left; the shape of the store and what is lent of it; the next
+// call's budget, and a sweep's; and the line that is being printed.
 #[derive(Drop)]
 pub struct Player {
     now: Buffers,
@@ -86,8 +86,12 @@ impl Player {
                 self.tell(Act::Set(word, value))?;
                 self.tell(Act::Probe)
             }
-            Act::Lend(lengths) => {
-                self.lend(lengths)?;
+            Act::Lend(memory, bodies, words) => {
+                self.lend(Lengths {
+                    memory,
+                    bodies,
+                    words,
+                })?;
                 self.tell(Act::Make)?;
                 self.tell(Act::List)
             }
