@@ -10,7 +10,7 @@ pub enum Act {
     Open,
     Create,
     Add(u32, Cells, Kind, Label),
-    AddRanges(u32, &'static [Range]),
+    AddRanges(u32, &'static [Listed]),
     Delete(u32, Cells),
     Advance(u32),
     Commit(u32),
@@ -19,17 +19,17 @@ pub enum Act {
     // Nine calls in a row, all but make.
     Probe,
 
-    // ---- what a program does: it fills a cell with a byte, with four bytes that it repeats, or with 0 to 63; or the byte of the cell at a place becomes
-    // another; damage is a word of the table, that becomes another
+    // ---- what a program does: it fills a cell with a byte, with four bytes that it repeats, or with 0 to 63; or the byte of the cell at a place
+    // becomes another; damage is a word of the table that becomes another
     Write(u32, u8),
     Repeat(u32, [u8; 4]),
     Rise(u32),
     Byte(u32, u32, u8),
     Set(u32, u32),
 
-    // ---- what is read: list, and look with a handle and a cell; memory and what each live domain holds; whether the store is the one that was kept or
-    // the one that the whole call left; whether memory, or the bodies, have as many bytes of the whole call as there were steps, up to so many, and else
-    // those that were kept
+    // ---- what is read: list, and look with a handle and a cell; memory and what each live domain holds; whether the store is the one that was kept
+    // or the one that the whole call left; whether memory, or the bodies, have as many bytes of the whole call as there were steps, up to so many,
+    // and else those that were kept
     List,
     Look(u32, u32),
     State,
@@ -37,20 +37,22 @@ pub enum Act {
     PutBack(usize),
     Stored(usize),
 
-    // ---- stores: a fresh one; the store is kept, or kept as what the whole call leaves; the one that was kept, or that the whole call left, comes back
+    // ---- stores: a fresh one; the store is kept, or kept as what the whole call leaves; the one that was kept, or that the whole call left, comes
+    // back
     Fresh(Shape),
     Keep,
     Whole,
     Back,
     After,
 
-    // ---- the next call has a budget of so many steps, or the sweep's; so much of the buffers is lent, with a make and a list
+    // ---- the next call has a budget of so many steps, or the sweep's; so many bytes of memory, bytes of bodies and words of the table are lent,
+    // with a make and a list
     Cut(usize),
     CutBySweep,
-    Lend(Lengths),
+    Lend(usize, usize, usize),
 
-    // ---- a line of text. A case takes the store that was kept first, and its acts stand in one line after its text; harm is a case in which a word of
-    // the table becomes another, and then nine calls
+    // ---- a line of text. A case takes the store that was kept first, and its acts stand in one line after its text; harm is a case in which a word
+    // of the table becomes another, and then nine calls
     Text(&'static str),
     Case(&'static str),
     Harm(&'static str, u32, u32),
@@ -64,7 +66,9 @@ pub enum Act {
 #[derive(Clone, Copy, PartialEq, Eq, Debug)]
 pub struct Cells(pub u32, pub u32);
 
-// How a range is held: the three kinds, of which a rule alone has a number; and any other pair of a kind's number and a rule's.
+// How a range is held: the three kinds, of which a rule alone has a number.
+//
+// stays: any other pair of a kind's number and a rule's, and any other label, is a case with its numbers, since add has to refuse them too.
 #[derive(Clone, Copy, PartialEq, Eq, Debug)]
 pub enum Kind {
     Copied,
@@ -80,13 +84,11 @@ pub enum Label {
     OtherLabel(u32),
 }
 
-// What an add asks for, and how often that stands in a list.
+// A range of a list, and how often it stands there.
 #[derive(Clone, Copy, PartialEq, Eq, Debug)]
-pub struct Range {
-    pub times: u32,
-    pub cells: Cells,
-    pub kind: Kind,
-    pub label: Label,
+pub enum Listed {
+    Once(Cells, Kind, Label),
+    Times(u32, Cells, Kind, Label),
 }
 
 // A fresh store: how many cells, entries and bodies it has, and the bytes of the first four cells; the others are as these four in turn.
@@ -196,7 +198,7 @@ impl fmt::Display for Act {
                 write!(f, "{name}, handle {handle}, {cells}, {kind}, {label}")
             }
             Act::AddRanges(handle, ranges) => {
-                write!(f, "{name}, handle {handle}{}", Listed(ranges))
+                write!(f, "{name}, handle {handle}{}", List(ranges))
             }
             Act::Delete(handle, cells) => write!(f, "{name}, handle {handle}, {cells}"),
             Act::Advance(handle) | Act::Commit(handle) | Act::Restore(handle) => {
@@ -217,23 +219,25 @@ impl fmt::Display for Act {
 
 // The ranges of a list, each in brackets.
 #[derive(Clone, Copy)]
-struct Listed<'a>(&'a [Range]);
+struct List<'a>(&'a [Listed]);
 
-impl fmt::Display for Listed<'_> {
+impl fmt::Display for List<'_> {
     fn fmt<W: fmt::Write>(&self, f: &mut fmt::Formatter<W>) -> fmt::Result {
-        for range in self.0 {
-            write!(f, " ({range})")?;
+        for listed in self.0 {
+            write!(f, " ({listed})")?;
         }
         Ok(())
     }
 }
 
-impl fmt::Display for Range {
+impl fmt::Display for Listed {
     fn fmt<W: fmt::Write>(&self, f: &mut fmt::Formatter<W>) -> fmt::Result {
-        if self.times != 1 {
-            write!(f, "{} times ", self.times)?;
+        match self {
+            Listed::Once(cells, kind, label) => write!(f, "{cells}, {kind}, {label}"),
+            Listed::Times(times, cells, kind, label) => {
+                write!(f, "{times} times {cells}, {kind}, {label}")
+            }
         }
-        write!(f, "{}, {}, {}", self.cells, self.kind, self.label)
     }
 }
 

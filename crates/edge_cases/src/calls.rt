@@ -1,5 +1,5 @@
 // The calls into the store, over buffers that are lent to it, and what they answer.
-use crate::acts::{Act, Cells, Range};
+use crate::acts::{Act, Cells, Kind, Label, Listed};
 
 // The number of the question that refuses a call.
 pub type Refusal = u32;
@@ -42,7 +42,7 @@ pub struct Look<'a> {
     pub answer: Result<Shown, Refusal>,
 }
 
-// ---- what the store's crates answer, as it is told here
+// ---- what the store's crates answer, as it is told here; this goes when they answer so themselves
 
 fn answer_of(answer: store::Answer) -> Answer {
     match answer {
@@ -127,16 +127,11 @@ impl Lent<'_> {
             Act::Commit(handle) => commit::commit(memory, bodies, table, handle, budget),
             Act::Restore(handle) => restore::restore(memory, bodies, table, handle, budget),
             Act::Add(handle, cells, kind, label) => {
-                let range = Range {
-                    times: 1,
-                    cells,
-                    kind,
-                    label,
-                };
+                let range = range_of(cells, kind, label);
                 add(memory, bodies, table, handle, range, budget)
             }
-            Act::AddRanges(handle, ranges) => {
-                let batch = batch_of(ranges);
+            Act::AddRanges(handle, list) => {
+                let batch = batch_of(list);
                 add::add_batch(memory, bodies, table, handle, batch, budget)
             }
             _ => return read(memory, bodies, table, act),
@@ -164,18 +159,16 @@ fn read(memory: &[u8], bodies: &[u8], table: &[u32], act: Act) -> Option<Answer>
 }
 
 // A range as an add takes it.
-impl From<Range> for ranges::Range {
-    fn from(range: Range) -> ranges::Range {
-        let Cells(first, count) = range.cells;
-        let (kind, rule) = range.kind.numbers();
-        let label = range.label.number();
-        ranges::Range {
-            first,
-            count,
-            kind,
-            rule,
-            label,
-        }
+fn range_of(cells: Cells, kind: Kind, label: Label) -> ranges::Range {
+    let Cells(first, count) = cells;
+    let (kind, rule) = kind.numbers();
+    let label = label.number();
+    ranges::Range {
+        first,
+        count,
+        kind,
+        rule,
+        label,
     }
 }
 
@@ -184,7 +177,7 @@ fn add(
     bodies: &mut [u8],
     table: &mut [u32],
     handle: u32,
-    range: Range,
+    range: ranges::Range,
     budget: usize,
 ) -> store::Answer {
     let ranges::Range {
@@ -193,33 +186,38 @@ fn add(
         kind,
         rule,
         label,
-    } = range.into();
+    } = range;
     add::add(
         memory, bodies, table, handle, first, count, kind, rule, label, budget,
     )
 }
 
-// The ranges are gathered here into such a batch as `add_ranges` and the C function make of theirs, each as often as it stands in its list. These two are
-// tried from C and from Rust.
-fn batch_of(ranges: &[Range]) -> ranges::Batch {
+// The ranges are gathered here into such a batch as `add_ranges` and the C function make of theirs. These two are tried from C and from Rust.
+fn batch_of(list: &[Listed]) -> ranges::Batch {
     let mut batch = ranges::no_batch();
-    for range in ranges {
-        batch = kept(batch, (*range).into(), range.times);
+    for listed in list {
+        batch = match *listed {
+            Listed::Once(cells, kind, label) => kept(batch, range_of(cells, kind, label), 1),
+            Listed::Times(times, cells, kind, label) => {
+                kept(batch, range_of(cells, kind, label), times)
+            }
+        };
     }
     batch
 }
 
+// A range as often as it stands in its list.
 fn kept(batch: ranges::Batch, range: ranges::Range, times: u32) -> ranges::Batch {
+    let ranges::Range {
+        first,
+        count,
+        kind,
+        rule,
+        label,
+    } = range;
     let mut next = batch;
     for _ in 0..times {
-        next = ranges::keep(
-            next,
-            range.first,
-            range.count,
-            range.kind,
-            range.rule,
-            range.label,
-        );
+        next = ranges::keep(next, first, count, kind, rule, label);
     }
     next
 }

@@ -2,28 +2,9 @@
 use crate::acts::Act::*;
 use crate::acts::Kind::*;
 use crate::acts::Label::*;
-use crate::acts::{Act, Cells, EDGE, Lengths, SEVENS, Shape};
+use crate::acts::{Act, Cells, EDGE, SEVENS, Shape};
 use crate::play::Player;
 use std::fmt;
-
-// Lengths with m = 1, B = 1 and E = 1, but for the one that varies.
-const TABLES: Lengths = Lengths {
-    memory: 64,
-    bodies: 64,
-    words: 0,
-};
-
-const MEMORIES: Lengths = Lengths {
-    memory: 0,
-    bodies: 64,
-    words: 42,
-};
-
-const BODY_RUNS: Lengths = Lengths {
-    memory: 64,
-    bodies: 0,
-    words: 42,
-};
 
 const EDGES: &[Act] = &[
     Text(
@@ -186,82 +167,32 @@ const EDGES: &[Act] = &[
     Create,
     Create,
     List,
+    // lengths with m = 1, B = 1 and E = 1, but for the one that varies
     Text(
         "115 Table lengths: E = 1 is 42 words, E = 4,096 is 24,612; 41 and 24,613 give 1. The other two buffers have one cell and one body.",
     ),
-    Lend(TABLES),
-    Lend(Lengths {
-        words: 35,
-        ..TABLES
-    }),
-    Lend(Lengths {
-        words: 36,
-        ..TABLES
-    }),
-    Lend(Lengths {
-        words: 41,
-        ..TABLES
-    }),
-    Lend(Lengths {
-        words: 42,
-        ..TABLES
-    }),
-    Lend(Lengths {
-        words: 43,
-        ..TABLES
-    }),
-    Lend(Lengths {
-        words: 24612,
-        ..TABLES
-    }),
-    Lend(Lengths {
-        words: 24613,
-        ..TABLES
-    }),
-    Lend(Lengths {
-        words: 24618,
-        ..TABLES
-    }),
+    Lend(64, 64, 0),
+    Lend(64, 64, 35),
+    Lend(64, 64, 36),
+    Lend(64, 64, 41),
+    Lend(64, 64, 42),
+    Lend(64, 64, 43),
+    Lend(64, 64, 24612),
+    Lend(64, 64, 24613),
+    Lend(64, 64, 24618),
     Text("116 Memory of 64m bytes, m from 1 to 65,536."),
-    Lend(MEMORIES),
-    Lend(Lengths {
-        memory: 63,
-        ..MEMORIES
-    }),
-    Lend(Lengths {
-        memory: 64,
-        ..MEMORIES
-    }),
-    Lend(Lengths {
-        memory: 65,
-        ..MEMORIES
-    }),
-    Lend(Lengths {
-        memory: 128,
-        ..MEMORIES
-    }),
+    Lend(0, 64, 42),
+    Lend(63, 64, 42),
+    Lend(64, 64, 42),
+    Lend(65, 64, 42),
+    Lend(128, 64, 42),
     Text("117 Bodies of 64B bytes, B from 1 to 4,096."),
-    Lend(BODY_RUNS),
-    Lend(Lengths {
-        bodies: 63,
-        ..BODY_RUNS
-    }),
-    Lend(Lengths {
-        bodies: 64,
-        ..BODY_RUNS
-    }),
-    Lend(Lengths {
-        bodies: 65,
-        ..BODY_RUNS
-    }),
-    Lend(Lengths {
-        bodies: 262144,
-        ..BODY_RUNS
-    }),
-    Lend(Lengths {
-        bodies: 262208,
-        ..BODY_RUNS
-    }),
+    Lend(64, 0, 42),
+    Lend(64, 63, 42),
+    Lend(64, 64, 42),
+    Lend(64, 65, 42),
+    Lend(64, 262144, 42),
+    Lend(64, 262208, 42),
 ];
 
 pub fn show(player: &mut Player) -> fmt::Result {

@@ -1,396 +1,199 @@
 // The lists of section 900.
 use crate::acts::Kind::*;
 use crate::acts::Label::*;
-use crate::acts::{Cells, Range};
+use crate::acts::Listed::*;
+use crate::acts::{Cells, Listed};
 
 // Cell 0, 1 and so on; both of the first two; five of nine, and the other four with one of these.
-const CELL_0: Range = Range {
-    times: 1,
-    cells: Cells(0, 1),
-    kind: Copied,
-    label: ReadOnly,
-};
+const CELL_0: Cells = Cells(0, 1);
 
-const CELL_1: Range = Range {
-    cells: Cells(1, 1),
-    ..CELL_0
-};
+const CELL_1: Cells = Cells(1, 1);
 
-const CELL_2: Range = Range {
-    cells: Cells(2, 1),
-    ..CELL_0
-};
+const CELL_2: Cells = Cells(2, 1);
 
-const CELL_3: Range = Range {
-    cells: Cells(3, 1),
-    ..CELL_0
-};
+const CELL_3: Cells = Cells(3, 1);
 
-const BOTH: Range = Range {
-    cells: Cells(0, 2),
-    ..CELL_0
-};
+const BOTH: Cells = Cells(0, 2);
 
-const FIVE: Range = Range {
-    cells: Cells(0, 5),
-    ..CELL_0
-};
+const FIVE: Cells = Cells(0, 5);
 
-const FOUR_MORE: Range = Range {
-    cells: Cells(4, 5),
-    ..CELL_0
-};
+const FOUR_MORE: Cells = Cells(4, 5);
 
-pub const NONE: &[Range] = &[];
+pub const NONE: &[Listed] = &[];
 
-pub const ONE: &[Range] = &[Range {
-    cells: Cells(1, 2),
-    label: ReadWrite,
-    ..CELL_1
-}];
+pub const ONE: &[Listed] = &[Once(Cells(1, 2), Copied, ReadWrite)];
 
 // 64 ranges, 65, 65 of a kind that there is not, and 320.
-pub const FULL: &[Range] = &[
-    Range {
-        times: 63,
-        ..CELL_0
-    },
-    Range {
-        label: ReadWrite,
-        ..CELL_1
-    },
+pub const FULL: &[Listed] = &[
+    Times(63, CELL_0, Copied, ReadOnly),
+    Once(CELL_1, Copied, ReadWrite),
 ];
 
-pub const OVER: &[Range] = &[
-    Range {
-        times: 64,
-        ..CELL_0
-    },
-    Range {
-        label: ReadWrite,
-        ..CELL_1
-    },
+pub const OVER: &[Listed] = &[
+    Times(64, CELL_0, Copied, ReadOnly),
+    Once(CELL_1, Copied, ReadWrite),
 ];
 
-pub const OVER_KIND: &[Range] = &[Range {
-    times: 65,
-    kind: OtherKind(3, 0),
-    ..CELL_0
-}];
+pub const OVER_KIND: &[Listed] = &[Times(65, CELL_0, OtherKind(3, 0), ReadOnly)];
 
-pub const LONG: &[Range] = &[
-    Range {
-        times: 254,
-        ..CELL_0
-    },
-    Range {
-        times: 66,
-        ..CELL_1
-    },
+pub const LONG: &[Listed] = &[
+    Times(254, CELL_0, Copied, ReadOnly),
+    Times(66, CELL_1, Copied, ReadOnly),
 ];
 
 // Cell 0 by copy and by rule: raised by the second range, or read-write by the first.
-pub const COPY_RAISED: &[Range] = &[
-    CELL_0,
-    Range {
-        kind: ByRule(0),
-        label: ReadWrite,
-        ..CELL_0
-    },
+pub const COPY_RAISED: &[Listed] = &[
+    Once(CELL_0, Copied, ReadOnly),
+    Once(CELL_0, ByRule(0), ReadWrite),
 ];
 
-pub const RULE_RAISED: &[Range] = &[
-    Range {
-        kind: ByRule(0),
-        ..CELL_0
-    },
-    Range {
-        label: ReadWrite,
-        ..CELL_0
-    },
+pub const RULE_RAISED: &[Listed] = &[
+    Once(CELL_0, ByRule(0), ReadOnly),
+    Once(CELL_0, Copied, ReadWrite),
 ];
 
-pub const COPY_FIRST: &[Range] = &[
-    Range {
-        label: ReadWrite,
-        ..CELL_0
-    },
-    Range {
-        kind: ByRule(0),
-        ..CELL_0
-    },
+pub const COPY_FIRST: &[Listed] = &[
+    Once(CELL_0, Copied, ReadWrite),
+    Once(CELL_0, ByRule(0), ReadOnly),
 ];
 
-pub const RULE_FIRST: &[Range] = &[
-    Range {
-        kind: ByRule(0),
-        label: ReadWrite,
-        ..CELL_0
-    },
-    CELL_0,
+pub const RULE_FIRST: &[Listed] = &[
+    Once(CELL_0, ByRule(0), ReadWrite),
+    Once(CELL_0, Copied, ReadOnly),
 ];
 
 // Cell 1, which is not as by rule 0.
-pub const UNLIKE_LATER: &[Range] = &[
-    CELL_1,
-    Range {
-        kind: ByRule(0),
-        label: ReadWrite,
-        ..BOTH
-    },
+pub const UNLIKE_LATER: &[Listed] = &[
+    Once(CELL_1, Copied, ReadOnly),
+    Once(BOTH, ByRule(0), ReadWrite),
 ];
 
-pub const UNLIKE_FIRST: &[Range] = &[
-    Range {
-        kind: ByRule(0),
-        ..CELL_1
-    },
-    CELL_1,
+pub const UNLIKE_FIRST: &[Listed] = &[
+    Once(CELL_1, ByRule(0), ReadOnly),
+    Once(CELL_1, Copied, ReadOnly),
 ];
 
-pub const NO_RULE: &[Range] = &[
-    CELL_1,
-    Range {
-        kind: ByRule(4),
-        ..CELL_1
-    },
+pub const NO_RULE: &[Listed] = &[
+    Once(CELL_1, Copied, ReadOnly),
+    Once(CELL_1, ByRule(4), ReadOnly),
 ];
 
 // Via parent first, and after a copy of each cell or of one.
-pub const VIA_FIRST: &[Range] = &[
-    Range {
-        kind: ViaParent,
-        ..CELL_0
-    },
-    Range {
-        label: ReadWrite,
-        ..CELL_0
-    },
+pub const VIA_FIRST: &[Listed] = &[
+    Once(CELL_0, ViaParent, ReadOnly),
+    Once(CELL_0, Copied, ReadWrite),
 ];
 
-pub const VIA_LATER: &[Range] = &[
-    CELL_0,
-    Range {
-        kind: ViaParent,
-        label: ReadWrite,
-        ..CELL_0
-    },
+pub const VIA_LATER: &[Listed] = &[
+    Once(CELL_0, Copied, ReadOnly),
+    Once(CELL_0, ViaParent, ReadWrite),
 ];
 
-pub const VIA_HALF: &[Range] = &[
-    CELL_0,
-    Range {
-        kind: ViaParent,
-        ..BOTH
-    },
+pub const VIA_HALF: &[Listed] = &[
+    Once(CELL_0, Copied, ReadOnly),
+    Once(BOTH, ViaParent, ReadOnly),
 ];
 
-pub const VIA_BOTH: &[Range] = &[
-    BOTH,
-    Range {
-        kind: ViaParent,
-        label: ReadWrite,
-        ..BOTH
-    },
+pub const VIA_BOTH: &[Listed] = &[
+    Once(BOTH, Copied, ReadOnly),
+    Once(BOTH, ViaParent, ReadWrite),
 ];
 
-pub const LAST_OUT: &[Range] = &[
-    Range {
-        label: ReadWrite,
-        ..CELL_0
-    },
-    Range {
-        label: ReadWrite,
-        ..CELL_3
-    },
-    Range {
-        cells: Cells(4, 1),
-        ..CELL_3
-    },
+pub const LAST_OUT: &[Listed] = &[
+    Once(CELL_0, Copied, ReadWrite),
+    Once(CELL_3, Copied, ReadWrite),
+    Once(Cells(4, 1), Copied, ReadOnly),
 ];
 
-pub const VIA_KIND: &[Range] = &[
-    Range {
-        kind: ViaParent,
-        ..CELL_0
-    },
-    Range {
-        kind: OtherKind(3, 0),
-        ..CELL_0
-    },
+pub const VIA_KIND: &[Listed] = &[
+    Once(CELL_0, ViaParent, ReadOnly),
+    Once(CELL_0, OtherKind(3, 0), ReadOnly),
 ];
 
-pub const KIND_VIA: &[Range] = &[
-    Range {
-        kind: OtherKind(3, 0),
-        ..CELL_0
-    },
-    Range {
-        kind: ViaParent,
-        ..CELL_0
-    },
+pub const KIND_VIA: &[Listed] = &[
+    Once(CELL_0, OtherKind(3, 0), ReadOnly),
+    Once(CELL_0, ViaParent, ReadOnly),
 ];
 
 // Three new cells, all by copy or one first by rule; and two, with one that is held.
-pub const THREE: &[Range] = &[CELL_0, CELL_1, CELL_2];
-
-pub const THREE_RULED: &[Range] = &[
-    CELL_0,
-    CELL_1,
-    Range {
-        kind: ByRule(0),
-        ..CELL_2
-    },
-    CELL_2,
+pub const THREE: &[Listed] = &[
+    Once(CELL_0, Copied, ReadOnly),
+    Once(CELL_1, Copied, ReadOnly),
+    Once(CELL_2, Copied, ReadOnly),
 ];
 
-pub const TWO_HELD: &[Range] = &[
-    BOTH,
-    Range {
-        label: ReadWrite,
-        ..CELL_1
-    },
-    Range {
-        label: ReadWrite,
-        ..CELL_3
-    },
+pub const THREE_RULED: &[Listed] = &[
+    Once(CELL_0, Copied, ReadOnly),
+    Once(CELL_1, Copied, ReadOnly),
+    Once(CELL_2, ByRule(0), ReadOnly),
+    Once(CELL_2, Copied, ReadOnly),
 ];
 
-pub const FALLING: &[Range] = &[
-    CELL_3,
-    Range {
-        cells: Cells(1, 2),
-        label: ReadWrite,
-        ..CELL_1
-    },
-    BOTH,
+pub const TWO_HELD: &[Listed] = &[
+    Once(BOTH, Copied, ReadOnly),
+    Once(CELL_1, Copied, ReadWrite),
+    Once(CELL_3, Copied, ReadWrite),
+];
+
+pub const FALLING: &[Listed] = &[
+    Once(CELL_3, Copied, ReadOnly),
+    Once(Cells(1, 2), Copied, ReadWrite),
+    Once(BOTH, Copied, ReadOnly),
 ];
 
 // Nine cells, and then a range with this number as its answer.
-pub const NINE_7: &[Range] = &[
-    FIVE,
-    FOUR_MORE,
-    Range {
-        kind: OtherKind(3, 0),
-        ..CELL_0
-    },
+pub const NINE_7: &[Listed] = &[
+    Once(FIVE, Copied, ReadOnly),
+    Once(FOUR_MORE, Copied, ReadOnly),
+    Once(CELL_0, OtherKind(3, 0), ReadOnly),
 ];
 
-pub const NINE_11: &[Range] = &[
-    FIVE,
-    FOUR_MORE,
-    Range {
-        cells: Cells(10, 1),
-        kind: ViaParent,
-        ..CELL_0
-    },
+pub const NINE_11: &[Listed] = &[
+    Once(FIVE, Copied, ReadOnly),
+    Once(FOUR_MORE, Copied, ReadOnly),
+    Once(Cells(10, 1), ViaParent, ReadOnly),
 ];
 
-pub const NINE_12: &[Range] = &[
-    FIVE,
-    FOUR_MORE,
-    Range {
-        cells: Cells(9, 1),
-        kind: ViaParent,
-        ..CELL_0
-    },
+pub const NINE_12: &[Listed] = &[
+    Once(FIVE, Copied, ReadOnly),
+    Once(FOUR_MORE, Copied, ReadOnly),
+    Once(Cells(9, 1), ViaParent, ReadOnly),
 ];
 
-pub const NINE_18: &[Range] = &[
-    FIVE,
-    FOUR_MORE,
-    Range {
-        cells: Cells(9, 1),
-        kind: ByRule(0),
-        ..CELL_0
-    },
+pub const NINE_18: &[Listed] = &[
+    Once(FIVE, Copied, ReadOnly),
+    Once(FOUR_MORE, Copied, ReadOnly),
+    Once(Cells(9, 1), ByRule(0), ReadOnly),
 ];
 
-pub const NINE_19: &[Range] = &[
-    FIVE,
-    FOUR_MORE,
-    Range {
-        cells: Cells(11, 1),
-        kind: ViaParent,
-        ..CELL_0
-    },
+pub const NINE_19: &[Listed] = &[
+    Once(FIVE, Copied, ReadOnly),
+    Once(FOUR_MORE, Copied, ReadOnly),
+    Once(Cells(11, 1), ViaParent, ReadOnly),
 ];
 
-pub const NINE_16: &[Range] = &[
-    FIVE,
-    FOUR_MORE,
-    Range {
-        cells: Cells(8, 1),
-        kind: ViaParent,
-        label: ReadWrite,
-        ..CELL_0
-    },
-    Range {
-        cells: Cells(0, 9),
-        kind: ByRule(0),
-        ..CELL_0
-    },
+pub const NINE_16: &[Listed] = &[
+    Once(FIVE, Copied, ReadOnly),
+    Once(FOUR_MORE, Copied, ReadOnly),
+    Once(Cells(8, 1), ViaParent, ReadWrite),
+    Once(Cells(0, 9), ByRule(0), ReadOnly),
 ];
 
-pub const RAISED_TWICE: &[Range] = &[
-    Range {
-        label: ReadWrite,
-        ..CELL_0
-    },
-    Range {
-        kind: ViaParent,
-        label: ReadWrite,
-        ..BOTH
-    },
-    CELL_2,
-    Range {
-        label: ReadWrite,
-        ..CELL_2
-    },
+pub const RAISED_TWICE: &[Listed] = &[
+    Once(CELL_0, Copied, ReadWrite),
+    Once(BOTH, ViaParent, ReadWrite),
+    Once(CELL_2, Copied, ReadOnly),
+    Once(CELL_2, Copied, ReadWrite),
 ];
 
-pub const TILE: &[Range] = &[
-    Range {
-        cells: Cells(14, 1),
-        label: ReadWrite,
-        ..CELL_0
-    },
-    Range {
-        cells: Cells(2, 2),
-        kind: ViaParent,
-        ..CELL_2
-    },
-    Range {
-        kind: ByRule(0),
-        ..CELL_1
-    },
-    Range {
-        cells: Cells(5, 1),
-        kind: ByRule(0),
-        label: ReadWrite,
-        ..CELL_0
-    },
-    Range {
-        cells: Cells(9, 1),
-        kind: ByRule(0),
-        ..CELL_0
-    },
-    Range {
-        cells: Cells(7, 2),
-        ..CELL_0
-    },
-    Range {
-        label: ReadWrite,
-        ..CELL_0
-    },
-    Range {
-        cells: Cells(12, 1),
-        ..CELL_0
-    },
-    Range {
-        cells: Cells(13, 1),
-        kind: ByRule(0),
-        label: ReadWrite,
-        ..CELL_0
-    },
+pub const TILE: &[Listed] = &[
+    Once(Cells(14, 1), Copied, ReadWrite),
+    Once(Cells(2, 2), ViaParent, ReadOnly),
+    Once(CELL_1, ByRule(0), ReadOnly),
+    Once(Cells(5, 1), ByRule(0), ReadWrite),
+    Once(Cells(9, 1), ByRule(0), ReadOnly),
+    Once(Cells(7, 2), Copied, ReadOnly),
+    Once(CELL_0, Copied, ReadWrite),
+    Once(Cells(12, 1), Copied, ReadOnly),
+    Once(Cells(13, 1), ByRule(0), ReadWrite),
 ];

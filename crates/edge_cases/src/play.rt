@@ -21,8 +21,8 @@ enum Style {
     InLine,
 }
 
-// The store that is played, the one that was kept and the one that the whole call left; the shape of the store and what is lent of it; the next call's
-// budget, and a sweep's; and the line that is being printed.
+// The store that is played, the one that was kept and the one that the whole call left; the shape of the store and what is lent of it; the next
+// call's budget, and a sweep's; and the line that is being printed.
 #[derive(Drop)]
 pub struct Player {
     now: Buffers,
@@ -86,8 +86,12 @@ impl Player {
                 self.tell(Act::Set(word, value))?;
                 self.tell(Act::Probe)
             }
-            Act::Lend(lengths) => {
-                self.lend(lengths)?;
+            Act::Lend(memory, bodies, words) => {
+                self.lend(Lengths {
+                    memory,
+                    bodies,
+                    words,
+                })?;
                 self.tell(Act::Make)?;
                 self.tell(Act::List)
             }
@@ -184,7 +188,9 @@ impl Player {
             Act::Rise(cell) => self.now.rise(cell),
             Act::Byte(cell, place, byte) => self.now.write_byte(cell, place, byte),
             Act::Set(word, value) => self.now.set_word(word, value),
-            Act::List | Act::Look(..) | Act::State => return self.read(act),
+            Act::List => return self.tell_list(),
+            Act::Look(handle, cell) => return self.tell_look(handle, cell),
+            Act::State => return self.tell_state(),
             Act::Same | Act::PutBack(_) | Act::Stored(_) => return self.compare(act),
             Act::Probe => return self.probe(),
             _ => return self.call(act),
@@ -192,19 +198,22 @@ impl Player {
         write!(self.line, "{act}")
     }
 
-    fn read(&mut self, act: Act) -> fmt::Result {
-        let seen = self.now.seen(self.lent);
-        match act {
-            Act::Look(handle, cell) => {
-                let look = seen.look(handle, cell);
-                write!(self.line, "{act}: {look}")
-            }
-            Act::List => match seen.list() {
-                Ok(listing) => write!(self.line, "{listing}"),
-                Err(question) => write!(self.line, "list refused with {question}"),
-            },
-            _ => write!(self.line, "{seen}"),
+    fn tell_list(&mut self) -> fmt::Result {
+        match self.now.seen(self.lent).list() {
+            Ok(listing) => write!(self.line, "{listing}"),
+            Err(question) => write!(self.line, "list refused with {question}"),
         }
+    }
+
+    fn tell_look(&mut self, handle: u32, cell: u32) -> fmt::Result {
+        let act = Act::Look(handle, cell);
+        let look = self.now.seen(self.lent).look(handle, cell);
+        write!(self.line, "{act}: {look}")
+    }
+
+    fn tell_state(&mut self) -> fmt::Result {
+        let seen = self.now.seen(self.lent);
+        write!(self.line, "{seen}")
     }
 
     fn compare(&mut self, act: Act) -> fmt::Result {

@@ -4,16 +4,9 @@
 use crate::acts::Act::*;
 use crate::acts::Kind::*;
 use crate::acts::Label::*;
-use crate::acts::{Act, Cells, Lengths, SEVENS, Shape};
+use crate::acts::{Act, Cells, SEVENS, Shape};
 use crate::play::Player;
 use std::fmt;
-
-// Bodies of 512 bytes.
-const LENT: Lengths = Lengths {
-    memory: 0,
-    bodies: 512,
-    words: 0,
-};
 
 const DAMAGES: &[Act] = &[
     Text(
@@ -33,24 +26,11 @@ const DAMAGES: &[Act] = &[
     Text(
         "510 Question 1, the lengths: the table lent a word short, memory and bodies lent a byte short",
     ),
-    Lend(Lengths {
-        memory: 256,
-        words: 83,
-        ..LENT
-    }),
+    Lend(256, 512, 83),
     Probe,
-    Lend(Lengths {
-        memory: 255,
-        words: 84,
-        ..LENT
-    }),
+    Lend(255, 512, 84),
     Probe,
-    Lend(Lengths {
-        memory: 256,
-        bodies: 511,
-        words: 84,
-        ..LENT
-    }),
+    Lend(256, 511, 84),
     Probe,
     Text("520 Question 2, words 0 to 3 and 7"),
     Harm("521 Word 0 is 0", 0, 0),

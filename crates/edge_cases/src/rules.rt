@@ -3,7 +3,7 @@
 use crate::acts::Act::*;
 use crate::acts::Kind::*;
 use crate::acts::Label::*;
-use crate::acts::{Act, Cells, EDGE, FOUR, Kind, Lengths, ONES, SEVENS, Shape, TWOS};
+use crate::acts::{Act, Cells, EDGE, FOUR, Kind, ONES, SEVENS, Shape, TWOS};
 use crate::play::Player;
 use std::fmt;
 
@@ -204,11 +204,7 @@ const RULES: &[Act] = &[
     Text(
         "711 m = E = 8 and B = 1, with eight cells by rule 3. A new one needs no body; in an advance each that is read-write and changed does",
     ),
-    Lend(Lengths {
-        memory: 512,
-        bodies: 64,
-        words: 84,
-    }),
+    Lend(512, 64, 84),
     Repeat(0, ONES),
     Repeat(1, ONES),
     Repeat(2, ONES),

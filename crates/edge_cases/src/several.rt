@@ -3,7 +3,7 @@
 use crate::acts::Act::*;
 use crate::acts::Kind::*;
 use crate::acts::Label::*;
-use crate::acts::{Act, Cells, EDGE, Lengths, SEVENS, Shape};
+use crate::acts::{Act, Cells, EDGE, SEVENS, Shape};
 use crate::lists::*;
 use crate::play::Player;
 use std::fmt;
@@ -38,11 +38,7 @@ const THREE_BOTH: Shape = Shape {
 };
 
 // m = 12 and E = B = 8.
-const TWELVE: Lengths = Lengths {
-    memory: 768,
-    bodies: 512,
-    words: 84,
-};
+const TWELVE: Act = Lend(768, 512, 84);
 
 // m = E = 16, and every fourth cell is as by rule 0.
 const TILED: Shape = Shape {
@@ -261,7 +257,7 @@ const RANGES: &[Act] = &[
         "913 m = 12 and E = B = 8. 1 holds cell 9 as 7, where memory has 9, and cell 11 by rule 0:",
     ),
     Fresh(SEVENS),
-    Lend(TWELVE),
+    TWELVE,
     Write(11, 0),
     Create,
     Add(0, Cells(9, 1), Copied, ReadOnly),
