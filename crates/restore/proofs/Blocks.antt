@@ -1,17 +1,13 @@
 -- Laws of bytes put back part by part. Assumes nothing.
 use Prim.Native.Nat.{ℕ, ◌+◌, ◌-◌, ◌≤◌}
-use mathlib.Core.List.{List, [], ◌++◌}
-use mathlib.Core.Path.{◌≡◌, refl, sym, ap, subst, ◌∙◌}
+use mathlib.Core.List.{List, ◌++◌}
+use mathlib.Core.Path.{◌≡◌, sym, ap, subst, ◌∙◌}
 use native.Mathlib.Omega.{arith}
 use lib.ListN.{length, take, length-append}
 use Rattle.words.specs.Stores.{Store, store, stores, gather}
 use Rattle.words.proofs.Gather.{gather_more, gather_split}
-use Rattle.words.proofs.Plans.{run_take_append, stores_none}
+use Rattle.words.proofs.Plans.{run_take_append}
 use Rattle.restore.specs.Parts.{PutBack}
-
--- before the first part
-pub put_nothing : (k : ℕ) (memory : List ℕ) → PutBack [] 0 k memory 0 memory
-put_nothing k memory = record { made = refl; few = omega arith; stored = stores_none k memory }
 
 -- one part more, on what remains of the budget
 pub put_more : {ps bs : List Store} {n o k r s : ℕ} {m u v : List ℕ} → PutBack ps n k m r u → PutBack bs o (k - r) u s v → PutBack (ps ++ bs) (n + o) k m (r + s) v

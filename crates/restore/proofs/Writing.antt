@@ -18,13 +18,7 @@ use Rattle.restore.proofs.Counting.{words_none, words_some}
 
 -- ---- the head
 
--- the number of live domains
-pub head_first : (d : ℕ) (start hs : List Store) → start ≡ [] → hs ≡ start ++ (live_at ≔ d) ∷ [] → hs ≡ head_words d d
-head_first d start hs z q =
-    let nothing : d - d ≡ 0 = omega arith in
-    q ∙ ap (λ (ws : List Store). ws ++ (live_at ≔ d) ∷ []) z ∙ ap (λ (n : ℕ). (live_at ≔ d) ∷ tab n (λ k. handle_at (d + k) ≔ 0)) (sym nothing)
-
--- and then the handles that leave: k is the next domain
+-- one more of the handles that leave: k is the next domain
 pub head_turn : (d k w : ℕ) (hs more : List Store) → d ≤ k → w ≡ handle_at k → hs ≡ head_words d k → more ≡ hs ++ (w ≔ 0) ∷ [] → more ≡ head_words d (k + 1)
 head_turn d k w hs more l word q r =
     let f : ℕ → Store = λ j. handle_at (d + j) ≔ 0 in

@@ -123,10 +123,10 @@ impl<'a, const N: usize> Holdings<'a, N> {
     // Puts a cell back where it is held, at most budget bytes of it, and gives how many bytes that is uncut. `held` has the domains that hold it,
     // so that the search begins at the first of them and looks for no other's entry.
     fn put_held(&self, memory: &mut [u8], cell: usize, held: u8, budget: usize) -> usize
-        requires { (cell < self.now.cells) × (cells_of (length memory.old) ≡ self.now.cells)
-            × Holders self.now.table.now.entries.slots self.now.table.now.entries.words.now self.now.depth cell held }
-        ensures { PutBack (back_plan self.now.table.now.entries.slots self.now.table.now.entries.words.now self.now.depth self.now.bodies.now cell) 1
-            budget memory.old result memory.new }
+        requires { let t = self.now.table.now.entries in
+            (cell < self.now.cells) × (cells_of (length memory.old) ≡ self.now.cells) × Holders t.slots t.words.now self.now.depth cell held }
+        ensures { let t = self.now.table.now.entries in
+            PutBack (back_plan t.slots t.words.now self.now.depth self.now.bodies.now cell) 1 budget memory.old result memory.new }
     {
         if held == 0 {
             return 0;
@@ -141,9 +141,8 @@ impl<'a, const N: usize> Holdings<'a, N> {
     // Puts back the held cells of run r, in their order, and gives how many bytes that is uncut.
     fn put_run(&self, memory: &mut [u8], r: usize, budget: usize) -> usize
         requires { (run_size * r < self.now.cells) × (cells_of (length memory.old) ≡ self.now.cells) }
-        ensures { let n = min run_size (self.now.cells - run_size * r) in
-            PutBack (group_plan self.now.table.now.entries.slots self.now.table.now.entries.words.now self.now.depth self.now.bodies.now (run_size * r) n) n
-            budget memory.old result memory.new }
+        ensures { let t = self.now.table.now.entries in let n = min run_size (self.now.cells - run_size * r) in
+            PutBack (group_plan t.slots t.words.now self.now.depth self.now.bodies.now (run_size * r) n) n budget memory.old result memory.new }
     {
         let from = RUN_SIZE * r;
         let mut rest = run_held(self.seen, from, spread_mask(self.mask));
@@ -163,8 +162,8 @@ impl<'a, const N: usize> Holdings<'a, N> {
     // Puts back every held cell, in the order of the cells, and gives how many bytes that is uncut.
     fn put_back(&self, memory: &mut [u8], budget: usize) -> usize
         requires { cells_of (length memory.old) ≡ self.now.cells }
-        ensures { PutBack (gather self.now.cells (back_plan self.now.table.now.entries.slots self.now.table.now.entries.words.now self.now.depth self.now.bodies.now))
-            max_cells budget memory.old result memory.new }
+        ensures { let t = self.now.table.now.entries in
+            PutBack (gather self.now.cells (back_plan t.slots t.words.now self.now.depth self.now.bodies.now)) max_cells budget memory.old result memory.new }
     {
         let runs = self.cells.div_ceil(RUN_SIZE);
         let mut bytes: usize = 0;
@@ -187,10 +186,10 @@ fn memory_with<const N: usize>(
     budget: usize,
 ) -> usize
     requires sizes { (N ≤ MANY_NOTES) × (1 ≤ depth) × (depth ≤ max_live) × (cells_of (length memory.old) ≤ max_cells) }
-    requires right { rule_ok (cells_of (length memory.old)) table.now.entries.slots (bodies_of (length bodies.now)) table.now.entries.words.now ≡ true }
-    requires marks { Kept seen.now × Marked table.now.entries.slots table.now.entries.words.now table.now.entries.slots seen.now }
-    ensures { PutBack (gather (cells_of (length memory.old)) (back_plan table.now.entries.slots table.now.entries.words.now depth bodies.now)) max_cells
-        budget memory.old result memory.new }
+    requires right { let t = table.now.entries in rule_ok (cells_of (length memory.old)) t.slots (bodies_of (length bodies.now)) t.words.now ≡ true }
+    requires marks { let t = table.now.entries in Kept seen.now × Marked t.slots t.words.now t.slots seen.now }
+    ensures { let t = table.now.entries in
+        PutBack (gather (cells_of (length memory.old)) (back_plan t.slots t.words.now depth bodies.now)) max_cells budget memory.old result memory.new }
 {
     let held = Holdings {
         table,
@@ -214,10 +213,10 @@ pub fn put_memory(
     budget: usize,
 ) -> usize
     requires sizes { (1 ≤ depth) × (depth ≤ max_live) × (cells_of (length memory.old) ≤ max_cells) }
-    requires right { rule_ok (cells_of (length memory.old)) table.now.entries.slots (bodies_of (length bodies.now)) table.now.entries.words.now ≡ true }
-    requires marks { Kept seen.now × Marked table.now.entries.slots table.now.entries.words.now table.now.entries.slots seen.now }
-    ensures { PutBack (gather (cells_of (length memory.old)) (back_plan table.now.entries.slots table.now.entries.words.now depth bodies.now)) max_cells
-        budget memory.old result memory.new }
+    requires right { let t = table.now.entries in rule_ok (cells_of (length memory.old)) t.slots (bodies_of (length bodies.now)) t.words.now ≡ true }
+    requires marks { let t = table.now.entries in Kept seen.now × Marked t.slots t.words.now t.slots seen.now }
+    ensures { let t = table.now.entries in
+        PutBack (gather (cells_of (length memory.old)) (back_plan t.slots t.words.now depth bodies.now)) max_cells budget memory.old result memory.new }
 {
     if table.entries.top <= FEW_SLOTS {
         memory_with::<FEW_NOTES>(memory, bodies, table, depth, seen, budget)
