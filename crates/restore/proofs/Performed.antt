@@ -4,7 +4,6 @@ use mathlib.Core.Bool.{true}
 use mathlib.Core.List.{List}
 use mathlib.Core.Path.{◌≡◌, sym, ◌∙◌}
 use Rattle.std.specs.Prelude.{Result, IsErrAnd}
-use Rattle.std.proofs.lemmas.Result.{err_from_is_err_and}
 use lib.ListN.{length, take}
 use Rattle.changes.specs.Staged.{Journaled}
 use Rattle.words.specs.Layout.{cells_of, bodies_of, slots_of, pairs_at}
@@ -22,7 +21,7 @@ use Rattle.store.specs.Outcome.{buffers, outcome, leaves}
 use Rattle.store.specs.Checks.{store_check, ask_live_in, lent}
 use Rattle.store.proofs.Outcome.{refuses}
 use Rattle.store.proofs.Raw.{check_rule}
-use Rattle.store.proofs.Refused.{question_no}
+use Rattle.store.proofs.Refused.{question_no, answer_refused}
 use Rattle.restore.specs.Restore.{restore_check, restore_bytes, restore_words, restore_call}
 use Rattle.restore.specs.Parts.{PutBack}
 use Rattle.restore.proofs.Plan.{plan_performed}
@@ -46,8 +45,7 @@ module _ (m b t : List ℕ) (h k : ℕ) where
     refused_by : question why ≡ restore_check (lent (length m) (length b) t) h → leaves (report r) (buffers m b t) ≡ outcome (restore_call h (buffers m b t)) k (buffers m b t)
     unfolding restore_call
     refused_by q =
-        let p = err_from_is_err_and r back in
-        rw (p.1, p.2) (refuses (question why) (restore_check (lent (length m) (length b) t) h) _ k (buffers m b t) q (question_no why))
+        answer_refused r why back (refuses (question why) (restore_check (lent (length m) (length b) t) h) _ k (buffers m b t) q (question_no why))
 
     -- by questions 1 to 4
     pub refused_before : question why ≡ store_check (lent (length m) (length b) t) → leaves (report r) (buffers m b t) ≡ outcome (restore_call h (buffers m b t)) k (buffers m b t)

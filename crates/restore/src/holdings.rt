@@ -6,14 +6,15 @@ ghost use Rattle.std.specs.Prelude.{◌≡◌, true, ℕ, ◌+◌, ◌-◌, ◌*
 ghost use Rattle.words.specs.Layout.{cell_at, cells_of, bodies_of, max_slots, max_live, max_cells, cell_size};
 ghost use Rattle.words.specs.Stores.{stores, gather};
 ghost use Rattle.words.specs.Cells.{cell_plan};
-ghost use Rattle.marks.specs.Blocks.{Kept, run_size, run_of};
+ghost use Rattle.marks.specs.Blocks.{run_size, run_of};
 ghost use Rattle.table.specs.Marks.{Marked};
 ghost use Rattle.table.specs.Rule.{rule_ok};
 ghost use Rattle.search.specs.Holders.{value_bytes, BodyWithin};
 ghost use Rattle.restore.specs.Marks.{inwards, Holders, FirstDepth, Tells, Unheld};
 ghost use Rattle.restore.specs.Parts.{back_plan, group_plan, PutBack};
 
-use marks::{RUN_SIZE, past_blank, run_held, spread_mask};
+use marks::lent::Marks;
+use marks::{RUN_SIZE, spread_mask};
 use patterns::pattern_bytes;
 use search::holders::{Value, find_value};
 use search::notes::{FEW_NOTES, MANY_NOTES, Notes};
@@ -41,30 +42,33 @@ fn first_depth(held: u8) -> u32
 }
 
 // Where a group begins, passes over runs of groups without a block: most of a large memory's.
-fn past_groups(seen: &[u8], from: usize, runs: usize) -> usize
-    requires { (from ≤ runs) × (runs ≤ run_of max_cells) × Kept seen.now }
-    ensures { (mask : ℕ) → Unheld mask seen.now from runs result }
+fn past_groups(marks: &Marks<'_>, from: usize, runs: usize) -> usize
+    requires { (from ≤ runs) × (runs ≤ run_of max_cells) }
+    ensures { (mask : ℕ) → Unheld mask marks.now.directory.seen.now from runs result }
 {
     if from % RUN_SIZE != 0 {
         return from;
     }
-    let g = past_blank(seen, from / RUN_SIZE, runs.div_ceil(RUN_SIZE));
+    let g = marks
+        .directory
+        .past_blank(from / RUN_SIZE, runs.div_ceil(RUN_SIZE));
     (RUN_SIZE * g).min(runs)
 }
 
 // The first run of cells from `from` on that has one to be put back. It is a loop of its own, so that its numbers stay in registers.
-fn next_held(seen: &[u8], from: usize, runs: usize, mask: u8) -> Option<usize>
-    requires { (from ≤ runs) × (runs ≤ run_of max_cells) × Kept seen.now }
-    ensures { MatchOption result (Unheld mask seen.now from runs runs) (λ r. (r < runs) × Unheld mask seen.now from runs r) }
+fn next_held(marks: &Marks<'_>, from: usize, runs: usize, mask: u8) -> Option<usize>
+    requires { (from ≤ runs) × (runs ≤ run_of max_cells) }
+    ensures { let seen = marks.now.directory.seen.now in
+        MatchOption result (Unheld mask seen from runs runs) (λ r. (r < runs) × Unheld mask seen from runs r) }
 {
     let masks = spread_mask(mask);
-    let mut r = past_groups(seen, from, runs);
+    let mut r = past_groups(marks, from, runs);
     // stays: the next run is not the next number but where `past_groups` ends.
     while r < runs {
-        if run_held(seen, RUN_SIZE * r, masks) != 0 {
+        if marks.run_held(RUN_SIZE * r, masks) != 0 {
             return Some(r);
         }
-        r = past_groups(seen, r + 1, runs);
+        r = past_groups(marks, r + 1, runs);
     }
     None
 }
@@ -107,7 +111,7 @@ struct Holdings<'a, const N: usize> {
     table: &'a Sound<'a>,
     bodies: &'a [u8],
     notes: &'a Notes<N>,
-    seen: &'a [u8],
+    marks: &'a Marks<'a>,
     mask: u8,
     depth: u32,
     cells: usize,
@@ -115,8 +119,7 @@ struct Holdings<'a, const N: usize> {
     ghost few: { cells ≤ max_cells },
     ghost deep: { 1 ≤ depth },
     ghost right: { rule_ok cells table.now.entries.slots (bodies_of (length bodies.now)) table.now.entries.words.now ≡ true },
-    ghost kept: { Kept seen.now },
-    ghost told: { Tells table.now.entries.slots table.now.entries.words.now depth mask seen.now },
+    ghost told: { Tells table.now.entries.slots table.now.entries.words.now depth mask marks.now.directory.seen.now },
 }
 
 impl<'a, const N: usize> Holdings<'a, N> {
@@ -145,7 +148,7 @@ impl<'a, const N: usize> Holdings<'a, N> {
             PutBack (group_plan t.slots t.words.now self.now.depth self.now.bodies.now (run_size * r) n) n budget memory.old result memory.new }
     {
         let from = RUN_SIZE * r;
-        let mut rest = run_held(self.seen, from, spread_mask(self.mask));
+        let mut rest = self.marks.run_held(from, spread_mask(self.mask));
         let mut bytes: usize = 0;
         for j in 0..RUN_SIZE.min(self.cells - from) {
             bytes += self.put_held(
@@ -168,7 +171,7 @@ impl<'a, const N: usize> Holdings<'a, N> {
         let runs = self.cells.div_ceil(RUN_SIZE);
         let mut bytes: usize = 0;
         let mut from: usize = 0;
-        while let Some(r) = next_held(self.seen, from, runs, self.mask) {
+        while let Some(r) = next_held(self.marks, from, runs, self.mask) {
             bytes += self.put_run(memory, r, budget.saturating_sub(bytes));
             from = r + 1;
         }
@@ -182,12 +185,12 @@ fn memory_with<const N: usize>(
     bodies: &[u8],
     table: &Sound<'_>,
     depth: u32,
-    seen: &[u8],
+    marks: &Marks<'_>,
     budget: usize,
 ) -> usize
     requires sizes { (N ≤ MANY_NOTES) × (1 ≤ depth) × (depth ≤ max_live) × (cells_of (length memory.old) ≤ max_cells) }
     requires right { let t = table.now.entries in rule_ok (cells_of (length memory.old)) t.slots (bodies_of (length bodies.now)) t.words.now ≡ true }
-    requires marks { let t = table.now.entries in Kept seen.now × Marked t.slots t.words.now t.slots seen.now }
+    requires marks { let t = table.now.entries in Marked t.slots t.words.now t.slots marks.now.directory.seen.now }
     ensures { let t = table.now.entries in
         PutBack (gather (cells_of (length memory.old)) (back_plan t.slots t.words.now depth bodies.now)) max_cells budget memory.old result memory.new }
 {
@@ -195,7 +198,7 @@ fn memory_with<const N: usize>(
         table,
         bodies,
         notes: &Notes::<N>::of(&table.entries),
-        seen,
+        marks,
         mask: inwards_of(depth),
         depth,
         cells: cells_of(memory.len()),
@@ -209,18 +212,18 @@ pub fn put_memory(
     bodies: &[u8],
     table: &Sound<'_>,
     depth: u32,
-    seen: &[u8],
+    marks: &Marks<'_>,
     budget: usize,
 ) -> usize
     requires sizes { (1 ≤ depth) × (depth ≤ max_live) × (cells_of (length memory.old) ≤ max_cells) }
     requires right { let t = table.now.entries in rule_ok (cells_of (length memory.old)) t.slots (bodies_of (length bodies.now)) t.words.now ≡ true }
-    requires marks { let t = table.now.entries in Kept seen.now × Marked t.slots t.words.now t.slots seen.now }
+    requires marks { let t = table.now.entries in Marked t.slots t.words.now t.slots marks.now.directory.seen.now }
     ensures { let t = table.now.entries in
         PutBack (gather (cells_of (length memory.old)) (back_plan t.slots t.words.now depth bodies.now)) max_cells budget memory.old result memory.new }
 {
     if table.entries.top <= FEW_SLOTS {
-        memory_with::<FEW_NOTES>(memory, bodies, table, depth, seen, budget)
+        memory_with::<FEW_NOTES>(memory, bodies, table, depth, marks, budget)
     } else {
-        memory_with::<MANY_NOTES>(memory, bodies, table, depth, seen, budget)
+        memory_with::<MANY_NOTES>(memory, bodies, table, depth, marks, budget)
     }
 }

@@ -25,7 +25,8 @@ use changes::head_words::Head;
 use changes::staged::{FEW_BITS, FEW_WORDS, MANY_BITS, MANY_WORDS, Staged};
 use changes::writer::write_staged;
 use holdings::put_memory;
-use marks::{FEW_BLOCKS, SOME_BLOCKS, blocks_wanted};
+use marks::lent::{Directory, Marks};
+use marks::{FEW_BLOCKS, FEW_BYTES, MANY_BYTES, SOME_BLOCKS, SOME_BYTES, blocks_wanted};
 use store::answers::Answer;
 use store::questions::{answer_of, live_check, store_check};
 use table::domains::is_inside;
@@ -116,13 +117,6 @@ fn end_domains(table: &mut [u32], top: usize, depth: u32, budget: usize) -> usiz
 
 // ---- the call
 
-// How many bytes the marks of few blocks take, of some more, and of any memory.
-const FEW_BYTES: usize = 6272;
-
-const SOME_BYTES: usize = 18560;
-
-const MANY_BYTES: usize = 67712;
-
 // Restore with marks of its own in so many bytes: the questions leave them made, and the cells are put back by them.
 fn restore_with<const BYTES: usize>(
     memory: &mut [u8],
@@ -141,7 +135,10 @@ fn restore_with<const BYTES: usize>(
     let mut used = [0u8; MAX_BODIES];
     let sound = store_check(memory.len(), bodies.len(), table, top, &mut seen, &mut used)?;
     let depth = live_check(sound.entries.words, handle)?;
-    let bytes = put_memory(memory, bodies, &sound, depth, &seen, budget);
+    let marks = Marks {
+        directory: Directory { seen: &seen },
+    };
+    let bytes = put_memory(memory, bodies, &sound, depth, &marks, budget);
     let words = end_domains(table, top, depth, budget.saturating_sub(bytes));
     answer_of(bytes + words, 0, budget)
 }

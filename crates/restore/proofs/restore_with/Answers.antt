@@ -4,12 +4,10 @@ use lib.ListN.{length-replicate}
 use Rattle.words.specs.Layout.{cells_of, max_cells}
 use Rattle.marks.proofs.Blocks.{blank_zeros}
 use Rattle.table.specs.Marks.{zeros}
-use Rattle.search.proofs.Domain.{depth_small}
 use Rattle.store.proofs.Checks.{store_lengths}
 use Rattle.store.proofs.Checked.{checked_ends}
 use Rattle.restore.proofs.Blocks.{put_as}
 use Rattle.restore.proofs.Finding.{bytes_are}
-use Rattle.restore.proofs.Restored.{asked_low}
 use Rattle.restore.proofs.Performed.{rule_passed, restore_passed, refused_before, refused_domain, restore_performed}
 use Rattle.restore.proofs.restore_with.Goals as goal
 
@@ -32,11 +30,9 @@ returns-in_err-depth g c =
 
 pub put_memory-bytes-requires-clause-sizes : goal.put_memory-bytes-requires-clause-sizes
 put_memory-bytes-requires-clause-sizes g c =
-    let t = c.in_ok-sound.sound.entries.words.now in
-    let h = c.args.handle in
     let f = store_lengths _ _ _ (sym c.in_ok-sound.ensures.no) in
     let named = c.in_ok-depth.ensures.depth in
-    (omega (arith, named, asked_low t h (sym c.in_ok-depth.ensures.no)), omega (arith, named, depth_small t h), f.cells_high)
+    (named.1, omega (arith, named), f.cells_high)
 
 pub put_memory-bytes-requires-clause-right : goal.put_memory-bytes-requires-clause-right
 put_memory-bytes-requires-clause-right g c = let s = c.in_ok-sound.ensures.sound in rw (s.words, s.slots) (rule_passed _ _ _ (sym c.in_ok-sound.ensures.no))
@@ -49,7 +45,7 @@ end_domains-words-requires g c =
     let f = store_lengths _ _ t yes in
     let named = rw s.words at c.in_ok-depth.ensures.depth in
     let few = rw s.words at c.in_ok-sound.sound.domains in
-    (f.slots_high, f.table_exact, checked_ends _ _ t yes c.args.top c.requires.reached, omega (arith, named, depth_small t c.args.handle), few)
+    (f.slots_high, f.table_exact, checked_ends _ _ t yes c.args.top c.requires.reached, named.2, few)
 
 pub returns : goal.returns
 returns g c =
@@ -58,4 +54,4 @@ returns g c =
     let s = c.in_ok-sound.ensures.sound in
     let passed = restore_passed _ _ t a.handle c.in_ok-sound.ensures.no (rw s.words at c.in_ok-depth.ensures.no) in
     let put = put_as {o = max_cells} (bytes_are (cells_of _) c.in_ok-depth.depth _ a.bodies.now _ t s.words s.slots) (omega arith) c.put_memory-bytes.ensures in
-    restore_performed a.memory.now a.bodies.now t a.handle a.budget _ _ _ _ _ _ _ _ passed (rw s.words at c.in_ok-depth.ensures.depth) put c.saturating_sub.ensures c.end_domains-words.ensures c.answer_of.ensures
+    restore_performed a.memory.now a.bodies.now t a.handle a.budget _ _ _ _ _ _ _ _ passed (rw s.words at c.in_ok-depth.ensures.depth).0 put c.saturating_sub.ensures c.end_domains-words.ensures c.answer_of.ensures

@@ -12,6 +12,5 @@ invariant_of-held g c =
       few = omega arith;
       deep = omega arith;
       right = rw c.cells_of.ensures c.requires.right;
-      kept = c.requires.marks.0;
-      told = rw c.inwards_of.ensures (marks_tell e.slots e.words.now a.depth c.requires.sizes.1 c.requires.sizes.2 a.seen.now c.requires.marks.1);
+      told = rw c.inwards_of.ensures (marks_tell e.slots e.words.now a.depth c.requires.sizes.1 c.requires.sizes.2 a.marks.now.directory.seen.now c.requires.marks);
     }

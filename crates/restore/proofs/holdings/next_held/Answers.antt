@@ -14,5 +14,5 @@ loop-r-smaller c = omega (arith, (c.past_groups-r-in-loop-r.ensures c.args.mask)
 pub loop-r-preserved : goal.loop-r-preserved
 loop-r-preserved c = let a = c.args in let s = c.loop-r in
     let small : a.mask < 256 = omega arith in
-    let none = run_none a.seen.now a.mask (8 * s.r) 8 (sym (c.run_held.ensures a.mask small c.spread_mask-masks.ensures) ∙ c.if-run_held-ne0.false) in
-    unheld_more a.mask a.seen.now _ _ s.r _ s.invariant none (c.past_groups-r-in-loop-r.ensures a.mask)
+    let none = run_none a.marks.now.directory.seen.now a.mask (8 * s.r) 8 (sym (c.run_held.ensures a.mask small c.spread_mask-masks.ensures) ∙ c.if-run_held-ne0.false) in
+    unheld_more a.mask a.marks.now.directory.seen.now _ _ s.r _ s.invariant none (c.past_groups-r-in-loop-r.ensures a.mask)

@@ -11,5 +11,5 @@ abbrev pub invariant-loop-j : goal.invariant-loop-j
 invariant-loop-j g l = record {
   long : length l.memory ≡ length l.initial.memory;
   put : PutBack (group_plan l.self.table.now.entries.slots l.self.table.now.entries.words.now l.self.depth l.self.bodies.now l.from l.j) l.j l.budget l.initial.memory l.bytes l.memory;
-  rest : l.rest ≡ run_held l.self.seen.now l.self.mask (l.from + l.j) (8 - l.j);
+  rest : l.rest ≡ run_held l.self.marks.now.directory.seen.now l.self.mask (l.from + l.j) (8 - l.j);
 }
