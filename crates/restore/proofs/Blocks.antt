@@ -1,18 +1,31 @@
--- Laws of lists gathered block by block. Assumes nothing.
-use Prim.Native.Nat.{ℕ, ◌+◌, ◌-◌}
-use mathlib.Core.List.{List}
-use mathlib.Core.Path.{◌≡◌, sym, ◌∙◌}
+-- Laws of bytes put back part by part. Assumes nothing.
+use Prim.Native.Nat.{ℕ, ◌+◌, ◌-◌, ◌≤◌}
+use mathlib.Core.List.{List, ◌++◌}
+use mathlib.Core.Path.{◌≡◌, sym, ap, subst, ◌∙◌}
+use native.Mathlib.Omega.{arith}
 use lib.ListN.{length, take, length-append}
-use Rattle.words.specs.Stores.{gather, run}
-use Rattle.words.proofs.Gather.{gather_split}
+use Rattle.words.specs.Stores.{Store, store, stores, gather}
+use Rattle.words.proofs.Gather.{gather_more, gather_split}
 use Rattle.words.proofs.Plans.{run_take_append}
+use Rattle.restore.specs.Parts.{PutBack}
 
-module _ {A : Type 0} (f : ℕ → List A) where
-  pub block_length : (a n made r : ℕ) → made ≡ length (gather a f) → r ≡ length (gather n (λ j. f (a + j))) → made + r ≡ length (gather (a + n) f)
-  block_length a n made r e h = rw (gather_split f a n, length-append, e, h)
+-- one part more, on what remains of the budget
+pub put_more : {ps bs : List Store} {n o k r s : ℕ} {m u v : List ℕ} → PutBack ps n k m r u → PutBack bs o (k - r) u s v → PutBack (ps ++ bs) (n + o) k m (r + s) v
+put_more {ps} {bs} {n} {o} {k} {r} {s} {m} {u} {v} p q = record {
+  made = rw (length-append, p.made, q.made);
+  few = omega (arith, p.few, q.few);
+  stored = q.stored ∙ rw (p.stored, p.made) (sym (run_take_append store k ps bs m));
+}
 
-  -- a turn of a loop that carries out what a block asks, on what remains of the budget
-  pub block_turn : {S : Type 0} (g : A → S → S) (k a n made : ℕ) (s s₁ s₂ : S) → made ≡ length (gather a f) → s₁ ≡ run g (take k (gather a f)) s
-      → s₂ ≡ run g (take (k - made) (gather n (λ j. f (a + j)))) s₁ → s₂ ≡ run g (take k (gather (a + n) f)) s
-  block_turn g k a n made s s₁ s₂ m e₁ e₂ =
-      e₂ ∙ rw (e₁, m, gather_split f a n) (sym (run_take_append g k (gather a f) (gather n (λ j. f (a + j))) s))
+-- the same bytes, of no more cells
+pub put_as : {ps qs : List Store} {n o k r : ℕ} {m u : List ℕ} → ps ≡ qs → n ≤ o → PutBack ps n k m r u → PutBack qs o k m r u
+put_as {ps} {qs} {n} {o} {k} {r} {m} {u} q l p = record { made = p.made ∙ ap length q; few = omega (arith, p.few); stored = p.stored ∙ ap (λ (x : List Store). stores (take k x) m) q }
+
+module _ (f : ℕ → List Store) {k r s : ℕ} {m u v : List ℕ} where
+  -- one cell
+  pub put_cell_more : (i : ℕ) → PutBack (gather i f) i k m r u → PutBack (f i) 1 (k - r) u s v → PutBack (gather (i + 1) f) (i + 1) k m (r + s) v
+  put_cell_more i p q = subst (λ (x : List Store). PutBack x (i + 1) k m (r + s) v) (sym (gather_more f i)) (put_more p q)
+
+  -- a run of cells
+  pub put_run_more : (a n o : ℕ) → PutBack (gather a f) a k m r u → PutBack (gather n (λ j. f (a + j))) o (k - r) u s v → PutBack (gather (a + n) f) (a + o) k m (r + s) v
+  put_run_more a n o p q = subst (λ (x : List Store). PutBack x (a + o) k m (r + s) v) (sym (gather_split f a n)) (put_more p q)

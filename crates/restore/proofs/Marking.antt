@@ -4,6 +4,7 @@ use Prim.Native.Nat.{ℕ, zero, suc, ◌+◌, ◌-◌, ◌*◌, ◌≤◌, ◌<�
 use mathlib.Core.Bool.{Bool, true, false, cond, not, ◌&&◌}
 use mathlib.Core.List.{List}
 use mathlib.Core.Path.{◌≡◌, refl, sym, ap, ap₂, ◌∙◌}
+use Rattle.std.specs.Prelude.{Some}
 use native.Mathlib.Numerals.{add-one}
 use native.Mathlib.Omega.{arith}
 use borrow.Author.Tests.{eq-eqb, ne_eqb, eqb-true, eqb-false, lt-ltb, le-leb, lt-leb, leb-true, not-true}
@@ -22,8 +23,10 @@ use Rattle.marks.proofs.Digits.{halved, has_none}
 use Rattle.table.proofs.Entry.{find_hit, holds_found}
 use Rattle.table.proofs.Marks.{marked_holds}
 use Rattle.table.proofs.Rule.{Rule}
-use Rattle.search.specs.Search.{steps_in, held_from, source_in, held_by, value_from}
-use Rattle.search.proofs.Behind.{steps_within, steps_hold, value_some}
+use Rattle.search.specs.Search.{steps_in, held_from, source_in}
+use Rattle.search.specs.Holders.{held_by, value_from}
+use Rattle.search.proofs.Behind.{steps_within, steps_hold}
+use Rattle.search.proofs.Holding.{value_some}
 use Rattle.changes.proofs.Bits.{lowest_found}
 use Rattle.restore.specs.Marks.{inwards, Holders, FirstDepth, Tells, Unheld}
 
@@ -169,9 +172,9 @@ steps_first e t d c r l within none here =
     first_at_lem (suc (live t) - d) (λ k. holds_in e t (d + k) c) (r - d) (omega arith) (λ j b. none (d + j) (omega arith) (omega (arith, b))) (λ _. rw back here) in
     rw s back
 
-value_at : (e : ℕ) (t : List ℕ) (d c r : ℕ) → r ≤ live t → d + steps_in e t d c ≡ r → value_from e t d c ≡ held_by r (word1 e t (source_in e t r c)) (word2 e t (source_in e t r c))
+value_at : (e : ℕ) (t : List ℕ) (d c r : ℕ) → r ≤ live t → d + steps_in e t d c ≡ r → value_from e t d c ≡ Some (held_by r (word1 e t (source_in e t r c)) (word2 e t (source_in e t r c)))
 value_at e t d c r within q =
-    value_some e t d c (lt-ltb (steps_in e t d c) (suc (live t) - d) (omega (arith, q))) ∙ (λ j. held_by (q j) (word1 e t (source_in e t (q j) c)) (word2 e t (source_in e t (q j) c)))
+    value_some e t d c (lt-ltb (steps_in e t d c) (suc (live t) - d) (omega (arith, q))) ∙ (λ j. Some (held_by (q j) (word1 e t (source_in e t (q j) c)) (word2 e t (source_in e t (q j) c))))
 
 -- the search may begin at the first holder
 module _ (m e b : ℕ) (t : List ℕ) (ok : Rule m e b t) (d c held : ℕ) (low : 1 ≤ d) (tell : Holders e t d c held) (r : ℕ) (f : FirstDepth held r) where

@@ -1,18 +1,16 @@
 -- The words of the head, staged one after another, and restore's words by the journal. Assumes nothing.
-use Prim.Native.Nat.{ℕ, suc, ◌+◌, ◌-◌, ◌≤◌, ◌<◌}
-use mathlib.Core.Bool.{Bool, false, ◌||◌}
+use Prim.Native.Nat.{ℕ, suc, ◌+◌, ◌-◌, ◌≤◌}
+use mathlib.Core.Bool.{false}
 use mathlib.Core.List.{List, [], ◌∷◌, ◌++◌}
 use mathlib.Core.Path.{◌≡◌, refl, sym, ap, subst, ◌∙◌}
 use native.Mathlib.Omega.{arith}
-use borrow.Author.Tests.{le-ltb, ltb-false}
-use lib.Dec.{ltb}
+use borrow.Author.Tests.{le-ltb}
 use lib.ListN.{length}
 use Rattle.changes.specs.Staged.{Journaled}
 use Rattle.words.specs.Layout.{live_at, handle_at, slots_of}
 use Rattle.words.specs.Stores.{Store, ◌≔◌, tab}
-use Rattle.words.proofs.Scan.{by_le, or_split}
 use Rattle.words.proofs.Plans.{stores_none, tab_last}
-use Rattle.table.specs.Entry.{live, word1, depth_of}
+use Rattle.table.specs.Entry.{live, word1, depth_of, is_inside}
 use Rattle.table.specs.Changes.{keep}
 use Rattle.restore.specs.Restore.{restore_change, restore_words}
 use Rattle.restore.specs.Parts.{head_words, ending_words}
@@ -20,13 +18,7 @@ use Rattle.restore.proofs.Counting.{words_none, words_some}
 
 -- ---- the head
 
--- the number of live domains
-pub head_first : (d : ℕ) (start hs : List Store) → start ≡ [] → hs ≡ start ++ (live_at ≔ d) ∷ [] → hs ≡ head_words d d
-head_first d start hs z q =
-    let nothing : d - d ≡ 0 = omega arith in
-    q ∙ ap (λ (ws : List Store). ws ++ (live_at ≔ d) ∷ []) z ∙ ap (λ (n : ℕ). (live_at ≔ d) ∷ tab n (λ k. handle_at (d + k) ≔ 0)) (sym nothing)
-
--- and then the handles that leave: k is the next domain
+-- one more of the handles that leave: k is the next domain
 pub head_turn : (d k w : ℕ) (hs more : List Store) → d ≤ k → w ≡ handle_at k → hs ≡ head_words d k → more ≡ hs ++ (w ≔ 0) ∷ [] → more ≡ head_words d (k + 1)
 head_turn d k w hs more l word q r =
     let f : ℕ → Store = λ j. handle_at (d + j) ≔ 0 in
@@ -39,17 +31,14 @@ head_turn d k w hs more l word q r =
 
 -- ---- the entries
 
--- one more entry that is not deeper, unless `x` or this one says so
-pub deeper_more : (e : ℕ) (t : List ℕ) (d from i : ℕ) (x : Bool) (n : ℕ) → (x ≡ false → (k : ℕ) → from ≤ k → k < i → depth_of (word1 e t k) ≤ d)
-    → n ≡ depth_of (word1 e t i) → (x || ltb d n) ≡ false → (k : ℕ) → from ≤ k → k < i + 1 → depth_of (word1 e t k) ≤ d
-deeper_more e t d from i x n so_far q h k a b =
-    let both = or_split x (ltb d n) h in
-    by_le i k (λ l. let z : k ≡ i = omega arith in rw z (omega (arith, q, ltb-false d n both.1))) (λ l. so_far both.0 k a l)
-
 -- an entry that is not deeper is kept
-pub not_freed : (e : ℕ) (t : List ℕ) (d i : ℕ) → depth_of (word1 e t i) ≤ d → restore_change e t d i ≡ keep
+pub not_freed : (e : ℕ) (t : List ℕ) (d i : ℕ) → is_inside d (depth_of (word1 e t i)) ≡ false → restore_change e t d i ≡ keep
 unfolding restore_change
-not_freed e t d i l = rw (le-ltb d (depth_of (word1 e t i)) l)
+not_freed e t d i h = rw h
+
+-- so is one that is free
+pub free_kept : (e : ℕ) (t : List ℕ) (d i : ℕ) → word1 e t i ≡ 0 → restore_change e t d i ≡ keep
+free_kept e t d i z = not_freed e t d i (rw z (le-ltb d (depth_of 0) (omega arith)))
 
 -- ---- the journal
 

@@ -1,12 +1,12 @@
--- `end_domains` meets its contract: what is staged is stored by the journal. Assumes nothing.
-use Rattle.changes.proofs.Staging.{stages_inside, stages_words}
-use borrow.Author.Rules.{rules}
+-- `end_domains` meets its contract. Assumes nothing.
+use Rattle.restore.proofs.Writing.{unfinished, finished}
 use Rattle.restore.proofs.end_domains.Goals as goal
 
-pub write_staged-requires : goal.write_staged-requires
-write_staged-requires c = record { small = search rules; heads = c.stage_head.ensures.right; inside = stages_inside c.stage_freed.ensures }
+pub returns-then-live-depth : goal.returns-then-live-depth
+returns-then-live-depth c = unfinished c.args.table.now c.args.depth c.args.budget c.if-live-depth.true
 
-pub returns : goal.returns
-returns c =
-    let same = stages_words c.stage_head.ensures.stored c.stage_freed.ensures in
-    rw same at c.write_staged.ensures
+pub returns-then-top-le-FEW_SLOTS : goal.returns-then-top-le-FEW_SLOTS
+returns-then-top-le-FEW_SLOTS c = finished c.args.table.now c.args.depth _ _ _ _ c.if-live-depth.false c.slots_of-slots.ensures c.end_with.ensures
+
+pub returns-else-top-le-FEW_SLOTS : goal.returns-else-top-le-FEW_SLOTS
+returns-else-top-le-FEW_SLOTS c = finished c.args.table.now c.args.depth _ _ _ _ c.if-live-depth.false c.slots_of-slots.ensures c.end_with-else-top-le-FEW_SLOTS.ensures

@@ -1,7 +1,0 @@
--- `end_few` meets its contract: the arrays are long enough, and nothing is staged in them. Assumes nothing.
-use Rattle.changes.proofs.Staging.{stages_start}
-use borrow.Author.Rules.{rules}
-use Rattle.restore.proofs.end_few.Goals as goal
-
-pub end_domains-requires : goal.end_domains-requires
-end_domains-requires c = record { sizes = search rules; stages = (c.requires.3, stages_start 4 c.few_bits-changed.ensures) }

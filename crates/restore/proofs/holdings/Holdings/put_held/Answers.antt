@@ -1,0 +1,45 @@
+-- `put_held` meets its contract: the search begins at the first of the domains that the mark tells. Assumes nothing.
+use Prim.Native.Nat.{◌≤◌}
+use mathlib.Core.Path.{sym, ◌∙◌}
+use native.Mathlib.Omega.{arith}
+use borrow.Author.Rules.{rules}
+use Rattle.search.specs.Search.{HasSource}
+use Rattle.restore.proofs.Finding.{put_none, put_source, put_nowhere, put_within, put_found}
+use Rattle.restore.proofs.holdings.Holdings.put_held.Goals as goal
+
+pub returns-then-held-eq0 : goal.returns-then-held-eq0
+returns-then-held-eq0 g c =
+    let a = c.args in
+    let s = a.self.now in
+    let e = s.table.now.entries in
+    put_none s.cells e.slots e.words.now s.depth a.cell s.bodies.now s.right s.deep a.held c.requires.2 c.if-held-eq0.true a.memory.now a.budget
+
+pub find_value-requires : goal.find_value-requires
+find_value-requires g c =
+    let a = c.args in
+    let s = a.self.now in
+    let e = s.table.now.entries in
+    let low : 1 ≤ c.first_depth.result = c.first_depth.ensures.low in
+    let source : HasSource e.slots e.words.now c.first_depth.result a.cell = put_source s.cells e.slots e.words.now s.depth a.cell s.bodies.now s.right s.deep a.held c.requires.2 _ c.first_depth.ensures in
+    search rules
+
+pub put_value-requires : goal.put_value-requires
+put_value-requires g c =
+    let a = c.args in
+    let s = a.self.now in
+    let e = s.table.now.entries in
+    (put_within s.cells e.slots e.words.now s.depth a.cell s.bodies.now s.right s.deep a.held c.requires.2 _ c.first_depth.ensures c.in-Some.found c.in-Some.ensures, omega arith)
+
+pub returns : goal.returns
+returns g c =
+    let a = c.args in
+    let s = a.self.now in
+    let e = s.table.now.entries in
+    put_found s.cells e.slots e.words.now s.depth a.cell s.bodies.now s.right s.deep a.held c.requires.2 _ c.first_depth.ensures c.in-Some.found c.in-Some.ensures a.memory.now _ a.budget c.put_value.ensures
+
+pub returns-in_default : goal.returns-in_default
+returns-in_default g c =
+    let a = c.args in
+    let s = a.self.now in
+    let e = s.table.now.entries in
+    put_nowhere s.cells e.slots e.words.now s.depth a.cell s.bodies.now s.right s.deep a.held c.requires.2 _ c.first_depth.ensures (sym c.in_default.is ∙ c.find_value.ensures) a.memory.now a.budget
