@@ -17,4 +17,4 @@ pub mod Lending
 pub mod Still
 pub mod Storing
 pub mod Lists
-pub mod Both
+pub mod Answered

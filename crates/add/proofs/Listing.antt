@@ -2,7 +2,7 @@
 -- Assumes nothing.
 use Prim.Native.Nat.{ℕ, zero, suc, ◌+◌, ◌≤◌, ◌<◌}
 use Rattle.std.proofs.Common.{drop, drop-cons}
-use Rattle.std.proofs.lemmas.List.{take_more, take-append-drop}
+use Rattle.std.proofs.lemmas.List.{take_more, take-append-drop, take_all}
 use mathlib.Core.Bool.{Bool, true, false, not, ◌&&◌, ◌||◌}
 use mathlib.Core.List.{List, [], ◌∷◌, ◌++◌}
 use mathlib.Core.Path.{◌≡◌, refl, sym, ap, ◌∙◌}
@@ -104,6 +104,14 @@ pub part_small : (memory bodies t : List ℕ) → store_check (lent (length memo
     → (base + n ≤ max_cells) × (cell_at (base + n) ≤ length memory)
 part_small memory bodies t good base n fits = let f = store_lengths _ _ t good in (omega (arith, f.cells_high), omega (arith, f.memory_exact))
 
+pub counted_few : (memory bodies t : List ℕ) → store_check (lent (length memory) (length bodies) t) ≡ 0 → (rs : List Range) (new more : ℕ)
+    → Counted (cells_of (length memory)) (slots_of (length t)) t rs new more → (new ≤ max_cells) × (more ≤ max_cells)
+counted_few memory bodies t good rs new more counted =
+    let f = store_lengths _ _ t good in (
+      omega (arith, f.cells_high, counted.cells, count_le (cells_of (length memory)) (is_new (slots_of (length t)) t rs)),
+      omega (arith, f.cells_high, counted.copies, count_le (cells_of (length memory)) (is_new_copy (slots_of (length t)) t rs)),
+    )
+
 module _ (memory bodies t held : List ℕ) (rs : List Range) where
   -- the first i ranges are refused by no question, and so many cells of theirs are new
   pub record Passing (i new more : ℕ) : Type 0 where
@@ -112,11 +120,14 @@ module _ (memory bodies t held : List ℕ) (rs : List Range) where
 
   -- there are no more of them than cells of memory
   pub passing_few : store_check (lent (length memory) (length bodies) t) ≡ 0 → (i new more : ℕ) → Passing i new more → (new ≤ max_cells) × (more ≤ max_cells)
-  passing_few good i new more so_far =
-      let f = store_lengths _ _ t good in (
-        omega (arith, f.cells_high, so_far.counted.cells, count_le (cells_of (length memory)) (is_new (slots_of (length t)) t (take i rs))),
-        omega (arith, f.cells_high, so_far.counted.copies, count_le (cells_of (length memory)) (is_new_copy (slots_of (length t)) t (take i rs))),
-      )
+  passing_few good i new more so_far = counted_few memory bodies t good (take i rs) new more so_far.counted
+
+  -- all of them
+  pub passing_all : (i new more : ℕ) → Passing i new more → i ≡ length rs
+      → (list_checks (cells_of (length memory)) memory rs (state_in (slots_of (length t)) t bodies) 0 ≡ 0) × Counted (cells_of (length memory)) (slots_of (length t)) t rs new more
+  passing_all i new more so_far last =
+      let whole : take i rs ≡ rs = ap (λ (n : ℕ). take n rs) last ∙ take_all (length rs) rs (omega arith) in
+      (rw whole at so_far.passed, rw whole at so_far.counted)
 
   pub passing_none : Passing 0 0 0
   passing_none = record { passed = refl; counted = counted_none (cells_of (length memory)) (slots_of (length t)) t }

@@ -10,8 +10,8 @@ ghost use Rattle.changes.specs.Staged.{Stages};
 ghost use Rattle.add.specs.Walking.{lacks, body_beyond, list_change, stand, took_cell, passed_cell, cell_bytes_of, TookEntry, RoomForCell, bytes_of};
 ghost use Rattle.add.specs.Took.{words_lent, slots_lent, places, ranges_lent, last_taken, Stands, Copies, AsksEach};
 
-use crate::cursors::Cursors;
 use crate::checks::is_lacking;
+use crate::cursors::Cursors;
 use crate::taking::Taking;
 use changes::staged::Staged;
 use ranges::order::order_of;

@@ -9,7 +9,7 @@ ghost use Rattle.model.specs.Holdings.{list_checks};
 ghost use Rattle.store.specs.Answer.{number_in};
 ghost use Rattle.store.specs.State.{state_in};
 ghost use Rattle.add.specs.Add.{is_new, is_new_copy};
-ghost use Rattle.add.specs.Walking.{lacks, follows, told_by, cell_told, Source, Counted, room_check};
+ghost use Rattle.add.specs.Walking.{lacks, follows, told_by, cell_told, Source, Counted, copies_of, room_check};
 ghost use Rattle.add.specs.Asked.{table_of, slots_in, depth_in, newly, Lies, new_count, all_backed, all_follow, same_number, parent_number, rule_number, value_number, part_number};
 
 use crate::asked::Asking;
@@ -49,6 +49,16 @@ pub fn is_lacking(held: &[u8], depth: u32, cell: usize) -> bool
     ensures { result ≡ lacks held.now depth cell }
 {
     !has_depth(mark_of(held, cell), depth)
+}
+
+// How many of so many new cells of one kind are copies.
+fn copies_of(kind: Kind, new: usize) -> usize
+    ensures { result ≡ copies_of (kind_number kind) new }
+{
+    match kind {
+        Kind::Copy => new,
+        _ => 0,
+    }
 }
 
 // What one cell tells: has memory the bytes of its value, and comes that from a rule?
@@ -149,11 +159,7 @@ impl<'a> Asking<'a> {
 
     // Questions 12 and 19 of every new cell of the range: 12 where memory has not the parent's value of one of them; if it has all of them, 19 where
     // one comes from a rule.
-    fn values_check<const N: usize>(
-        &self,
-        part: &Part<'_>,
-        notes: &Notes<N>,
-    ) -> Result<(), Refusal>
+    fn values_check<const N: usize>(&self, part: &Part<'_>, notes: &Notes<N>) -> Result<(), Refusal>
         requires lies { Lies self.now part.now }
         requires backed { all_backed self.now part.now ≡ true }
         ensures { number_in result ≡ same_number self.now part.now }
@@ -284,10 +290,8 @@ impl<'a> Asking<'a> {
             (state_in (slots_in self.now) (table_of self.now) self.now.bodies.now) 0 }
         ensures counted { IfOk result (λ n. Counted (cells_of (length self.now.memory.now)) (slots_in self.now) (table_of self.now) list.now n.cells n.copies) }
     {
-        let mut new = New {
-            cells: 0,
-            copies: 0,
-        };
+        let mut cells: usize = 0;
+        let mut copies: usize = 0;
         for (i, range) in list.iter().enumerate() {
             let part = Part {
                 range: *range,
@@ -295,12 +299,11 @@ impl<'a> Asking<'a> {
             };
             let kind = self.part_check(&part)?;
             let more = self.count_new(&part);
-            new.cells += more;
-            if kind == Kind::Copy {
-                new.copies += more;
-            }
+            let taken = copies_of(kind, more);
+            cells += more;
+            copies += taken;
         }
-        Ok(new)
+        Ok(New { cells, copies })
     }
 
     // Questions 16 and 17, for so many new cells and copies among them.

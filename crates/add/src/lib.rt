@@ -38,8 +38,8 @@ use asked::Asking;
 use changes::head_words::Head;
 use changes::staged::{FEW_BITS, FEW_WORDS, MANY_BITS, MANY_WORDS, Staged};
 use changes::writer::write_staged;
-use marks::{FEW_BLOCKS, SOME_BLOCKS, blocks_wanted};
 use checks::New;
+use marks::{FEW_BLOCKS, SOME_BLOCKS, blocks_wanted};
 use ranges::fitting::Fitting;
 use ranges::{Batch, MAX_RANGES, Range};
 use store::answers::{Answer, Refusal};
@@ -192,7 +192,9 @@ fn add_with<const BYTES: usize>(
 {
     let mut seen = [0u8; BYTES];
     let mut used = [0u8; MAX_BODIES];
-    let new = add_check(memory, bodies, table, top, &mut seen, &mut used, handle, list)?;
+    let new = add_check(
+        memory, bodies, table, top, &mut seen, &mut used, handle, list,
+    )?;
     let fitting = Fitting {
         ranges: list,
         cells: cells_of(memory.len()),

@@ -12,11 +12,13 @@ cell_told-requires g c =
     let q = c.args.self.now in
     let p = c.args.part.now in
     let new : ℕ → Bool = newly q p.seen.now in
-    let same = covered_is q.memory.now q.bodies.now (slots_in q) (table_of q) new p.range.first p.range.count q.held.now q.told q.inner in
-    (omega arith, (
-      omega (arith, c.requires.lies, c.loop-j-test.true),
-      sources q.memory.now q.bodies.now (table_of q) q.store new p.range.first p.range.count q.inner (sym same ∙ c.requires.backed) c.loop-j.j c.loop-j-test.true,
-    ))
+    let same = covered_is q.memory.now q.bodies.now (slots_in q) (table_of q) new p.range.first p.range.count q.held.now q.told q.inner in (
+      omega arith,
+      (
+        omega (arith, c.requires.lies, c.loop-j-test.true),
+        sources q.memory.now q.bodies.now (table_of q) q.store new p.range.first p.range.count q.inner (sym same ∙ c.requires.backed) c.loop-j.j c.loop-j-test.true,
+      ),
+    )
 
 pub returns-in_err-by_rule : goal.returns-in_err-by_rule
 returns-in_err-by_rule g c =

@@ -24,12 +24,20 @@ pub take_part-walk-requires : goal.take_part-walk-requires
 take_part-walk-requires g c =
     let q = c.args.self.now in
     let i = c.loop-part.invariant in
-    let n = rw i.0 at c.in-Some.ensures.next.0 in
-    (omega arith, (i.3, (record { low = omega arith; none = λ x lo hi. absurd (omega (arith, lo, hi)); some = n.some; high = n.high; asks = n.asks }, (
-      skip_stands q.memory.now c.loop-part.bodies (words_lent q) (ranges_lent q) (stand c.loop-part.segments.at c.loop-part.walk) c.loop-part.staged.words c.loop-part.staged.changed i.1
-          c.in-Some.part.at n.low (omega (arith, n.some, n.high, q.cells)) n.none,
-      c.requires.room,
-    ))))
+    let n = rw i.0 at c.in-Some.ensures.next.0 in (
+      omega arith,
+      (
+        i.3,
+        (
+          record { low = omega arith; none = λ x lo hi. absurd (omega (arith, lo, hi)); some = n.some; high = n.high; asks = n.asks },
+          (
+            skip_stands q.memory.now c.loop-part.bodies (words_lent q) (ranges_lent q) (stand c.loop-part.segments.at c.loop-part.walk) c.loop-part.staged.words c.loop-part.staged.changed i.1
+                c.in-Some.part.at n.low (omega (arith, n.some, n.high, q.cells)) n.none,
+            c.requires.room,
+          ),
+        ),
+      ),
+    )
 
 pub loop-part-preserved : goal.loop-part-preserved
 loop-part-preserved g c =

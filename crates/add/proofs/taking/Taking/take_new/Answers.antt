@@ -24,8 +24,7 @@ overflow_cast-body g c =
 pub beyond-requires : goal.beyond-requires
 beyond-requires g c =
     let q = c.args.self.now in
-    let body = rw c.bodies_of.ensures at c.take_body-body.ensures in
-    (
+    let body = rw c.bodies_of.ensures at c.take_body-body.ensures in (
       omega (arith, c.in-Some.ensures.0, q.entries.few),
       omega (arith, body, few _ _ _ _ _ _ q.able, body_small q.used.now (places q) (kind_number c.args.asked.kind) c.args.walk.body c.requires.places.1),
       omega (arith, c.requires.cell.0, c.requires.cell.1, small _ _ _ _ _ _ q.able),

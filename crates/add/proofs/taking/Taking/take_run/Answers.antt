@@ -13,10 +13,21 @@ take_cell-walk-requires g c =
     let i = c.loop-cell.invariant in
     let asks = c.requires.asks.asks c.loop-cell.cell c.loop-cell.auto.cell c.loop-cell-test.true in
     let room : RoomToTake q.memory.now (words_lent q) (ranges_lent q) s.words s.changed =
-    record { top = q.entries.top; ends = rw q.slots at q.entries.ends; room = (omega (arith, c.requires.room, s.wide), omega (arith, s.wide, s.long, s.room)) } in
-    (omega arith, (i.2, ((omega (arith, c.requires.asks.high, c.loop-cell-test.true), i.0.made), ((i.0.slot, rw i.2 at i.0.body), λ h.
-    rw i.2 at (cell_room q.memory.now c.loop-cell.bodies (words_lent q) q.held.now q.used.now (ranges_lent q) (q.able c.loop-cell.bodies i.2)
-    (stand c.loop-cell.cell c.loop-cell.walk) s.words s.changed i.0 (kind_number a.kind) a.rule (label_number a.label) asks room h)))))
+    record { top = q.entries.top; ends = rw q.slots at q.entries.ends; room = (omega (arith, c.requires.room, s.wide), omega (arith, s.wide, s.long, s.room)) } in (
+      omega arith,
+      (
+        i.2,
+        (
+          (omega (arith, c.requires.asks.high, c.loop-cell-test.true), i.0.made),
+          (
+            (i.0.slot, rw i.2 at i.0.body),
+            λ h.
+                rw i.2 at (cell_room q.memory.now c.loop-cell.bodies (words_lent q) q.held.now q.used.now (ranges_lent q) (q.able c.loop-cell.bodies i.2)
+                (stand c.loop-cell.cell c.loop-cell.walk) s.words s.changed i.0 (kind_number a.kind) a.rule (label_number a.label) asks room h),
+          ),
+        ),
+      ),
+    )
 
 pub loop-cell-preserved : goal.loop-cell-preserved
 loop-cell-preserved g c =
