@@ -21,7 +21,6 @@ use Rattle.search.specs.Search.{source_in, value_in, ruled_in}
 use Rattle.search.specs.Free.{is_copy, used_slots, copies}
 use Rattle.search.proofs.Free.{slots_all}
 use Rattle.search.proofs.Value.{ends_in_own, body_fits_lem}
-use Rattle.model.specs.Answer.{ask}
 use Rattle.model.specs.Holdings.{range_ok}
 use Rattle.store.specs.Checks.{store_check, lent}
 use Rattle.store.specs.declared.answers.Refusal.{Refusal}

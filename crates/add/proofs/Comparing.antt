@@ -1,6 +1,6 @@
 -- The value of a cell that a domain holds, by the entry that has it, and what the cell tells of it. Assumes nothing.
 use Prim.Native.Nat.{ℕ, ◌+◌, ◌≤◌}
-use mathlib.Core.Bool.{Bool, true, false}
+use mathlib.Core.Bool.{true, false}
 use mathlib.Core.List.{List}
 use mathlib.Core.Path.{◌≡◌, sym, ap, ◌∙◌}
 use native.Mathlib.Omega.{arith}
@@ -14,7 +14,6 @@ use Rattle.patterns.proofs.Bytes.{pattern_length}
 use Rattle.table.specs.Entry.{word1, word2, is_pattern}
 use Rattle.search.specs.Search.{source_in, value_in, ruled_in}
 use Rattle.search.specs.Holders.{value_of}
-use Rattle.search.specs.declared.holders.Value.{Value}
 use Rattle.search.specs.declared.holders.Value.TheVariants.{Body, Rule}
 use Rattle.add.specs.Walking.{Source}
 

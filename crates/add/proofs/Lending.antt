@@ -1,8 +1,7 @@
 -- What the taking reads tells, whatever the bodies hold. Assumes nothing.
-use Prim.Native.Nat.{ℕ, ◌+◌, ◌≤◌}
+use Prim.Native.Nat.{ℕ, ◌≤◌}
 use mathlib.Core.List.{List}
 use mathlib.Core.Path.{◌≡◌}
-use native.Mathlib.Omega.{arith}
 use Rattle.std.proofs.Common.{replicate}
 use lib.ListN.{length, length-replicate}
 use Rattle.words.specs.Layout.{cells_of, bodies_of, slots_of, max_live, max_cells, max_bodies, max_slots}

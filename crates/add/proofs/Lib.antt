@@ -17,4 +17,3 @@ pub mod Lending
 pub mod Still
 pub mod Storing
 pub mod Lists
-pub mod Answered

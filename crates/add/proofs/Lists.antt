@@ -13,13 +13,13 @@ use Rattle.ranges.specs.Ranges.{max_ranges, list_ok}
 use Rattle.ranges.specs.Batch.{no_batch, gathered}
 use Rattle.ranges.proofs.Gathered.{gathered_all, gathered_more}
 use Rattle.model.specs.State.{State}
-use Rattle.model.specs.Answer.{Report, ask, by_number, or_else}
+use Rattle.model.specs.Answer.{ask, by_number, or_else}
 use Rattle.model.specs.Calls.{Effect, refuse as refuse-effect, viewed}
 use Rattle.model.specs.Holdings.{Room, is_live, is_innermost, ask_innermost, add_checks, add_effect}
-use Rattle.store.specs.Outcome.{Buffers, Call, refuse, outcome, Makes}
+use Rattle.store.specs.Outcome.{Buffers, refuse}
 use Rattle.store.specs.Checks.{store_check, lent_of}
 use Rattle.store.specs.State.{state_of}
-use Rattle.store.specs.Means.{Shows, or_refused, call_means, room_of}
+use Rattle.store.specs.Means.{or_refused, call_means, room_of}
 use Rattle.store.proofs.Checks.{ask_stop}
 use Rattle.add.specs.Add.{add_check, add_call, add_means}
 

@@ -1,7 +1,7 @@
 -- No label rises where of every read-write range no cell is held. Assumes nothing.
 use Prim.Native.Nat.{ℕ, ◌+◌, ◌-◌, ◌<◌}
 use mathlib.Core.Path.{◌≡◌, ap, subst}
-use mathlib.Core.Bool.{true, false, not, ◌||◌, ◌&&◌}
+use mathlib.Core.Bool.{true, not, ◌||◌}
 use mathlib.Core.List.{List}
 use native.Mathlib.Omega.{arith}
 use lib.Dec.{eqb}

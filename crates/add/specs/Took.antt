@@ -1,9 +1,8 @@
 -- What is taken of a list and staged, of what the taking reads.
-use Rattle.std.specs.Prelude.{ℕ, ◌≡◌, ◌≤◌, ◌<◌, Bool, cond, List, length}
+use Rattle.std.specs.Prelude.{ℕ, ◌≤◌, ◌<◌, List, length}
 use Rattle.words.specs.Layout.{cells_of, bodies_of, slots_of}
 use Rattle.words.specs.Scan.{count}
 use Rattle.ranges.specs.declared.Range.{Range}
-use Rattle.ranges.specs.declared.segments.Segment.{Segment}
 use Rattle.ranges.specs.Lists.{Asks}
 use Rattle.search.specs.Free.{end_of}
 use Rattle.table.specs.Entry.{kind_number, label_number}

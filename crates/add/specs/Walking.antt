@@ -1,7 +1,7 @@
 -- Add's questions and changes as its code goes through them: over marks, one for each cell and one for each body, and over the ranges of the list.
 -- d is the depth of the domain that is added to.
 use Rattle.std.specs.Prelude.{ℕ, zero, suc, ◌+◌, ◌-◌, ◌*◌, ◌≤◌, ◌<◌, ◌≡◌, Bool, true, false, cond, not, ◌&&◌, ◌||◌, List, [], Result, Ok, Err, ltb, leb, eqb, length, take}
-use Rattle.words.specs.Layout.{cell_at, cells_of, bodies_of, slots_of, pairs_at, max_live, max_slots, max_cells, max_bodies, cell_size}
+use Rattle.words.specs.Layout.{cell_at, cells_of, bodies_of, slots_of, max_cells, max_bodies, cell_size}
 use Rattle.words.specs.Scan.{all, count, nth}
 use Rattle.words.specs.Cells.{cell_bytes, same_cell, cell_plan}
 use Rattle.words.specs.Stores.{Store, gather, stores}
@@ -9,7 +9,7 @@ use Rattle.ranges.specs.declared.Range.{Range}
 use Rattle.ranges.specs.Ranges.{covers, named}
 use Rattle.ranges.specs.Lists.{range_of}
 use Rattle.patterns.specs.Pattern.{max_rule, pattern}
-use Rattle.table.specs.Entry.{live, word1, word2, entry_word, second_word, is_pattern, innermost, parent, parent_has, holds_in}
+use Rattle.table.specs.Entry.{word1, word2, entry_word, second_word, is_pattern, innermost, parent, parent_has, holds_in}
 use Rattle.marks.specs.Blocks.{cells_in}
 use Rattle.table.specs.Marks.{mark_of, has, EndsAt}
 use Rattle.table.specs.Changes.{Change, keep, put}
@@ -18,7 +18,6 @@ use Rattle.search.specs.Free.{slot_free, body_free, used_slots, copies, free_fro
 use Rattle.changes.specs.Staged.{RoomFor, Restaged, Stages}
 use Rattle.model.specs.Answer.{ask}
 use Rattle.model.specs.Holdings.{ask_range}
-use Rattle.store.specs.Checks.{store_check, lent}
 use Rattle.store.specs.declared.answers.Refusal.{Refusal}
 use Rattle.store.specs.declared.answers.Refusal.TheVariants.{MemoryDiffers}
 use Rattle.add.specs.Add.{is_new, is_new_copy, raise_change, taken_first, taken_second, body_for, add_bytes, add_words}

@@ -1,4 +1,4 @@
-use Rattle.std.proofs.Common.{◌≡◌, ℕ, sym, ◌∙◌, length, arith}
+use Rattle.std.proofs.Common.{ℕ, sym, ◌∙◌, length, arith}
 use lib.ListN.{length-replicate}
 use Rattle.words.specs.Layout.{slots_of}
 use Rattle.marks.proofs.Blocks.{blank_zeros, kept_cells}
@@ -7,11 +7,10 @@ use Rattle.table.proofs.Marks.{marked_holds}
 use Rattle.search.proofs.Free.{unmarked_free}
 use Rattle.store.proofs.Checks.{store_lengths}
 use Rattle.store.proofs.Checked.{checked_ends}
-use Rattle.store.proofs.Refused.{question_no}
+use Rattle.store.proofs.Refused.{question_no, answer_refused}
 use Rattle.add.proofs.Readied.{add_ready}
 use Rattle.add.proofs.Listing.{list_facts}
 use Rattle.add.proofs.Added.{add_refused, add_performed}
-use Rattle.add.proofs.Answered.{report_back}
 use Rattle.add.proofs.add_with.Goals as goal
 
 pub add_check-requires : goal.add_check-requires
@@ -28,7 +27,7 @@ add_check-requires g c =
 pub returns-in_err-new : goal.returns-in_err-new
 returns-in_err-new g c =
     let a = c.args in
-    rw (report_back _ _ c.from_residual.ensures.1)
+    answer_refused _ _ c.from_residual.ensures.1
     (add_refused a.memory.now a.bodies.now a.table.now a.handle a.list.now a.budget _ c.in_err-new.ensures.no (question_no _))
 
 pub invariant_of-fitting : goal.invariant_of-fitting

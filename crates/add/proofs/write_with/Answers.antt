@@ -1,5 +1,5 @@
-use Rattle.std.proofs.Common.{◌≡◌, ℕ, ◌+◌, ◌-◌, length, sym, ◌∙◌, arith}
-use Rattle.words.specs.Layout.{cells_of, bodies_of, slots_of}
+use Rattle.std.proofs.Common.{length, arith}
+use Rattle.words.specs.Layout.{cells_of, bodies_of}
 use Rattle.changes.proofs.Staging.{stages_inside, stages_words}
 use Rattle.store.proofs.Checks.{store_lengths}
 use Rattle.add.proofs.Taken.{same_able}

@@ -1,5 +1,5 @@
-use Rattle.std.proofs.Common.{◌≡◌, ℕ, List, sym, ap, ◌∙◌, arith}
-use borrow.Author.Tests.{not-true, not-false}
+use Rattle.std.proofs.Common.{ℕ, List, sym, ap, ◌∙◌, arith}
+use borrow.Author.Tests.{not-false}
 use Rattle.words.specs.Cells.{cell_bytes, same_cell}
 use Rattle.words.proofs.Cells.{first_cell}
 use Rattle.store.proofs.Checks.{store_lengths}

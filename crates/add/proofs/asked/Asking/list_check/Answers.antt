@@ -1,4 +1,4 @@
-use Rattle.std.proofs.Common.{◌≡◌, sym, ◌∙◌, length}
+use Rattle.std.proofs.Common.{sym, ◌∙◌, length}
 use Rattle.words.specs.Layout.{cells_of}
 use Rattle.store.specs.State.{state_in}
 use Rattle.store.proofs.Refused.{handed_on, question_no}

@@ -1,4 +1,4 @@
-use Rattle.std.proofs.Common.{◌≡◌, ℕ, Bool, sym, ◌∙◌}
+use Rattle.std.proofs.Common.{ℕ, Bool, sym, ◌∙◌}
 use borrow.Author.Tests.{not-true, not-false}
 use Rattle.add.specs.Asked.{table_of, slots_in, newly}
 use Rattle.add.proofs.Asking.{parent_11, parent_then, covered_is}

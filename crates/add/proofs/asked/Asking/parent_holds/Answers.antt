@@ -1,4 +1,4 @@
-use Rattle.std.proofs.Common.{◌≡◌, ℕ, ◌+◌, Bool, sym, arith}
+use Rattle.std.proofs.Common.{ℕ, ◌+◌, Bool, sym, arith}
 use borrow.Author.Count.{below_more}
 use Rattle.words.proofs.Scan.{all_not, all_make}
 use Rattle.table.specs.Entry.{parent}

@@ -1,12 +1,10 @@
-use Rattle.std.proofs.Common.{◌≡◌, ℕ, ◌+◌, refl, sym, ap, subst, ◌∙◌, length, arith}
+use Rattle.std.proofs.Common.{◌≡◌, ℕ, refl, sym, ap, ◌∙◌, length, arith}
 use Rattle.ranges.specs.Lists.{range_of}
-use Rattle.table.specs.Entry.{kind_number}
-use Rattle.store.specs.Answer.{question}
 use Rattle.store.proofs.Refused.{handed_on, question_no}
 use Rattle.add.specs.declared.part.Part.{Part}
 use Rattle.add.specs.Walking.{copies_of}
 use Rattle.add.specs.Asked.{table_of}
-use Rattle.add.proofs.Listing.{Passing, passing_none, passing_few, passing_stop, passing_more, passing_all}
+use Rattle.add.proofs.Listing.{passing_none, passing_few, passing_stop, passing_more, passing_all}
 use Rattle.add.proofs.asked.Asking.ranges_check.Goals as goal
 
 pub loop-i-init : goal.loop-i-init

@@ -1,12 +1,10 @@
-use Rattle.std.proofs.Common.{◌≡◌, ℕ, List, true, sym, ap, ◌∙◌, arith, length}
+use Rattle.std.proofs.Common.{ℕ, List, true, ap, ◌∙◌, arith}
 use Rattle.words.specs.Cells.{cell_bytes, same_cell}
-use Rattle.patterns.proofs.Bytes.{pattern_length}
 use Rattle.table.specs.Entry.{parent}
-use Rattle.search.specs.Search.{source_in}
 use Rattle.store.proofs.Checks.{store_lengths}
 use Rattle.add.specs.Asked.{table_of, slots_in, depth_in}
 use Rattle.add.proofs.Asking.{cell_is}
-use Rattle.add.proofs.Comparing.{body_within, body_value, body_plain, rule_value, rule_ruled}
+use Rattle.add.proofs.Comparing.{body_value, body_plain, rule_value, rule_ruled}
 use Rattle.add.proofs.asked.Asking.value_told.Goals as goal
 
 pub overflow_cast-cell : goal.overflow_cast-cell

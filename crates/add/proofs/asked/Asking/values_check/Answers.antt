@@ -1,7 +1,7 @@
-use Rattle.std.proofs.Common.{◌≡◌, ℕ, ◌+◌, Bool, true, false, sym, subst, ◌∙◌, refl, arith}
+use Rattle.std.proofs.Common.{◌≡◌, ℕ, Bool, sym, ◌∙◌, refl, arith}
 use Rattle.store.proofs.Refused.{handed_on}
 use Rattle.add.specs.Asked.{table_of, slots_in, depth_in, newly}
-use Rattle.add.proofs.Asking.{Numbered, numbered_none, numbered_stop, numbered_more, numbered_19, numbered_0, covered_is, sources}
+use Rattle.add.proofs.Asking.{numbered_none, numbered_stop, numbered_more, numbered_19, numbered_0, covered_is, sources}
 use Rattle.add.proofs.asked.Asking.values_check.Goals as goal
 
 pub loop-j-init : goal.loop-j-init

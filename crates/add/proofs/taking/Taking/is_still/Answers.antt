@@ -1,5 +1,4 @@
-use Rattle.std.proofs.Common.{◌≡◌, ℕ, ◌+◌, Bool, not, sym, ap, ◌∙◌, arith, refl}
-use borrow.Author.Count.{below_more}
+use Rattle.std.proofs.Common.{◌+◌, sym, ◌∙◌, arith}
 use borrow.Author.Tests.{not-true, not-false}
 use Rattle.words.proofs.Scan.{all_not, all_make}
 use Rattle.add.specs.Walking.{lacks}

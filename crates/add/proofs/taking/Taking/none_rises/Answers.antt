@@ -1,8 +1,6 @@
-use Rattle.std.proofs.Common.{◌≡◌, ℕ, sym, ◌∙◌, arith, true, false}
-use mathlib.Core.Bool.{true≢false}
-use borrow.Author.Count.{below_none, below_more}
+use Rattle.std.proofs.Common.{sym, ◌∙◌, arith}
+use borrow.Author.Count.{below_more}
 use borrow.Author.Tests.{not-false}
-use Rattle.add.proofs.Lending.{small}
 use Rattle.add.proofs.Still.{none_still}
 use Rattle.add.proofs.taking.Taking.none_rises.Goals as goal
 

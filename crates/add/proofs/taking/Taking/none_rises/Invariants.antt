@@ -1,4 +1,4 @@
-use Rattle.std.proofs.Common.{◌≡◌, ℕ, ◌+◌, ◌<◌, true, not, eqb, ◌||◌}
+use Rattle.std.proofs.Common.{ℕ, ◌<◌}
 use Rattle.ranges.specs.Lists.{range_of}
 use Rattle.add.proofs.Still.{StillOne}
 use Rattle.add.proofs.taking.Taking.none_rises.Given as goal

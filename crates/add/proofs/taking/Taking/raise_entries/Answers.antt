@@ -1,4 +1,4 @@
-use Rattle.std.proofs.Common.{◌≡◌, ℕ, arith}
+use Rattle.std.proofs.Common.{◌≡◌, arith}
 use Rattle.add.specs.Took.{words_lent, slots_lent, ranges_lent}
 use Rattle.add.proofs.Lending.{inner, told}
 use Rattle.add.proofs.Storing.{raise_turn, raise_end, raise_none}

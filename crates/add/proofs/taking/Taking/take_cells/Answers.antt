@@ -1,8 +1,6 @@
-use Rattle.std.proofs.Common.{◌≡◌, ℕ, ◌+◌, ◌≤◌, ◌<◌, length, refl, sym, ◌∙◌, false, arith}
+use Rattle.std.proofs.Common.{ℕ, length, refl, sym, ◌∙◌, arith}
 use Rattle.words.specs.Layout.{cells_of}
-use Rattle.ranges.specs.Ranges.{named}
-use Rattle.ranges.specs.Lists.{Next, NoneLeft}
-use Rattle.add.specs.Walking.{Standing, Copied, stand}
+use Rattle.add.specs.Walking.{stand}
 use Rattle.add.specs.Took.{words_lent, ranges_lent}
 use Rattle.add.proofs.Taken.{same_stands, skip_stands, start_stands, copied_none, copied_length, copied_join}
 use Rattle.add.proofs.Storing.{taken_all, bytes_made, bytes_stored}

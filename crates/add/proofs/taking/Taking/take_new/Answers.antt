@@ -1,6 +1,6 @@
-use Rattle.std.proofs.Common.{ℕ, ◌≡◌, arith}
+use Rattle.std.proofs.Common.{arith}
 use Rattle.add.specs.Took.{places}
-use Rattle.add.proofs.Lending.{deep, small, few, long, slots_few}
+use Rattle.add.proofs.Lending.{deep, small, few, long}
 use Rattle.add.proofs.Taken.{body_small}
 use Rattle.table.specs.Entry.{kind_number}
 use Rattle.add.proofs.taking.Taking.take_new.Goals as goal

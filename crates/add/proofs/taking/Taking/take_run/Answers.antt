@@ -1,4 +1,4 @@
-use Rattle.std.proofs.Common.{◌≡◌, ℕ, ◌+◌, length, sym, ◌∙◌, arith}
+use Rattle.std.proofs.Common.{◌+◌, ◌∙◌, arith}
 use Rattle.table.specs.Entry.{kind_number, label_number}
 use Rattle.add.specs.Walking.{RoomToTake, stand}
 use Rattle.add.specs.Took.{words_lent, ranges_lent}
