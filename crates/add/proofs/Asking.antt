@@ -3,8 +3,9 @@ use Prim.Native.Nat.{ℕ, zero, suc, ◌+◌, ◌≤◌, ◌<◌}
 use mathlib.Core.Bool.{Bool, true, false, cond, not, ◌&&◌, ◌||◌}
 use mathlib.Core.List.{List}
 use mathlib.Core.Path.{◌≡◌, refl, sym, ap, ◌∙◌}
+use Rattle.std.specs.Prelude.{Result, Ok, Err}
 use native.Mathlib.Omega.{arith}
-use borrow.Author.Tests.{le-leb, lt-leb, leb-true}
+use borrow.Author.Tests.{le-leb, lt-leb, leb-true, not-true, not-false}
 use lib.Dec.{leb}
 use lib.ListN.{length}
 use Rattle.words.specs.Layout.{cells_of, slots_of}
@@ -13,20 +14,21 @@ use Rattle.words.specs.Cells.{cell_bytes, same_cell}
 use Rattle.words.proofs.Scan.{by_bool, by_le, and_split, and_join, true≢, all_at, all_ext, all_not, all_next, count_le, count_more}
 use Rattle.patterns.specs.Pattern.{max_rule, pattern}
 use Rattle.table.specs.Entry.{live, word1, parent, find_in, holds_in, parent_has}
-use Rattle.table.specs.Marks.{mark_of, has, Marked}
+use Rattle.table.specs.Marks.{mark_of, has}
 use Rattle.marks.proofs.Digits.{has_zero}
-use Rattle.table.proofs.Marks.{marked_holds}
 use Rattle.table.proofs.Entry.{holds_found, pattern_zero}
 use Rattle.search.specs.Search.{source_in, value_in, ruled_in}
 use Rattle.search.specs.Free.{is_copy, used_slots, copies}
 use Rattle.search.proofs.Free.{slots_all}
 use Rattle.search.proofs.Value.{ends_in_own, body_fits_lem}
-use Rattle.model.specs.Answer.{ask, or_else}
 use Rattle.model.specs.Holdings.{range_ok}
 use Rattle.store.specs.Checks.{store_check, lent}
+use Rattle.store.specs.declared.answers.Refusal.{Refusal}
+use Rattle.store.specs.declared.answers.Refusal.TheVariants.{MemoryDiffers}
+use Rattle.store.specs.Answer.{question}
 use Rattle.store.proofs.Checks.{ask_go, ask_stop, store_lengths}
 use Rattle.store.proofs.Raw.{raw_rule}
-use Rattle.add.specs.Walking.{parent_check, rule_check, value_check, part_check, room_check, backed, alike, unruled, value_number, cell_number, range_number, follows, Source}
+use Rattle.add.specs.Walking.{parent_check, rule_check, value_check, part_check, room_check, backed, alike, unruled, told_by, cell_told, range_number, follows, CellsTold, Source}
 
 -- ---- Bools
 
@@ -44,10 +46,6 @@ or_right false b h q = h
 pub twice : (b : Bool) → not (not b) ≡ b
 twice true = refl
 twice false = refl
-
-pub most_one : (r : ℕ) (b : Bool) → r ≡ cond b 1 0 → r ≤ 1
-most_one r true q = omega arith
-most_one r false q = omega arith
 
 -- one cell more is counted
 pub count_add : (j new : ℕ) (f : ℕ → Bool) → new ≡ count j f → new + cond (f j) 1 0 ≡ count (j + 1) f
@@ -79,10 +77,10 @@ module _ (e : ℕ) (t : List ℕ) (b new more : ℕ) where
 -- ---- questions 11, 12 and 19
 
 -- which cells the parent holds: no mark has depth 0, so that without a parent there are none
-pub parent_told_lem : (e : ℕ) (t held : List ℕ) → Marked e t e held → 1 ≤ live t → (c : ℕ) → has (parent (live t)) (mark_of held c) ≡ parent_has e t (live t) c
+pub parent_told_lem : (e : ℕ) (t held : List ℕ) → CellsTold e t held → 1 ≤ live t → (c : ℕ) → has (parent (live t)) (mark_of held c) ≡ parent_has e t (live t) c
 parent_told_lem e t held m inner c =
     by_le 2 (live t)
-    (λ h. rw (le-leb 2 (live t) h) (marked_holds e t held m (parent (live t)) c (omega arith)))
+    (λ h. rw (le-leb 2 (live t) h) (m (parent (live t)) c (omega arith)))
     (λ h.
     let one : parent (live t) ≡ 0 = omega arith in
     rw (lt-leb 2 (live t) h) (ap (λ (d : ℕ). has d (mark_of held c)) one ∙ has_zero (mark_of held c)))
@@ -106,26 +104,36 @@ module _ (memory bodies : List ℕ) (e : ℕ) (t : List ℕ) (new : ℕ → Bool
   parent_then p q h = h ∙ sym (ask_go _ 11 _ p)
 
   -- the same over marks
-  pub covered_is : (held : List ℕ) → Marked e t e held → 1 ≤ live t → all n (λ j. backed held (live t) new (base + j)) ≡ all n covered
+  pub covered_is : (held : List ℕ) → CellsTold e t held → 1 ≤ live t → all n (λ j. backed held (live t) new (base + j)) ≡ all n covered
   covered_is held m inner =
       all_ext n (λ j. backed held (live t) new (base + j)) covered
       (λ j l. rw (twice (has (parent (live t)) (mark_of held (base + j))), parent_told_lem e t held m inner (base + j)))
 
 -- ---- 12 and 19, cell by cell
 
--- one number of two questions
-asked_12 : (a b : Bool) → ask a 12 (ask b 19 0) ≡ 12 → a ≡ false
-asked_12 true true q = absurd (let z : ◌≡◌ {A = ℕ} 0 12 = q in omega arith)
-asked_12 true false q = absurd (let z : ◌≡◌ {A = ℕ} 19 12 = q in omega arith)
-asked_12 false b q = refl
+-- what one cell tells is an answer of two questions
+module _ (a b : Bool) where
+  told_no : (why : Refusal) → Err why ≡ cond a (Ok (not b)) (Err MemoryDiffers) → (a ≡ false) × (question why ≡ 12)
+  told_no why q = by_bool a (λ h. absurd (never {x = not b} (q ∙ rw h))) (λ h. (h, ap question (same (q ∙ rw h))))
+    where
+      never : {x : Bool} → ◌≡◌ {A = Result Bool Refusal} (Err why) (Ok x) → ⊥
+      never z = let y : ◌≡◌ {A = ℕ} 0 1 = cc in omega arith
 
-asked_on : (a b : Bool) → (ask a 12 (ask b 19 0) ≡ 12 → ⊥) → (a ≡ true) × (ask a 12 (ask b 19 0) ≡ ask b 19 0)
-asked_on true b ne = (refl, refl)
-asked_on false b ne = absurd (ne refl)
+      same : ◌≡◌ {A = Result Bool Refusal} (Err why) (Err MemoryDiffers) → why ≡ MemoryDiffers
+      same z = cc
 
-both_19 : (a b : Bool) → or_else (ask a 19 0) (ask b 19 0) ≡ ask (a && b) 19 0
-both_19 true b = refl
-both_19 false b = refl
+  told_yes : (x : Bool) → Ok x ≡ cond a (Ok (not b)) (Err MemoryDiffers) → (a ≡ true) × (x ≡ not b)
+  told_yes x q = by_bool a (λ h. (h, same (q ∙ rw h))) (λ h. absurd (never (q ∙ rw h)))
+    where
+      never : ◌≡◌ {A = Result Bool Refusal} (Ok x) (Err MemoryDiffers) → ⊥
+      never z = let y : ◌≡◌ {A = ℕ} 0 1 = cc in omega arith
+
+      same : ◌≡◌ {A = Result Bool Refusal} (Ok x) (Ok (not b)) → x ≡ not b
+      same z = cc
+
+not_and : (a b : Bool) → (not a || not b) ≡ not (a && b)
+not_and true b = refl
+not_and false b = refl
 
 module _ (memory bodies : List ℕ) (e : ℕ) (t : List ℕ) (d : ℕ) (new : ℕ → Bool) (base n : ℕ) where
   abbrev like : ℕ → Bool
@@ -135,38 +143,45 @@ module _ (memory bodies : List ℕ) (e : ℕ) (t : List ℕ) (d : ℕ) (new : �
   free j = unruled e t d new (base + j)
 
   -- the cells in front of the j-th are like, and `ruled` tells whether one of their values comes from a rule
-  pub record Numbered (j ruled : ℕ) : Type 0 where
+  pub record Numbered (j : ℕ) (ruled : Bool) : Type 0 where
     pub same : all j like ≡ true
-    pub told : ruled ≡ ask (all j free) 19 0
+    pub told : ruled ≡ not (all j free)
 
-  pub numbered_none : Numbered 0 0
+  pub numbered_none : Numbered 0 false
   unfolding all
   numbered_none = record { same = refl; told = refl }
 
-  module _ (j ruled no : ℕ) (so_far : Numbered j ruled) (here : no ≡ cell_number memory bodies e t d new (base + j)) where
-    pub numbered_stop : no ≡ 12 → j < n → 12 ≡ range_number memory bodies e t d new base n
-    unfolding range_number
-    numbered_stop q l = sym (ask_stop _ 12 _ (all_not n like j l (asked_12 (like j) (free j) (sym here ∙ q))))
-
-    pub numbered_more : (no ≡ 12 → ⊥) → (next : ℕ) → next ≡ or_else ruled no → Numbered (j + 1) next
-    numbered_more ne next q =
-        let on = asked_on (like j) (free j) (λ z. ne (here ∙ z)) in
-        record {
-          same = sym (all_next j like) ∙ rw (so_far.same, on.0);
-          told = q ∙ (λ i. or_else (so_far.told i) ((here ∙ on.1) i)) ∙ both_19 (all j free) (free j) ∙ ap (λ (a : Bool). ask a 19 0) (all_next j free);
-        }
-
-  pub numbered_all : (ruled : ℕ) → Numbered n ruled → ruled ≡ range_number memory bodies e t d new base n
+  pub numbered_stop : (j : ℕ) (why : Refusal) → Err why ≡ cell_told memory bodies e t d new (base + j) → j < n → question why ≡ range_number memory bodies e t d new base n
   unfolding range_number
-  numbered_all ruled s = s.told ∙ sym (ask_go _ 12 _ s.same)
+  numbered_stop j why q l = let no = told_no (like j) (free j) why q in no.1 ∙ sym (ask_stop _ 12 _ (all_not n like j l no.0))
+
+  pub numbered_more : (j : ℕ) (ruled x next : Bool) → Numbered j ruled → Ok x ≡ cell_told memory bodies e t d new (base + j) → next ≡ (ruled || x) → Numbered (j + 1) next
+  numbered_more j ruled x next so_far q e =
+      let yes = told_yes (like j) (free j) x q in
+      record {
+        same = sym (all_next j like) ∙ rw (so_far.same, yes.0);
+        told = e ∙ (λ i. so_far.told i || yes.1 i) ∙ not_and (all j free) (free j) ∙ ap not (all_next j free);
+      }
+
+  pub numbered_19 : Numbered n true → 19 ≡ range_number memory bodies e t d new base n
+  unfolding range_number
+  numbered_19 s = sym (ask_go _ 12 _ s.same ∙ ask_stop (all n free) 19 0 (not-true _ (sym s.told)))
+
+  pub numbered_0 : Numbered n false → 0 ≡ range_number memory bodies e t d new base n
+  unfolding range_number
+  numbered_0 s = sym (ask_go _ 12 _ s.same ∙ ask_go (all n free) 19 0 (not-false _ (sym s.told)))
 
 -- one cell: not new, or by its value
 module _ (memory bodies : List ℕ) (e : ℕ) (t : List ℕ) (d : ℕ) (new : ℕ → Bool) (c : ℕ) where
-  pub number_held : new c ≡ false → 0 ≡ cell_number memory bodies e t d new c
-  number_held h = rw h
+  pub cell_held : new c ≡ false → Ok false ≡ cell_told memory bodies e t d new c
+  cell_held h = rw h
 
-  pub number_new : new c ≡ true → (q : ℕ) → q ≡ value_number memory bodies e t (parent d) c → q ≡ cell_number memory bodies e t d new c
-  number_new h q p = p ∙ rw h
+  pub cell_new : new c ≡ true → cell_told memory bodies e t d (λ x. true) c ≡ cell_told memory bodies e t d new c
+  cell_new h = rw h
+
+  pub cell_is : (same ruled : Bool) → same ≡ same_cell (value_in e t bodies (parent d) c) (cell_bytes memory c) → ruled ≡ ruled_in e t (parent d) c
+      → told_by same ruled ≡ cell_told memory bodies e t d (λ x. true) c
+  cell_is same ruled p q = λ i. told_by (p i) ((q ∙ sym (twice (ruled_in e t (parent d) c))) i)
 
 -- ---- question 18
 

@@ -1,78 +1,68 @@
--- The value of a cell that a domain holds, by what the search answers, and questions 12 and 19 of it. Assumes nothing.
+-- The value of a cell that a domain holds, by the entry that has it, and what the cell tells of it. Assumes nothing.
 use Prim.Native.Nat.{ℕ, ◌+◌, ◌≤◌}
-use mathlib.Core.Bool.{Bool, true, false}
+use mathlib.Core.Bool.{true, false}
 use mathlib.Core.List.{List}
-use mathlib.Core.Path.{◌≡◌, ap, ◌∙◌}
+use mathlib.Core.Path.{◌≡◌, sym, ap, ◌∙◌}
 use native.Mathlib.Omega.{arith}
 use lib.ListN.{length}
-use Rattle.words.specs.Layout.{cell_at}
-use Rattle.words.specs.Cells.{cell_bytes, same_cell}
+use Rattle.words.specs.Layout.{cell_at, cell_size}
+use Rattle.words.specs.Cells.{cell_bytes}
 use Rattle.words.proofs.Scan.{by_bool}
 use Rattle.words.proofs.Cells.{first_cell}
 use Rattle.patterns.specs.Pattern.{pattern}
 use Rattle.patterns.proofs.Bytes.{pattern_length}
-use Rattle.table.specs.Entry.{live, word1, word2, is_pattern}
-use Rattle.search.specs.Search.{source_in, value_in, value_from}
-use Rattle.search.specs.declared.Held.{Held}
-use Rattle.search.specs.declared.Held.TheVariants.{Nowhere, InBody, ByRule}
-use Rattle.search.proofs.Behind.{value_here}
-use Rattle.model.specs.Answer.{ask}
-use Rattle.add.specs.Walking.{Source, value_number}
+use Rattle.table.specs.Entry.{word1, word2, is_pattern}
+use Rattle.search.specs.Search.{source_in, value_in, ruled_in}
+use Rattle.search.specs.Holders.{value_of}
+use Rattle.search.specs.declared.holders.Value.TheVariants.{Body, Rule}
+use Rattle.add.specs.Walking.{Source}
 
-module _ (memory bodies : List ℕ) (e : ℕ) (t : List ℕ) (d c : ℕ) (l : d ≤ live t) (s : Source e t bodies d c) where
-  abbrev src : ℕ
-  src = source_in e t d c
+module _ (w v k : ℕ) where
+  body_not_rule : Body k ≡ Rule v → ⊥
+  body_not_rule q = let z : ◌≡◌ {A = ℕ} 0 1 = cc in omega arith
 
-  -- the search answers one of these
-  data Told : Type 0 where
-    bodied : is_pattern (word1 e t src) ≡ false → value_from e t d c ≡ InBody d (word2 e t src) → Told
-    ruled : is_pattern (word1 e t src) ≡ true → value_from e t d c ≡ ByRule d (word2 e t src) → Told
+  rule_not_body : Rule k ≡ Body v → ⊥
+  rule_not_body q = let z : ◌≡◌ {A = ℕ} 0 1 = cc in omega arith
 
-  told : Told
-  told =
-      by_bool (is_pattern (word1 e t src))
-      (λ p. ruled p (value_here e t d c l s.slot ∙ rw p))
-      (λ p. bodied p (value_here e t d c l s.slot ∙ rw p))
+  same_body : Body k ≡ Body v → k ≡ v
+  same_body q = cc
 
-  module _ (v : Held) (q : v ≡ value_from e t d c) where
-    pub somewhere : v ≡ Nowhere → ⊥
-    somewhere n = never told
-      where
-        never : Told → ⊥
-        never (bodied p r) = let z : ◌≡◌ {A = ℕ} 0 1 = cc in omega arith
-        never (ruled p r) = let z : ◌≡◌ {A = ℕ} 0 1 = cc in omega arith
+  same_rule : Rule k ≡ Rule v → k ≡ v
+  same_rule q = cc
 
-    module _ (x k : ℕ) where
-      own_body : v ≡ InBody x k → Told → (is_pattern (word1 e t src) ≡ false) × (k ≡ word2 e t src)
-      own_body n (bodied p r) = (p, cc)
-      own_body n (ruled p r) = absurd (let z : ◌≡◌ {A = ℕ} 0 1 = cc in omega arith)
+  -- by its words an entry has a body, or a rule
+  own_body : Body k ≡ value_of w v → (is_pattern w ≡ false) × (k ≡ v)
+  own_body q = by_bool (is_pattern w) (λ p. absurd (body_not_rule (q ∙ rw p))) (λ p. (p, same_body (q ∙ rw p)))
 
-      own_rule : v ≡ ByRule x k → Told → (is_pattern (word1 e t src) ≡ true) × (k ≡ word2 e t src)
-      own_rule n (bodied p r) = absurd (let z : ◌≡◌ {A = ℕ} 0 1 = cc in omega arith)
-      own_rule n (ruled p r) = (p, cc)
+  own_rule : Rule k ≡ value_of w v → (is_pattern w ≡ true) × (k ≡ v)
+  own_rule q = by_bool (is_pattern w) (λ p. (p, same_rule (q ∙ rw p))) (λ p. absurd (rule_not_body (q ∙ rw p)))
 
-      -- a body lies in the bodies, and is compared
-      module _ (n : v ≡ InBody x k) where
-        facts : (is_pattern (word1 e t src) ≡ false) × (k ≡ word2 e t src)
-        facts = own_body n told
+module _ (bodies : List ℕ) (e : ℕ) (t : List ℕ) (d c i : ℕ) (at : i ≡ source_in e t d c) (k : ℕ) where
+  -- a body lies in the bodies, and is what is held
+  module _ (q : Body k ≡ value_of (word1 e t i) (word2 e t i)) where
+    facts : (is_pattern (word1 e t (source_in e t d c)) ≡ false) × (k ≡ word2 e t (source_in e t d c))
+    facts = rw at at (own_body (word1 e t i) (word2 e t i) k q)
 
-        pub body_within : cell_at k + 64 ≤ length bodies
-        body_within = omega (arith, s.fits facts.0, facts.1)
+    pub body_within : Source e t bodies d c → cell_at k + cell_size ≤ length bodies
+    body_within s = omega (arith, s.fits facts.0, facts.1)
 
-        pub body_number : (w : ℕ) → w ≡ k → (same : Bool) → same ≡ same_cell (cell_bytes bodies w) (cell_bytes memory c) → (number : ℕ) → number ≡ ask same 12 0
-            → number ≡ value_number memory bodies e t d c
-        unfolding value_in
-        body_number w p same r number h =
-            h ∙ ap (λ (b : Bool). ask b 12 0) (r ∙ ap (λ (y : ℕ). same_cell (cell_bytes bodies y) (cell_bytes memory c)) (p ∙ facts.1)) ∙ rw facts.0
+    pub body_value : cell_bytes bodies k ≡ value_in e t bodies d c
+    unfolding value_in
+    body_value = rw facts.0 (ap (cell_bytes bodies) facts.1)
 
-      -- the bytes of a rule are compared
-      module _ (n : v ≡ ByRule x k) where
-        rule_facts : (is_pattern (word1 e t src) ≡ true) × (k ≡ word2 e t src)
-        rule_facts = own_rule n told
+    pub body_plain : false ≡ ruled_in e t d c
+    body_plain = sym facts.0
 
-        pub rule_number : (bytes : List ℕ) → bytes ≡ pattern k → (same : Bool) → same ≡ same_cell (cell_bytes bytes 0) (cell_bytes memory c) → (number : ℕ) → number ≡ ask same 12 19
-            → number ≡ value_number memory bodies e t d c
-        unfolding value_in
-        rule_number bytes p same r number h =
-            let long : length bytes ≡ 64 = ap length p ∙ pattern_length k in
-            h ∙ ap (λ (b : Bool). ask b 12 19) (r ∙ ap (λ (y : List ℕ). same_cell y (cell_bytes memory c)) (first_cell bytes long ∙ p ∙ ap pattern rule_facts.1)) ∙ rw rule_facts.0
+  -- a rule's bytes are
+  module _ (q : Rule k ≡ value_of (word1 e t i) (word2 e t i)) where
+    rule_facts : (is_pattern (word1 e t (source_in e t d c)) ≡ true) × (k ≡ word2 e t (source_in e t d c))
+    rule_facts = rw at at (own_rule (word1 e t i) (word2 e t i) k q)
+
+    pub rule_value : (bytes : List ℕ) → bytes ≡ pattern k → cell_bytes bytes 0 ≡ value_in e t bodies d c
+    unfolding value_in
+    rule_value bytes p =
+        let long : length bytes ≡ 64 = ap length p ∙ pattern_length k in
+        first_cell bytes long ∙ p ∙ rw rule_facts.0 (ap pattern rule_facts.1)
+
+    pub rule_ruled : true ≡ ruled_in e t d c
+    rule_ruled = sym rule_facts.0

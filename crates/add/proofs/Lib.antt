@@ -13,6 +13,7 @@ pub mod Questions
 pub mod Listing
 pub mod Comparing
 pub mod Taken
+pub mod Lending
+pub mod Still
 pub mod Storing
 pub mod Lists
-pub mod Both

@@ -1,25 +1,25 @@
--- The questions on a list of ranges as the code puts them, record by record, up to the whole call's number; and what they leave of the list.
+-- The questions on a list of ranges as the code puts them, range by range, up to the whole call's number; and what they leave of the list.
 -- Assumes nothing.
 use Prim.Native.Nat.{ℕ, zero, suc, ◌+◌, ◌≤◌, ◌<◌}
+use Rattle.std.proofs.Common.{drop, drop-cons}
+use Rattle.std.proofs.lemmas.List.{take_more, take-append-drop, take_all}
 use mathlib.Core.Bool.{Bool, true, false, not, ◌&&◌, ◌||◌}
-use mathlib.Core.List.{List, [], ◌∷◌, ◌++◌, append_assoc}
-use mathlib.Core.Logic.{⊎_elim}
-use mathlib.Core.Path.{◌≡◌, refl, sym, ap, subst, ◌∙◌}
-use native.Mathlib.Nat.{not-suc-le-zero, le_of_suc-le-suc, eq-or-lt_of_le}
+use mathlib.Core.List.{List, [], ◌∷◌, ◌++◌}
+use mathlib.Core.Path.{◌≡◌, refl, sym, ap, ◌∙◌}
 use native.Mathlib.Numerals.{add-one}
 use native.Mathlib.Omega.{arith}
-use borrow.Author.Tests.{le-leb, le-ltb, leb-true, ltb-true, ltb-false, eqb-true}
+use borrow.Author.Tests.{le-leb, le-ltb, leb-true, ltb-true, ltb-false, eqb-true, eqb-false, ne_eqb}
 use lib.Dec.{leb, ltb, eqb}
-use lib.ListN.{length}
-use Rattle.words.specs.Layout.{cells_of, bodies_of, slots_of, max_cells}
+use lib.ListN.{length, take}
+use Rattle.words.specs.Layout.{cells_of, bodies_of, slots_of, max_cells, cell_at}
 use Rattle.words.specs.Scan.{all, count}
 use Rattle.words.specs.Cells.{cell_bytes, same_cell}
 use Rattle.words.proofs.Scan.{and_split, and_join, or_split, is_false, true≢, all_ext, count_ext, count_le}
 use Rattle.patterns.specs.Pattern.{max_rule, pattern}
 use Rattle.ranges.specs.declared.Range.{Range}
 use Rattle.ranges.specs.Ranges.{list_ok, max_ranges}
-use Rattle.ranges.specs.Batch.{range_at, ranges_in, Within, NoneEmpty}
-use Rattle.ranges.proofs.Ranges.{covers_make, ranges_length, ranges_more}
+use Rattle.ranges.specs.Lists.{no_range, range_of, Within, NoneEmpty}
+use Rattle.ranges.proofs.Ranges.{covers_make}
 use Rattle.table.specs.Entry.{live, parent, parent_has}
 use Rattle.search.specs.Domain.{depth_named}
 use Rattle.search.specs.Search.{value_in, ruled_in}
@@ -36,47 +36,35 @@ use Rattle.store.proofs.Domains.{state_named, domains_count}
 use Rattle.store.proofs.InUse.{entries_in_use, copies_in_use_lem}
 use Rattle.store.proofs.Raw.{raw_rule, raw_state}
 use Rattle.add.specs.Add.{is_new, is_new_copy, add_check}
-use Rattle.add.specs.declared.Part.{Part}
-use Rattle.add.specs.Walking.{lacks, new_to, fresh_to, parent_check, rule_check, value_check, part_check, room_check, copies_of, PartOf, Askable, Asking, Counted}
+use Rattle.add.specs.declared.part.Part.{Part}
+use Rattle.add.specs.Walking.{lacks, new_to, fresh_to, parent_check, rule_check, value_check, part_check, room_check, copies_of, PartOf, CellsTold, Counted}
 use Rattle.add.proofs.Numbers.{newly_is, bodies_is}
 use Rattle.add.proofs.Questions.{fresh_new, part_is, list_then, stops_at, goes_on, counted_more, counted_none}
 
--- ---- the records of a list
+-- ---- the ranges of a list
 
-module _ (ws : List ℕ) where
-  ranges_suc : (n : ℕ) → ranges_in (suc n) ws ≡ ranges_in n ws ++ range_at ws n ∷ []
-  ranges_suc n = subst (λ (k : ℕ). ranges_in k ws ≡ ranges_in n ws ++ range_at ws n ∷ []) (add-one n) (ranges_more ws n)
-
+module _ (rs : List Range) where
   -- those before the i-th, it, and those behind it
-  pub ranges_split : (n i : ℕ) → i < n → (qs : List Range) × (ranges_in n ws ≡ ranges_in i ws ++ range_at ws i ∷ qs)
-  ranges_split zero i l = absurd (not-suc-le-zero l)
-  ranges_split (suc n) i l =
-      ⊎_elim
-      (λ (q : i ≡ n). ([], subst (λ (k : ℕ). ranges_in (suc n) ws ≡ ranges_in k ws ++ range_at ws k ∷ []) (sym q) (ranges_suc n)))
-      (λ (q : i < n).
-      let s = ranges_split n i q in (
-        s.0 ++ range_at ws n ∷ [],
-        ranges_suc n ∙ ap (λ (rs : List Range). rs ++ range_at ws n ∷ []) s.1 ∙ append_assoc (ranges_in i ws) (range_at ws i ∷ s.0) (range_at ws n ∷ []),
-      ))
-      (eq-or-lt_of_le (le_of_suc-le-suc l))
+  pub ranges_split : (i : ℕ) → i < length rs → rs ≡ take i rs ++ range_of rs i ∷ drop (i + 1) rs
+  ranges_split i l = sym (take-append-drop i rs) ∙ ap (λ (qs : List Range). take i rs ++ qs) (rw add-one (drop-cons rs i no_range l))
 
   -- question 20, by their number
-  module _ (n : ℕ) where
-    pub list_refused_lem : (ltb n 1 || ltb max_ranges n) ≡ true → list_ok (ranges_in n ws) ≡ false
-    list_refused_lem h =
-        is_false (list_ok (ranges_in n ws))
-        (λ p.
-        let s = and_split (leb 1 (length (ranges_in n ws))) (leb (length (ranges_in n ws)) max_ranges) p in
-        let low = leb-true 1 (length (ranges_in n ws)) s.0 in
-        let high = leb-true (length (ranges_in n ws)) max_ranges s.1 in
-        true≢ h (rw (le-ltb n 1 (omega (arith, ranges_length ws n)), le-ltb max_ranges n (omega (arith, ranges_length ws n)))))
+  pub list_refused_lem : (eqb (length rs) 0 || ltb max_ranges (length rs)) ≡ true → list_ok rs ≡ false
+  list_refused_lem h =
+      is_false (list_ok rs)
+      (λ p.
+      let s = and_split (leb 1 (length rs)) (leb (length rs) max_ranges) p in
+      let low = leb-true 1 (length rs) s.0 in
+      let high = leb-true (length rs) max_ranges s.1 in
+      let some : length rs ≡ 0 → ⊥ = omega arith in
+      true≢ h (rw (ne_eqb (length rs) 0 some, le-ltb max_ranges (length rs) high)))
 
-    pub list_taken : (ltb n 1 || ltb max_ranges n) ≡ false → (n ≤ max_ranges) × (list_ok (ranges_in n ws) ≡ true)
-    list_taken h =
-        let s = or_split (ltb n 1) (ltb max_ranges n) h in
-        let low = ltb-false n 1 s.0 in
-        let high = ltb-false max_ranges n s.1 in
-        (high, rw (ranges_length ws n) (and_join (leb 1 n) (leb n max_ranges) (le-leb 1 n low) (le-leb n max_ranges high)))
+  pub list_taken : (eqb (length rs) 0 || ltb max_ranges (length rs)) ≡ false → list_ok rs ≡ true
+  list_taken h =
+      let s = or_split (eqb (length rs) 0) (ltb max_ranges (length rs)) h in
+      let low = eqb-false (length rs) 0 s.0 in
+      let high = ltb-false max_ranges (length rs) s.1 in
+      and_join (leb 1 (length rs)) (leb (length rs) max_ranges) (le-leb 1 (length rs) (omega arith)) (le-leb (length rs) max_ranges high)
 
 -- ---- the questions on a range go by which of its own cells are new
 
@@ -109,51 +97,43 @@ part_fits memory bodies e t new base n k r l q =
     let ok = ask_yes (range_ok (cells_of (length memory)) base n) 8 _ (omega arith) (ask_rest (leb k 2 && leb l 1) 7 _ (omega arith) q) in
     leb-true (base + n) (cells_of (length memory)) (and_split (leb 1 n) (leb (base + n) (cells_of (length memory))) ok).1
 
--- ---- record by record
+-- ---- range by range
 
-module _ (memory bodies t : List ℕ) (top : ℕ) (held ws : List ℕ) where
-  -- what the questions have before them of the whole list they have of fewer of its records
-  pub asking_fewer : (n i : ℕ) → i ≤ n → Asking memory bodies t top held ws n → Asking memory bodies t top held ws i
-  asking_fewer n i l a = record {
-    store = a.store;
-    inner = a.inner;
-    ends = a.ends;
-    cells = a.cells;
-    marks = a.marks;
-    few = omega (arith, a.few);
-    listed = omega (arith, a.listed);
-  }
+-- what is so of a part that lies in memory: its cells are few
+pub part_small : (memory bodies t : List ℕ) → store_check (lent (length memory) (length bodies) t) ≡ 0 → (base n : ℕ) → base + n ≤ cells_of (length memory)
+    → (base + n ≤ max_cells) × (cell_at (base + n) ≤ length memory)
+part_small memory bodies t good base n fits = let f = store_lengths _ _ t good in (omega (arith, f.cells_high), omega (arith, f.memory_exact))
 
-  pub asking_part : (p : Part) → Asking memory bodies t top held ws p.seen → p.first + p.count ≤ cells_of (length memory) → Askable memory held ws (live t) p
-  asking_part p a fits =
-      let f = store_lengths _ _ t a.store in
-      record {
-        deep = (raw_rule memory bodies t a.store).live;
-        few = omega (arith, f.cells_high);
-        fits = omega (arith, f.memory_exact);
-        cells = omega (arith, f.cells_high, a.cells);
-        seen = a.few;
-        listed = a.listed;
-      }
+pub counted_few : (memory bodies t : List ℕ) → store_check (lent (length memory) (length bodies) t) ≡ 0 → (rs : List Range) (new more : ℕ)
+    → Counted (cells_of (length memory)) (slots_of (length t)) t rs new more → (new ≤ max_cells) × (more ≤ max_cells)
+counted_few memory bodies t good rs new more counted =
+    let f = store_lengths _ _ t good in (
+      omega (arith, f.cells_high, counted.cells, count_le (cells_of (length memory)) (is_new (slots_of (length t)) t rs)),
+      omega (arith, f.cells_high, counted.copies, count_le (cells_of (length memory)) (is_new_copy (slots_of (length t)) t rs)),
+    )
 
-  -- the first i records are refused by no question, and so many cells of theirs are new
+module _ (memory bodies t held : List ℕ) (rs : List Range) where
+  -- the first i ranges are refused by no question, and so many cells of theirs are new
   pub record Passing (i new more : ℕ) : Type 0 where
-    pub passed : list_checks (cells_of (length memory)) memory (ranges_in i ws) (state_in (slots_of (length t)) t bodies) 0 ≡ 0
-    pub counted : Counted (cells_of (length memory)) (slots_of (length t)) t (ranges_in i ws) new more
+    pub passed : list_checks (cells_of (length memory)) memory (take i rs) (state_in (slots_of (length t)) t bodies) 0 ≡ 0
+    pub counted : Counted (cells_of (length memory)) (slots_of (length t)) t (take i rs) new more
 
   -- there are no more of them than cells of memory
   pub passing_few : store_check (lent (length memory) (length bodies) t) ≡ 0 → (i new more : ℕ) → Passing i new more → (new ≤ max_cells) × (more ≤ max_cells)
-  passing_few good i new more so_far =
-      let f = store_lengths _ _ t good in (
-        omega (arith, f.cells_high, so_far.counted.cells, count_le (cells_of (length memory)) (is_new (slots_of (length t)) t (ranges_in i ws))),
-        omega (arith, f.cells_high, so_far.counted.copies, count_le (cells_of (length memory)) (is_new_copy (slots_of (length t)) t (ranges_in i ws))),
-      )
+  passing_few good i new more so_far = counted_few memory bodies t good (take i rs) new more so_far.counted
+
+  -- all of them
+  pub passing_all : (i new more : ℕ) → Passing i new more → i ≡ length rs
+      → (list_checks (cells_of (length memory)) memory rs (state_in (slots_of (length t)) t bodies) 0 ≡ 0) × Counted (cells_of (length memory)) (slots_of (length t)) t rs new more
+  passing_all i new more so_far last =
+      let whole : take i rs ≡ rs = ap (λ (n : ℕ). take n rs) last ∙ take_all (length rs) rs (omega arith) in
+      (rw whole at so_far.passed, rw whole at so_far.counted)
 
   pub passing_none : Passing 0 0 0
-  unfolding ranges_in
   passing_none = record { passed = refl; counted = counted_none (cells_of (length memory)) (slots_of (length t)) t }
 
-  module _ (n : ℕ) (a : Asking memory bodies t top held ws n) (i : ℕ) (p : Part) (o : PartOf ws i p) where
+  module _ (good : store_check (lent (length memory) (length bodies) t) ≡ 0) (inner : 1 ≤ live t) (marks : CellsTold (slots_of (length t)) t held)
+      (i : ℕ) (inside : i < length rs) (p : Part) (o : PartOf rs i p) where
     abbrev m : ℕ
     m = cells_of (length memory)
 
@@ -163,48 +143,57 @@ module _ (memory bodies t : List ℕ) (top : ℕ) (held ws : List ℕ) where
     abbrev s : State
     s = state_in (slots_of (length t)) t bodies
 
-    -- which of its cells are new is told by the records that need be asked
-    agree : (j : ℕ) → j < p.count → fresh_to held (live t) (ranges_in p.seen ws) (p.first + j) ≡ new_to (slots_of (length t)) t (ranges_in i ws) (p.first + j)
-    agree j l =
-        let here = covers_make (range_at ws i) (p.first + j) (omega (arith, o.first)) (omega (arith, o.first, o.count)) in
-        ap (λ (x : Bool). lacks held (live t) (p.first + j) && not x) (o.same (p.first + j) here)
-        ∙ ap (λ (f : ℕ → Bool). f (p.first + j)) (fresh_new e t held a.marks a.inner (ranges_in i ws))
+    abbrev r : Range
+    r = range_of rs i
 
-    module _ (x : ℕ) (asked : x ≡ part_check memory bodies (slots_of (length t)) t (fresh_to held (live t) (ranges_in p.seen ws)) p.first p.count p.kind p.rule p.label) where
-      pub part_number : x ≡ range_checks (cells_of (length memory)) memory (range_at ws i) (add_ranges memory (ranges_in i ws) (state_in (slots_of (length t)) t bodies)) 0
+    -- which of its cells are new to it: as the code asks, of the ranges that need be asked, and of all before it
+    abbrev asked_of : ℕ → Bool
+    asked_of = fresh_to held (live t) p.seen.now
+
+    abbrev before_of : ℕ → Bool
+    before_of = new_to (slots_of (length t)) t (take i rs)
+
+    agree : (j : ℕ) → j < r.count → asked_of (r.first + j) ≡ before_of (r.first + j)
+    agree j l =
+        let here = covers_make r (r.first + j) (omega arith) (omega arith) in
+        ap (λ (x : Bool). lacks held (live t) (r.first + j) && not x) (o.same (r.first + j) here)
+        ∙ ap (λ (f : ℕ → Bool). f (r.first + j)) (fresh_new e t held marks inner (take i rs))
+
+    one_more : take (i + 1) rs ≡ take i rs ++ range_of rs i ∷ []
+    one_more = take_more rs i no_range inside
+
+    module _ (x : ℕ)
+        (asked : x ≡ part_check memory bodies (slots_of (length t)) t (fresh_to held (live t) p.seen.now) p.range.first p.range.count p.range.kind p.range.rule p.range.label) where
+      abbrev checked : Range → ℕ
+      checked q = part_check memory bodies e t asked_of q.first q.count q.kind q.rule q.label
+
+      at_range : x ≡ checked r
+      at_range = asked ∙ ap checked o.range
+
+      pub part_number : x ≡ range_checks (cells_of (length memory)) memory (range_of rs i) (add_ranges memory (take i rs) (state_in (slots_of (length t)) t bodies)) 0
       part_number =
-          asked
-          ∙ part_same memory bodies e t (fresh_to held (live t) (ranges_in p.seen ws)) (new_to e t (ranges_in i ws)) p.first p.count agree p.kind p.rule p.label
-          ∙ (λ k. part_check memory bodies e t (new_to e t (ranges_in i ws)) (o.first k) (o.count k) (o.kind k) (o.rule k) (o.label k))
-          ∙ part_is memory m e (bodies_of (length bodies)) t bodies (raw_rule memory bodies t a.store) a.inner (ranges_in i ws) (range_at ws i) refl
+          at_range
+          ∙ part_same memory bodies e t asked_of before_of r.first r.count agree r.kind r.rule r.label
+          ∙ part_is memory m e (bodies_of (length bodies)) t bodies (raw_rule memory bodies t good) inner (take i rs) r refl
 
       -- a no is the list's
-      pub passing_stop : (new more : ℕ) → Passing i new more → i < n → (x ≡ 0 → ⊥) → x ≡ list_checks (cells_of (length memory)) memory (ranges_in n ws) (state_in (slots_of (length t)) t bodies) 0
-      passing_stop new more so_far l ne =
-          let q = ranges_split ws n i l in
-          stops_at m memory (ranges_in i ws) q.0 (range_at ws i) s so_far.passed x part_number ne
-          ∙ ap (λ (rs : List Range). list_checks m memory rs s 0) (sym q.1)
+      pub passing_stop : (new more : ℕ) → Passing i new more → (x ≡ 0 → ⊥) → x ≡ list_checks (cells_of (length memory)) memory rs (state_in (slots_of (length t)) t bodies) 0
+      passing_stop new more so_far ne =
+          stops_at m memory (take i rs) (drop (i + 1) rs) r s so_far.passed x part_number ne
+          ∙ ap (λ (qs : List Range). list_checks m memory qs s 0) (sym (ranges_split rs i inside))
 
       -- else its new cells are counted
-      pub part_asks : i < n → x ≡ 0 → Askable memory held ws (live t) p
-      part_asks l none =
-          asking_part p (asking_fewer n p.seen (omega (arith, o.seen)) a)
-          (part_fits memory bodies e t (fresh_to held (live t) (ranges_in p.seen ws)) p.first p.count p.kind p.rule p.label (sym asked ∙ none))
-
-      pub passing_more : (new more y : ℕ) → Passing i new more → x ≡ 0 → y ≡ count p.count (λ j. fresh_to held (live t) (ranges_in p.seen ws) (p.first + j))
-          → (z : ℕ) → z ≡ copies_of p.kind y → Passing (i + 1) (new + y) (more + z)
+      pub passing_more : (new more y : ℕ) → Passing i new more → x ≡ 0 → y ≡ count p.range.count (λ j. fresh_to held (live t) p.seen.now (p.range.first + j))
+          → (z : ℕ) → z ≡ copies_of p.range.kind y → Passing (i + 1) (new + y) (more + z)
       passing_more new more y so_far none many z copies =
-          let r : Range = range_at ws i in
-          let fits : p.first + p.count ≤ m =
-          part_fits memory bodies e t (fresh_to held (live t) (ranges_in p.seen ws)) p.first p.count p.kind p.rule p.label (sym asked ∙ none) in
-          let told : y ≡ count r.count (λ j. new_to e t (ranges_in i ws) (r.first + j)) =
-          many ∙ count_ext p.count _ (λ j. new_to e t (ranges_in i ws) (p.first + j)) agree
-          ∙ (λ k. count (o.count k) (λ j. new_to e t (ranges_in i ws) (o.first k + j))) in
-          let next = counted_more m e t (ranges_in i ws) r (omega (arith, o.first, o.count)) new more y so_far.counted told in
-          rw (copies, o.kind)
+          let fits : r.first + r.count ≤ m = part_fits memory bodies e t asked_of r.first r.count r.kind r.rule r.label (sym at_range ∙ none) in
+          let told : y ≡ count r.count (λ j. before_of (r.first + j)) =
+          many ∙ ap (λ (q : Range). count q.count (λ j. asked_of (q.first + j))) o.range ∙ count_ext r.count _ _ agree in
+          let kind : z ≡ copies_of r.kind y = copies ∙ ap (λ (q : Range). copies_of q.kind y) o.range in
+          rw kind
           (record {
-            passed = rw (ranges_more ws i) (goes_on m memory (ranges_in i ws) r s so_far.passed (sym part_number ∙ none));
-            counted = rw (ranges_more ws i) next;
+            passed = rw one_more (goes_on m memory (take i rs) r s so_far.passed (sym part_number ∙ none));
+            counted = rw one_more (counted_more m e t (take i rs) r fits new more y so_far.counted told);
           })
 
 -- ---- those on ranges, and then the rest
@@ -294,21 +283,21 @@ module _ (memory bodies t : List ℕ) (h : ℕ) (rs : List Range) where
 
 -- ---- what the questions leave of the list
 
-module _ (memory bodies t : List ℕ) (h n : ℕ) (ws : List ℕ) where
-  pub list_facts : add_check (buffers memory bodies t) h (ranges_in n ws) ≡ 0 → (1 ≤ n) × (n ≤ 64) × Within (cells_of (length memory)) n ws × NoneEmpty n ws
+module _ (memory bodies t : List ℕ) (h : ℕ) (rs : List Range) where
+  pub list_facts : add_check (buffers memory bodies t) h rs ≡ 0 → (1 ≤ length rs) × (length rs ≤ max_ranges) × Within (cells_of (length memory)) rs × NoneEmpty rs
   unfolding add_check
   list_facts z =
       let room : Room = room_of (buffers memory bodies t) in
       let state : State = state_of (buffers memory bodies t) in
       let m : ℕ = cells_of (length memory) in
-      let both = or_else_both (store_check (lent (length memory) (length bodies) t)) (add_checks room memory h (ranges_in n ws) state) z in
-      let asked = add_asked room memory h (ranges_in n ws) state both.1 in
-      let few = and_split (leb 1 (length (ranges_in n ws))) (leb (length (ranges_in n ws)) 64) asked.few in
-      let lies : (i : ℕ) → i < n → (1 ≤ (range_at ws i).count) × ((range_at ws i).first + (range_at ws i).count ≤ m) = λ i l.
-      let q = ranges_split ws n i l in
-      let rest = room_checks room state (add_ranges memory (ranges_in n ws) state) in
-      let here = list_rest m memory (ranges_in i ws) state _
-      (sym (checks_append m memory (ranges_in i ws) (range_at ws i ∷ q.0) state rest) ∙ ap (λ (rs : List Range). list_checks m memory rs state rest) (sym q.1) ∙ asked.ranges) in
-      let ok = and_split (leb 1 (range_at ws i).count) (leb ((range_at ws i).first + (range_at ws i).count) m) (range_asked m memory (range_at ws i) (add_ranges memory (ranges_in i ws) state) _ here).lies in
-      (leb-true 1 (range_at ws i).count ok.0, leb-true ((range_at ws i).first + (range_at ws i).count) m ok.1) in
-      (omega (arith, leb-true 1 (length (ranges_in n ws)) few.0, ranges_length ws n), omega (arith, leb-true (length (ranges_in n ws)) 64 few.1, ranges_length ws n), λ i l. (lies i l).1, λ i l. (lies i l).0)
+      let both = or_else_both (store_check (lent (length memory) (length bodies) t)) (add_checks room memory h rs state) z in
+      let asked = add_asked room memory h rs state both.1 in
+      let few = and_split (leb 1 (length rs)) (leb (length rs) max_ranges) asked.few in
+      let lies : (i : ℕ) → i < length rs → (1 ≤ (range_of rs i).count) × ((range_of rs i).first + (range_of rs i).count ≤ m) = λ i l.
+      let r : Range = range_of rs i in
+      let rest = room_checks room state (add_ranges memory rs state) in
+      let here = list_rest m memory (take i rs) state _
+      (sym (checks_append m memory (take i rs) (r ∷ drop (i + 1) rs) state rest) ∙ ap (λ (qs : List Range). list_checks m memory qs state rest) (sym (ranges_split rs i l)) ∙ asked.ranges) in
+      let ok = and_split (leb 1 r.count) (leb (r.first + r.count) m) (range_asked m memory r (add_ranges memory (take i rs) state) _ here).lies in
+      (leb-true 1 r.count ok.0, leb-true (r.first + r.count) m ok.1) in
+      (leb-true 1 (length rs) few.0, leb-true (length rs) max_ranges few.1, λ i l. (lies i l).1, λ i l. (lies i l).0)

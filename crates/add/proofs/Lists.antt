@@ -1,5 +1,4 @@
--- The call over a lent list is the call over the batch that the list is gathered into (`same_call`), and means the same (`same_means`), so that what is
--- said over the one holds over the other (`made_over`, `shown_over`). A batch of up to 64 ranges has those of the list; of more, whatever they are,
+-- The call over a lent list is the call over the batch that the list is gathered into (`same_call`), and means the same (`same_means`). A batch of up to 64 ranges has those of the list; of more, whatever they are,
 -- question 20 refuses both. Assumes nothing.
 use Prim.Native.Nat.{ℕ, zero, suc, ◌<◌}
 use mathlib.Core.Bool.{Bool, true, false, ◌&&◌}
@@ -10,18 +9,17 @@ use borrow.Author.Tests.{le-leb, lt-leb}
 use lib.ListN.{length}
 use Rattle.words.proofs.Scan.{by_le}
 use Rattle.ranges.specs.declared.Range.{Range}
-use Rattle.ranges.specs.declared.Batch.{Batch}
 use Rattle.ranges.specs.Ranges.{max_ranges, list_ok}
-use Rattle.ranges.specs.Batch.{no_batch, gathered, batch_ranges}
-use Rattle.ranges.proofs.Gathered.{gathered_all, length_more}
+use Rattle.ranges.specs.Batch.{no_batch, gathered}
+use Rattle.ranges.proofs.Gathered.{gathered_all, gathered_more}
 use Rattle.model.specs.State.{State}
-use Rattle.model.specs.Answer.{Report, ask, by_number, or_else}
+use Rattle.model.specs.Answer.{ask, by_number, or_else}
 use Rattle.model.specs.Calls.{Effect, refuse as refuse-effect, viewed}
 use Rattle.model.specs.Holdings.{Room, is_live, is_innermost, ask_innermost, add_checks, add_effect}
-use Rattle.store.specs.Outcome.{Buffers, Call, refuse, outcome, Makes}
+use Rattle.store.specs.Outcome.{Buffers, refuse}
 use Rattle.store.specs.Checks.{store_check, lent_of}
 use Rattle.store.specs.State.{state_of}
-use Rattle.store.specs.Means.{Shows, or_refused, call_means, room_of}
+use Rattle.store.specs.Means.{or_refused, call_means, room_of}
 use Rattle.store.proofs.Checks.{ask_stop}
 use Rattle.add.specs.Add.{add_check, add_call, add_means}
 
@@ -69,21 +67,13 @@ module _ (h : ℕ) (rs : List Range) (long : max_ranges < length rs) where
 -- ---- the batch of a list
 
 -- what is the same for all lists that are too long is the same for a list and the ranges of its batch
-same : {A : Type 0} (f : List Range → A) (x : A) → ((rs : List Range) → max_ranges < length rs → f rs ≡ x) → (rs : List Range) → f (batch_ranges (gathered no_batch rs)) ≡ f rs
+same : {A : Type 0} (f : List Range → A) (x : A) → ((rs : List Range) → max_ranges < length rs → f rs ≡ x) → (rs : List Range) → f (gathered no_batch rs) ≡ f rs
 same f x all rs = by_le (length rs) max_ranges
     (λ few. ap f (gathered_all rs few))
-    (λ long. let n = length_more rs long in all _ (omega arith) ∙ sym (all rs long))
+    (λ long. let n = gathered_more rs long in all _ (omega arith) ∙ sym (all rs long))
 
-pub same_call : (h : ℕ) (rs : List Range) (b : Buffers) → add_call h (batch_ranges (gathered no_batch rs)) b ≡ add_call h rs b
+pub same_call : (h : ℕ) (rs : List Range) (b : Buffers) → add_call h (gathered no_batch rs) b ≡ add_call h rs b
 same_call h rs b = same (λ qs. add_call h qs b) _ (λ qs long. long_call h qs long b) rs
 
-pub same_means : (h : ℕ) (rs : List Range) (budget : ℕ) (b : Buffers) → add_means h (batch_ranges (gathered no_batch rs)) budget b ≡ add_means h rs budget b
+pub same_means : (h : ℕ) (rs : List Range) (budget : ℕ) (b : Buffers) → add_means h (gathered no_batch rs) budget b ≡ add_means h rs budget b
 same_means h rs budget b = same (λ qs. add_means h qs budget b) _ (λ qs long. long_means h qs long budget b) rs
-
--- what is said over the batch d, which is that of the list rs, holds over rs
-module _ (h k : ℕ) (rs : List Range) (d : Batch) (e : d ≡ gathered no_batch rs) (before after : Buffers) (r : Report) where
-  pub made_over : Makes (add_call h (batch_ranges d)) k before r after → Makes (add_call h rs) k before r after
-  made_over m = m ∙ ap (λ (x : Batch). outcome (add_call h (batch_ranges x) before) k before) e ∙ ap (λ (c : Call). outcome c k before) (same_call h rs before)
-
-  pub shown_over : Shows (add_means h (batch_ranges d)) k before r after → Shows (add_means h rs) k before r after
-  shown_over m = m ∙ ap (λ (x : Batch). add_means h (batch_ranges x) k before) e ∙ same_means h rs k before

@@ -16,8 +16,6 @@ use Rattle.ranges.specs.declared.Range.{Range}
 use Rattle.ranges.specs.Ranges.{covers, named, kind_for}
 use Rattle.ranges.proofs.Ranges.{named_append, kind_append}
 use Rattle.table.specs.Entry.{live, holds_in, parent_has}
-use Rattle.table.specs.Marks.{Marked}
-use Rattle.table.proofs.Marks.{marked_holds}
 use Rattle.table.proofs.Rule.{Rule}
 use Rattle.model.specs.State.{State}
 use Rattle.model.specs.Answer.{ask, or_else}
@@ -28,7 +26,7 @@ use Rattle.store.specs.State.{state_in}
 use Rattle.store.proofs.Domains.{domains_count}
 use Rattle.store.proofs.Checks.{or_else_go, or_else_stop}
 use Rattle.add.specs.Add.{is_new, is_new_copy}
-use Rattle.add.specs.Walking.{new_to, fresh_to, parent_check, rule_check, value_check, part_check, copies_of, Counted}
+use Rattle.add.specs.Walking.{new_to, fresh_to, parent_check, rule_check, value_check, part_check, copies_of, CellsTold, Counted}
 use Rattle.add.proofs.Asking.{or_right, covered, agreed, plain, fitting}
 use Rattle.add.proofs.Numbers.{inner_held, outer_held, outer_value, outer_ruled}
 use Rattle.add.proofs.Counting.{count_range}
@@ -44,8 +42,8 @@ neither false true = refl
 neither false false = refl
 
 -- the marks tell which cells are new
-pub fresh_new : (e : ℕ) (t held : List ℕ) → Marked e t e held → 1 ≤ live t → (rs : List Range) → fresh_to held (live t) rs ≡ new_to e t rs
-fresh_new e t held m inner rs = λ i c. not (marked_holds e t held m (live t) c inner i) && not (named rs c)
+pub fresh_new : (e : ℕ) (t held : List ℕ) → CellsTold e t held → 1 ≤ live t → (rs : List Range) → fresh_to held (live t) rs ≡ new_to e t rs
+fresh_new e t held m inner rs = λ i c. not (m (live t) c inner i) && not (named rs c)
 
 -- ---- one range, behind the ranges rs
 

@@ -17,7 +17,8 @@ use Rattle.words.proofs.Gather.{gather_ext}
 use Rattle.ranges.specs.declared.Range.{Range}
 use Rattle.ranges.specs.Ranges.{label_for}
 use Rattle.table.specs.Entry.{live, word1, word2, cell_of}
-use Rattle.table.specs.Marks.{Marked, EndsAt}
+use Rattle.table.proofs.Entry.{find_some, holds_true}
+use Rattle.table.specs.Marks.{EndsAt}
 use Rattle.table.specs.Changes.{Change, keep, put, entry_stores, entry_changes}
 use Rattle.search.specs.Free.{slot_free}
 use Rattle.search.proofs.Taking.{taken_free, lowest_free_lem, lowest_taken, lowest_taker}
@@ -25,15 +26,14 @@ use Rattle.changes.specs.Staged.{Stages, Journaled}
 use Rattle.changes.proofs.Staging.{stages_skip, stages_ext, stages_but}
 use Rattle.model.specs.Answer.{steps_of}
 use Rattle.store.proofs.Changes.{steps_needed}
-use Rattle.add.specs.declared.Cursors.{Cursors}
 use Rattle.add.specs.Add.{is_new, rises, raise_change, cell_for, change_with, slot_for, body_for, add_words, add_bytes}
-use Rattle.add.specs.Walking.{lacks, bytes_at, take_change, list_change, Takeable, Standing, Copied, Restages, bytes_of, words_of}
+use Rattle.add.specs.Walking.{lacks, bytes_at, take_change, list_change, CellsTold, Stand, Takeable, Standing, Copied, Restages, bytes_of, words_of}
 use Rattle.add.proofs.Choices.{rises_facts, rises_free, raise_no}
 use Rattle.add.proofs.Taken.{slots_enough}
 
 -- ---- every cell is taken
 
-module _ (memory bodies t : List ℕ) (rs : List Range) (w : Cursors) (words bits : List ℕ) (s : Standing memory bodies t rs w words bits)
+module _ (memory bodies t : List ℕ) (rs : List Range) (w : Stand) (words bits : List ℕ) (s : Standing memory bodies t rs w words bits)
     (whole : w.at ≡ cells_of (length memory)) where
   abbrev e : ℕ
   e = slots_of (length t)
@@ -135,7 +135,7 @@ module _ (e : ℕ) (t : List ℕ) (rs : List Range) (inner : 1 ≤ live t) where
         (λ y. rw (lt-ltb i top y, lt-ltb i e l)))
 
     -- none rises where no cell of a read-write range is held
-    pub raise_none : (held words bits : List ℕ) → Marked e t e held → ((c : ℕ) → label_for rs c ≡ 1 → lacks held (live t) c ≡ true)
+    pub raise_none : (held words bits : List ℕ) → CellsTold e t held → ((c : ℕ) → label_for rs c ≡ 1 → lacks held (live t) c ≡ true)
         → Stages e (list_change m e b t rs 0) words bits → Stages e (list_change m e b t rs e) words bits
     unfolding list_change
     raise_none held words bits marks still s =
@@ -145,7 +145,9 @@ module _ (e : ℕ) (t : List ℕ) (rs : List Range) (inner : 1 ≤ live t) where
         (is_false (rises (live t) rs (word1 e t i))
         (λ y.
         let g = rises_facts (live t) rs (word1 e t i) y in
-        marks.clear (live t) (cell_of (word1 e t i)) inner (not-true _ (still (cell_of (word1 e t i)) g.label)) i l g.depth refl)) in
+        let c = cell_of (word1 e t i) in
+        let there = find_some e t (live t) c i l g.depth refl in
+        true≢ (holds_true e t (live t) c (omega (arith, there, l))) (sym (marks (live t) c inner) ∙ not-true _ (still c g.label)))) in
         by_bool (slot_free e t i) (λ p. rw p) (λ p. rw (p, le-ltb i 0 (omega arith), lt-ltb i e l, quiet)))
 
 -- ---- the call's words
@@ -194,8 +196,8 @@ module _ (memory bodies t held used : List ℕ) (rs : List Range) (a : Takeable 
 
 -- ---- the call's bytes
 
-module _ (memory t : List ℕ) (rs : List Range) (budget : ℕ) (w : Cursors) (bodies bodies' : List ℕ)
-    (c : Copied memory t rs budget (record { at = 0; next = 0; slot = 0; body = 0; made = 0 }) w bodies bodies') (whole : w.at ≡ cells_of (length memory)) where
+module _ (memory t : List ℕ) (rs : List Range) (budget : ℕ) (w : Stand) (bodies bodies' : List ℕ)
+    (c : Copied memory t rs budget (record { at = 0; slot = 0; body = 0; made = 0 }) w bodies bodies') (whole : w.at ≡ cells_of (length memory)) where
   all_bytes : gather (w.at - 0) (λ j. bytes_at (bodies_of (length bodies)) memory t rs (0 + j)) ≡ bytes_of memory bodies t rs
   unfolding add_bytes
   all_bytes =

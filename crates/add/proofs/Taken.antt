@@ -16,23 +16,20 @@ use Rattle.words.proofs.Nth.{count_below, nth_of}
 use Rattle.words.proofs.Gather.{gather_ext, gather_none, gather_split}
 use Rattle.words.proofs.Plans.{length_cell_plan, length_stores, run_take_append, stores_none}
 use Rattle.ranges.specs.declared.Range.{Range}
-use Rattle.ranges.specs.declared.Segment.{Segment}
 use Rattle.ranges.specs.Ranges.{named, kind_for}
-use Rattle.ranges.specs.Batch.{Asks}
+use Rattle.ranges.specs.Lists.{Asks}
 use Rattle.table.specs.Entry.{live, holds_in, entry_word, second_word}
 use Rattle.table.specs.Marks.{EndsAt}
-use Rattle.table.proofs.Marks.{marked_holds}
 use Rattle.table.specs.Changes.{Change, keep, put}
 use Rattle.search.specs.Free.{slot_free, body_free, lowest_free, free_from, end_of, unmarked, unmarked_from}
 use Rattle.search.proofs.From.{from_le}
-use Rattle.search.proofs.Free.{slots_all, free_ge, free_miss, free_early, free_nth, free_below, free_passed, free_holds, free_rank, bodies_all, unmarked_free, unmarked_nth, unmarked_below, unmarked_passed}
+use Rattle.search.proofs.Free.{slots_all, free_ge, free_miss, free_early, free_nth, free_below, free_passed, free_holds, free_rank, bodies_all, unmarked_nth, unmarked_below, unmarked_passed}
 use Rattle.search.proofs.Taking.{lowest_ext}
 use Rattle.changes.specs.Staged.{Restaged, Stages}
 use Rattle.changes.proofs.Staging.{stages_skip, stages_put}
 use Rattle.store.proofs.Raw.{raw_rule}
-use Rattle.add.specs.declared.Cursors.{Cursors}
 use Rattle.add.specs.Add.{is_new, is_new_copy, taken_first, taken_second, body_for}
-use Rattle.add.specs.Walking.{lacks, body_beyond, bytes_at, take_change, Takeable, RoomToTake, Standing, Copied, took_cell, passed_cell, cell_bytes_of, TookEntry, RoomForCell}
+use Rattle.add.specs.Walking.{lacks, body_beyond, bytes_at, take_change, Stand, Takeable, RoomToTake, Standing, Copied, took_cell, passed_cell, cell_bytes_of, TookEntry, RoomForCell}
 
 -- a second word has the body of a copy alone
 second_body : (k r v w : ℕ) → (k ≡ 0 → v ≡ w) → second_word k r v ≡ second_word k r w
@@ -47,20 +44,20 @@ pub body_small : (used : List ℕ) (b k from : ℕ) → from ≤ b → body_beyo
 unfolding unmarked_from
 body_small used b k from low = by_bool (eqb k 0) (λ z. rw z (from_le b from (unmarked used) low)) (λ z. rw z low)
 
-module _ (e b : ℕ) (t used : List ℕ) (k : ℕ) (w : Cursors) (body : ℕ) (q : body ≡ body_beyond used b k w.body) where
+module _ (e b : ℕ) (t used : List ℕ) (k : ℕ) (w : Stand) (body : ℕ) (q : body ≡ body_beyond used b k w.body) where
   pub took_body : k ≡ 0 → body ≡ unmarked_from b used w.body
   took_body z = q ∙ rw (eq-eqb k 0 z)
 
   pub took_bytes : (memory : List ℕ) → cond (eqb k 0) (cell_plan memory w.at body) [] ≡ cell_bytes_of b memory used k w
   took_bytes memory = by_bool (eqb k 0) (λ z. rw (z, took_body (eqb-true k 0 z))) (λ z. rw z)
 
-  pub took_is : (slot : ℕ) → slot ≡ free_from e t w.slot → (r : Cursors) → r.at ≡ w.at + 1 → r.next ≡ w.next → r.slot ≡ slot + 1
+  pub took_is : (slot : ℕ) → slot ≡ free_from e t w.slot → (r : Stand) → r.at ≡ w.at + 1 → r.slot ≡ slot + 1
       → r.body ≡ cond (eqb k 0) (body + 1) body → r.made ≡ w.made + cond (eqb k 0) cell_size 0 → r ≡ took_cell e b t used k w
-  took_is slot p r at next slots bodies made =
+  took_is slot p r at slots bodies made =
       let there : r.slot ≡ free_from e t w.slot + 1 = slots ∙ ap (λ (x : ℕ). x + 1) p in
       let behind : r.body ≡ cond (eqb k 0) (unmarked_from b used w.body + 1) w.body =
       bodies ∙ by_bool (eqb k 0) (λ z. rw (z, took_body (eqb-true k 0 z))) (λ z. rw z (q ∙ rw z)) in
-      λ i. record { at = at i; next = next i; slot = there i; body = behind i; made = made i }
+      λ i. record { at = at i; slot = there i; body = behind i; made = made i }
 
 module _ (memory bodies t held used : List ℕ) (rs : List Range) (a : Takeable memory bodies t held used rs) where
   abbrev e : ℕ
@@ -89,18 +86,18 @@ module _ (memory bodies t held used : List ℕ) (rs : List Range) (a : Takeable 
 
   -- the marks tell which cells are held, and which bodies are free
   pub lacks_is : (c : ℕ) → lacks held (live t) c ≡ not (holds_in (slots_of (length t)) t (live t) c)
-  lacks_is c = ap not (marked_holds e t held a.marks.cells (live t) c a.ready.inner)
+  lacks_is c = ap not (a.holders (live t) c a.ready.inner)
 
   pub new_is : (c : ℕ) → named rs c ≡ true → is_new (slots_of (length t)) t rs c ≡ lacks held (live t) c
   new_is c h = rw (h, lacks_is c)
 
   free_is : (x : ℕ) → unmarked used x ≡ body_free e t x
-  free_is x = unmarked_free e t used a.marks.copies x
+  free_is x = a.in_use x
 
   marked_count : (x : ℕ) → count x (unmarked used) ≡ count x (body_free e t)
   marked_count x = count_ext x (unmarked used) (body_free e t) (λ i l. free_is i)
 
-  module _ (w : Cursors) (words bits : List ℕ) (s : Standing memory bodies t rs w words bits) (l : w.at < m) where
+  module _ (w : Stand) (words bits : List ℕ) (s : Standing memory bodies t rs w words bits) (l : w.at < m) where
     abbrev at : ℕ
     at = w.at
 
@@ -200,15 +197,15 @@ module _ (memory bodies t held used : List ℕ) (rs : List Range) (a : Takeable 
             (λ z. rw (z, copy_here (eqb-true k 0 z)) (sym (length_cell_plan memory at (body_for e b t rs at))))
             (λ z. rw (z, other_here (eqb-false k 0 z)))
 
-        module _ (asked : Segment) (asks : Asks rs w.at asked.kind asked.rule asked.label) (same : asked.kind ≡ k)
-            (words' bits' : List ℕ) (took : TookEntry true e b t used asked w words bits words' bits') where
+        module _ (u lab : ℕ) (asks : Asks rs w.at k u lab)
+            (words' bits' : List ℕ) (took : TookEntry true e b t used k u lab w words bits words' bits') where
           -- its entry
-          second_is : second_word asked.kind asked.rule (body_beyond used b asked.kind w.body) ≡ taken_second rs (body_for e b t rs w.at) w.at
+          second_is : second_word k u (body_beyond used b k w.body) ≡ taken_second rs (body_for e b t rs w.at) w.at
           second_is =
-              second_body asked.kind asked.rule (body_beyond used b asked.kind w.body) (body_for e b t rs at) (λ z. rw (eq-eqb asked.kind 0 z) (body_is (sym same ∙ z)))
+              second_body k u (body_beyond used b k w.body) (body_for e b t rs at) (λ z. rw (eq-eqb k 0 z) (body_is z))
               ∙ sym (λ i. second_word (asks.kind i) (asks.rule i) (body_for e b t rs at))
 
-          first_is : entry_word (live t) asked.kind asked.label w.at ≡ taken_first t rs w.at
+          first_is : entry_word (live t) k lab w.at ≡ taken_first t rs w.at
           first_is = sym (λ i. entry_word (live t) (asks.kind i) (asks.label i) at)
 
           change_is : take_change m e b t rs slot
@@ -253,21 +250,21 @@ module _ (memory bodies t held used : List ℕ) (rs : List Range) (a : Takeable 
 
 -- ---- one cell of a part of the list, new or not
 
-module _ (memory bodies t held used : List ℕ) (rs : List Range) (a : Takeable memory bodies t held used rs) (w : Cursors) (words bits : List ℕ)
-    (s : Standing memory bodies t rs w words bits) (asked : Segment) (asks : Asks rs w.at asked.kind asked.rule asked.label) where
+module _ (memory bodies t held used : List ℕ) (rs : List Range) (a : Takeable memory bodies t held used rs) (w : Stand) (words bits : List ℕ)
+    (s : Standing memory bodies t rs w words bits) (k u lab : ℕ) (asks : Asks rs w.at k u lab) where
   inside : w.at < cells_of (length memory)
   inside = a.ready.within w.at asks.named
 
   pub cell_room : RoomToTake memory t rs words bits → lacks held (live t) w.at ≡ true
-      → RoomForCell (slots_of (length t)) (bodies_of (length bodies)) t used asked.kind w words bits
+      → RoomForCell (slots_of (length t)) (bodies_of (length bodies)) t used k w words bits
   cell_room room h =
-      room_for_cell memory bodies t held used rs a w words bits s inside (new_is memory bodies t held used rs a w.at asks.named ∙ h) asked.kind asks.kind room
+      room_for_cell memory bodies t held used rs a w words bits s inside (new_is memory bodies t held used rs a w.at asks.named ∙ h) k asks.kind room
 
   -- where taking stands behind it, and its bytes
-  abbrev Turned : (budget : ℕ) → (r : Cursors) → (bodies' words' bits' : List ℕ) → Type 0
-  Turned budget r bodies' words' bits' = Standing memory bodies t rs r words' bits' × Copied memory t rs budget w r bodies bodies' × (r.at ≡ w.at + 1) × (r.next ≡ w.next)
+  abbrev Turned : (budget : ℕ) → (r : Stand) → (bodies' words' bits' : List ℕ) → Type 0
+  Turned budget r bodies' words' bits' = Standing memory bodies t rs r words' bits' × Copied memory t rs budget w r bodies bodies' × (r.at ≡ w.at + 1)
 
-  copied_cell : (budget : ℕ) (r : Cursors) (bodies' : List ℕ) → r.at ≡ w.at + 1
+  copied_cell : (budget : ℕ) (r : Stand) (bodies' : List ℕ) → r.at ≡ w.at + 1
       → r.made ≡ w.made + length (bytes_at (bodies_of (length bodies)) memory t rs w.at)
       → bodies' ≡ stores (take (budget - w.made) (bytes_at (bodies_of (length bodies)) memory t rs w.at)) bodies → Copied memory t rs budget w r bodies bodies'
   copied_cell budget r bodies' q p h =
@@ -277,7 +274,7 @@ module _ (memory bodies t held used : List ℕ) (rs : List Range) (a : Takeable 
       ap (λ (x : ℕ). gather x (λ j. bytes_at (bodies_of (length bodies)) memory t rs (w.at + j))) d ∙ ap (bytes_at (bodies_of (length bodies)) memory t rs) z in
       record { on = omega arith; made = rw one p; bytes = rw one h }
 
-  module _ (budget : ℕ) (r : Cursors) (bodies' words' bits' : List ℕ) where
+  module _ (budget : ℕ) (r : Stand) (bodies' words' bits' : List ℕ) where
     held_turn : lacks held (live t) w.at ≡ false → r ≡ passed_cell w → bodies' ≡ bodies → words' ≡ words → bits' ≡ bits → Turned budget r bodies' words' bits'
     held_turn h q x y z =
         let old : is_new (slots_of (length t)) t rs w.at ≡ false = new_is memory bodies t held used rs a w.at asks.named ∙ h in
@@ -285,27 +282,25 @@ module _ (memory bodies t held used : List ℕ) (rs : List Range) (a : Takeable 
           passed_stands memory bodies t held used rs a w words bits s inside old,
           copied_cell budget (passed_cell w) bodies refl (rw old (omega arith)) (rw old (stores_none (budget - w.made) bodies)),
           refl,
-          refl,
         )
 
-    new_turn : lacks held (live t) w.at ≡ true → r ≡ took_cell (slots_of (length t)) (bodies_of (length bodies)) t used asked.kind w
-        → bodies' ≡ stores (take (budget - w.made) (cell_bytes_of (bodies_of (length bodies)) memory used asked.kind w)) bodies
-        → TookEntry true (slots_of (length t)) (bodies_of (length bodies)) t used asked w words bits words' bits' → Turned budget r bodies' words' bits'
+    new_turn : lacks held (live t) w.at ≡ true → r ≡ took_cell (slots_of (length t)) (bodies_of (length bodies)) t used k w
+        → bodies' ≡ stores (take (budget - w.made) (cell_bytes_of (bodies_of (length bodies)) memory used k w)) bodies
+        → TookEntry true (slots_of (length t)) (bodies_of (length bodies)) t used k u lab w words bits words' bits' → Turned budget r bodies' words' bits'
     new_turn h q x y =
         let new : is_new (slots_of (length t)) t rs w.at ≡ true = new_is memory bodies t held used rs a w.at asks.named ∙ h in
-        let here = bytes_here memory bodies t held used rs a w words bits s inside new asked.kind asks.kind in
-        let many = bytes_many memory bodies t held used rs a w words bits s inside new asked.kind asks.kind in
+        let here = bytes_here memory bodies t held used rs a w words bits s inside new k asks.kind in
+        let many = bytes_many memory bodies t held used rs a w words bits s inside new k asks.kind in
         rw q (
-          took_stands memory bodies t held used rs a w words bits s inside new asked.kind asks.kind asked asks refl words' bits' y,
-          copied_cell budget (took_cell (slots_of (length t)) (bodies_of (length bodies)) t used asked.kind w) bodies' refl (ap (λ (v : ℕ). w.made + v) many) (x ∙ rw here),
-          refl,
+          took_stands memory bodies t held used rs a w words bits s inside new k asks.kind u lab asks words' bits' y,
+          copied_cell budget (took_cell (slots_of (length t)) (bodies_of (length bodies)) t used k w) bodies' refl (ap (λ (v : ℕ). w.made + v) many) (x ∙ rw here),
           refl,
         )
 
-    pub cell_turn : r ≡ cond (lacks held (live t) w.at) (took_cell (slots_of (length t)) (bodies_of (length bodies)) t used asked.kind w) (passed_cell w)
-        → bodies' ≡ stores (take (budget - w.made) (cond (lacks held (live t) w.at) (cell_bytes_of (bodies_of (length bodies)) memory used asked.kind w) [])) bodies
-        → TookEntry (lacks held (live t) w.at) (slots_of (length t)) (bodies_of (length bodies)) t used asked w words bits words' bits'
-        → Standing memory bodies t rs r words' bits' × Copied memory t rs budget w r bodies bodies' × (r.at ≡ w.at + 1) × (r.next ≡ w.next)
+    pub cell_turn : r ≡ cond (lacks held (live t) w.at) (took_cell (slots_of (length t)) (bodies_of (length bodies)) t used k w) (passed_cell w)
+        → bodies' ≡ stores (take (budget - w.made) (cond (lacks held (live t) w.at) (cell_bytes_of (bodies_of (length bodies)) memory used k w) [])) bodies
+        → TookEntry (lacks held (live t) w.at) (slots_of (length t)) (bodies_of (length bodies)) t used k u lab w words bits words' bits'
+        → Standing memory bodies t rs r words' bits' × Copied memory t rs budget w r bodies bodies' × (r.at ≡ w.at + 1)
     cell_turn q x y =
         by_bool (lacks held (live t) w.at)
         (λ h. new_turn h (q ∙ rw h) (x ∙ rw h) (rw h at y))
@@ -318,7 +313,8 @@ same_able memory bodies bodies' t held used rs q a =
     let r = a.ready in
     record {
       ready = record { store = rw q r.store; inner = r.inner; within = r.within; kind = r.kind; rests = r.rests; plain = r.plain; rule = r.rule; slots = r.slots; places = rw q r.places };
-      marks = a.marks;
+      holders = a.holders;
+      in_use = a.in_use;
       cells = a.cells;
       places = a.places;
     }
@@ -330,10 +326,10 @@ same_room memory t rs words bits words' bits' p q r = let x = r.room in record {
 -- ---- cells that no range names are passed over
 
 module _ (memory bodies t : List ℕ) (rs : List Range) where
-  pub skip_stands : (w : Cursors) (words bits : List ℕ) → Standing memory bodies t rs w words bits → (c n : ℕ) → w.at ≤ c → c ≤ cells_of (length memory)
+  pub skip_stands : (w : Stand) (words bits : List ℕ) → Standing memory bodies t rs w words bits → (c : ℕ) → w.at ≤ c → c ≤ cells_of (length memory)
       → ((x : ℕ) → w.at ≤ x → x < c → named rs x ≡ false)
-      → Standing memory bodies t rs (record { at = c; next = n; slot = w.slot; body = w.body; made = w.made }) words bits
-  skip_stands w words bits s c n low high none =
+      → Standing memory bodies t rs (record { at = c; slot = w.slot; body = w.body; made = w.made }) words bits
+  skip_stands w words bits s c low high none =
       let y = s.made in
       record {
         cell = high;
@@ -346,12 +342,12 @@ module _ (memory bodies t : List ℕ) (rs : List Range) where
       }
 
   pub start_stands : (words bits : List ℕ) → ((f : ℕ → Change) → Stages 0 f words bits)
-      → Standing memory bodies t rs (record { at = 0; next = 0; slot = 0; body = 0; made = 0 }) words bits
+      → Standing memory bodies t rs (record { at = 0; slot = 0; body = 0; made = 0 }) words bits
   unfolding count
   start_stands words bits blank = record { cell = omega arith; slot = omega arith; slots = refl; body = omega arith; copies = refl; made = omega arith; staged = blank _ }
 
   -- bodies count by their number alone
-  pub same_stands : (bodies' : List ℕ) → length bodies' ≡ length bodies → (w : Cursors) (words bits : List ℕ) → Standing memory bodies t rs w words bits
+  pub same_stands : (bodies' : List ℕ) → length bodies' ≡ length bodies → (w : Stand) (words bits : List ℕ) → Standing memory bodies t rs w words bits
       → Standing memory bodies' t rs w words bits
   same_stands bodies' q w words bits s =
       record {
@@ -371,7 +367,7 @@ module _ (memory t : List ℕ) (rs : List Range) (budget : ℕ) where
   between b v w = gather (w - v) (λ j. bytes_at b memory t rs (v + j))
 
   -- none between a cell and itself, or where nothing is new
-  pub copied_none : (v w : Cursors) (bodies : List ℕ) → v.at ≤ w.at → w.made ≡ v.made → ((x : ℕ) → v.at ≤ x → x < w.at → named rs x ≡ false)
+  pub copied_none : (v w : Stand) (bodies : List ℕ) → v.at ≤ w.at → w.made ≡ v.made → ((x : ℕ) → v.at ≤ x → x < w.at → named rs x ≡ false)
       → Copied memory t rs budget v w bodies bodies
   copied_none v w bodies low q none =
       let empty : between (bodies_of (length bodies)) v.at w.at ≡ [] =
@@ -379,11 +375,11 @@ module _ (memory t : List ℕ) (rs : List Range) (budget : ℕ) where
       record { on = low; made = rw empty (omega arith); bytes = rw empty (stores_none (budget - v.made) bodies) }
 
   -- as many bodies as before
-  pub copied_length : (v w : Cursors) (bodies bodies' : List ℕ) → Copied memory t rs budget v w bodies bodies' → length bodies' ≡ length bodies
+  pub copied_length : (v w : Stand) (bodies bodies' : List ℕ) → Copied memory t rs budget v w bodies bodies' → length bodies' ≡ length bodies
   copied_length v w bodies bodies' c = ap length c.bytes ∙ length_stores (take (budget - v.made) (between (bodies_of (length bodies)) v.at w.at)) bodies
 
   -- one part behind another
-  pub copied_join : (v w r : Cursors) (b₀ b₁ b₂ : List ℕ) → Copied memory t rs budget v w b₀ b₁ → Copied memory t rs budget w r b₁ b₂ → Copied memory t rs budget v r b₀ b₂
+  pub copied_join : (v w r : Stand) (b₀ b₁ b₂ : List ℕ) → Copied memory t rs budget v w b₀ b₁ → Copied memory t rs budget w r b₁ b₂ → Copied memory t rs budget v r b₀ b₂
   copied_join v w r b₀ b₁ b₂ x y =
       let same : length b₁ ≡ length b₀ = ap length x.bytes ∙ length_stores (take (budget - v.made) (between (bodies_of (length b₀)) v.at w.at)) b₀ in
       let f : ℕ → List Store = bytes_at (bodies_of (length b₀)) memory t rs in

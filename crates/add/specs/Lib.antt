@@ -2,4 +2,6 @@
 pub mod Add
 pub mod Ready
 pub mod Walking
+pub mod Asked
+pub mod Took
 pub mod Choice

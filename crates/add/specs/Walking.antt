@@ -1,29 +1,29 @@
--- Add's questions and changes as its code goes through them: over marks, one for each cell and one for each body, and over the numbers of the list.
+-- Add's questions and changes as its code goes through them: over marks, one for each cell and one for each body, and over the ranges of the list.
 -- d is the depth of the domain that is added to.
-use Rattle.std.specs.Prelude.{ℕ, zero, suc, ◌+◌, ◌-◌, ◌*◌, ◌≤◌, ◌<◌, ◌≡◌, Bool, true, false, cond, not, ◌&&◌, ◌||◌, List, [], ltb, leb, eqb, length, take}
-use Rattle.words.specs.Layout.{cell_at, cells_of, bodies_of, slots_of, pairs_at, max_live, max_slots, max_cells, max_bodies, cell_size}
+use Rattle.std.specs.Prelude.{ℕ, zero, suc, ◌+◌, ◌-◌, ◌*◌, ◌≤◌, ◌<◌, ◌≡◌, Bool, true, false, cond, not, ◌&&◌, ◌||◌, List, [], Result, Ok, Err, ltb, leb, eqb, length, take}
+use Rattle.words.specs.Layout.{cell_at, cells_of, bodies_of, slots_of, max_cells, max_bodies, cell_size}
 use Rattle.words.specs.Scan.{all, count, nth}
 use Rattle.words.specs.Cells.{cell_bytes, same_cell, cell_plan}
 use Rattle.words.specs.Stores.{Store, gather, stores}
 use Rattle.ranges.specs.declared.Range.{Range}
-use Rattle.ranges.specs.declared.Segment.{Segment}
-use Rattle.ranges.specs.Ranges.{covers, named, max_ranges}
-use Rattle.ranges.specs.Batch.{range_at, ranges_in, record_size}
+use Rattle.ranges.specs.Ranges.{covers, named}
+use Rattle.ranges.specs.Lists.{range_of}
 use Rattle.patterns.specs.Pattern.{max_rule, pattern}
-use Rattle.table.specs.Entry.{live, word1, word2, entry_word, second_word, is_pattern, innermost, parent, parent_has, holds_in}
+use Rattle.table.specs.Entry.{word1, word2, entry_word, second_word, is_pattern, innermost, parent, parent_has, holds_in}
 use Rattle.marks.specs.Blocks.{cells_in}
-use Rattle.table.specs.Marks.{mark_of, has, Marked, CellsOnce, EndsAt, AllMarked}
+use Rattle.table.specs.Marks.{mark_of, has, EndsAt}
 use Rattle.table.specs.Changes.{Change, keep, put}
 use Rattle.search.specs.Search.{source_in, value_in, ruled_in}
-use Rattle.search.specs.Free.{slot_free, body_free, used_slots, copies, free_from, end_of, unmarked_from}
+use Rattle.search.specs.Free.{slot_free, body_free, used_slots, copies, free_from, end_of, unmarked, unmarked_from}
 use Rattle.changes.specs.Staged.{RoomFor, Restaged, Stages}
 use Rattle.model.specs.Answer.{ask}
 use Rattle.model.specs.Holdings.{ask_range}
-use Rattle.store.specs.Checks.{store_check, lent}
+use Rattle.store.specs.declared.answers.Refusal.{Refusal}
+use Rattle.store.specs.declared.answers.Refusal.TheVariants.{MemoryDiffers}
 use Rattle.add.specs.Add.{is_new, is_new_copy, raise_change, taken_first, taken_second, body_for, add_bytes, add_words}
 use Rattle.add.specs.Ready.{Ready}
-use Rattle.add.specs.declared.Cursors.{Cursors}
-use Rattle.add.specs.declared.Part.{Part}
+use Rattle.add.specs.declared.part.Part.{Part}
+use Rattle.add.specs.declared.cursors.Cursors.{Cursors}
 
 -- ---- which cells are new to a range that stands behind the ranges rs: those that the domain lacks and none of rs names
 
@@ -38,21 +38,11 @@ new_to e t rs c = not (holds_in e t (innermost t) c) && not (named rs c)
 abbrev pub fresh_to : List ℕ → ℕ → List Range → ℕ → Bool
 fresh_to held d rs c = lacks held d c && not (named rs c)
 
--- ---- a range taken out of the list's numbers: its own, and how many of the ranges before it need be asked
+-- ---- a range taken out of the list, and those of the ranges before it that need be asked
 
-pub record PartOf (ws : List ℕ) (i : ℕ) (p : Part) : Type 0 where
-  pub first : p.first ≡ (range_at ws i).first
-  pub count : p.count ≡ (range_at ws i).count
-  pub kind : p.kind ≡ (range_at ws i).kind
-  pub rule : p.rule ≡ (range_at ws i).rule
-  pub label : p.label ≡ (range_at ws i).label
-  pub seen : p.seen ≤ i
-  pub same : (c : ℕ) → covers (range_at ws i) c ≡ true → named (ranges_in p.seen ws) c ≡ named (ranges_in i ws) c
-  pub small : p.first + p.count < 8589934592
-
--- there are numbers of n ranges; of more than a list may have none are asked for
-abbrev pub Given : ℕ → List ℕ → Type 0
-Given n ws = n ≤ max_ranges → record_size * n ≤ length ws
+pub record PartOf (rs : List Range) (i : ℕ) (p : Part) : Type 0 where
+  pub range : p.range ≡ range_of rs i
+  pub same : (c : ℕ) → covers (range_of rs i) c ≡ true → named p.seen.now c ≡ named (take i rs) c
 
 -- ---- the questions, `new` telling which cells are new
 
@@ -93,13 +83,12 @@ alike memory bodies e t d new c = not (new c) || same_cell (value_in e t bodies 
 abbrev pub unruled : ℕ → List ℕ → (d : ℕ) → (new : ℕ → Bool) → (c : ℕ) → Bool
 unruled e t d new c = not (new c) || not (ruled_in e t (parent d) c)
 
--- 12 and 19 of one value: of cell c at depth d
-abbrev pub value_number : List ℕ → List ℕ → ℕ → List ℕ → (d c : ℕ) → ℕ
-value_number memory bodies e t d c = ask (same_cell (value_in e t bodies d c) (cell_bytes memory c)) 12 (ask (not (ruled_in e t d c)) 19 0)
+-- 12 of one cell that may be new, and whether its value comes from a rule; and 12 and 19 of a range, each for all its cells before the next
+abbrev pub told_by : (same ruled : Bool) → Result Bool Refusal
+told_by same ruled = cond same (Ok ruled) (Err MemoryDiffers)
 
--- of a cell that may be new; and of a range, each for all its cells before the next
-abbrev pub cell_number : List ℕ → List ℕ → ℕ → List ℕ → (d : ℕ) → (new : ℕ → Bool) → (c : ℕ) → ℕ
-cell_number memory bodies e t d new c = ask (alike memory bodies e t d new c) 12 (ask (unruled e t d new c) 19 0)
+abbrev pub cell_told : List ℕ → List ℕ → ℕ → List ℕ → (d : ℕ) → (new : ℕ → Bool) → (c : ℕ) → Result Bool Refusal
+cell_told memory bodies e t d new c = told_by (alike memory bodies e t d new c) (not (unruled e t d new c))
 
 unfoldable pub range_number : List ℕ → List ℕ → ℕ → List ℕ → (d : ℕ) → (new : ℕ → Bool) → (base n : ℕ) → ℕ
 range_number memory bodies e t d new base n =
@@ -114,37 +103,12 @@ pub record Source (e : ℕ) (t bodies : List ℕ) (d c : ℕ) : Type 0 where
   pub slot : source_in e t d c < e
   pub fits : is_pattern (word1 e t (source_in e t d c)) ≡ false → cell_at (word2 e t (source_in e t d c)) + cell_size ≤ length bodies
 
--- what asking which cells of a part are new asks
-pub record Askable (memory held ws : List ℕ) (d : ℕ) (p : Part) : Type 0 where
-  pub deep : d ≤ max_live
-  pub few : p.first + p.count ≤ max_cells
-  pub fits : cell_at (p.first + p.count) ≤ length memory
-  pub cells : p.first + p.count ≤ cells_in held
-  pub seen : p.seen ≤ max_ranges
-  pub listed : record_size * p.seen ≤ length ws
+-- marks of cells tell which domains hold which cells, and marks of bodies which bodies are in use
+abbrev pub CellsTold : ℕ → List ℕ → List ℕ → Type 0
+CellsTold e t held = (d c : ℕ) → 1 ≤ d → has d (mark_of held c) ≡ holds_in e t d c
 
--- what comparing it with the values of depth d's parent asks besides: the entries from the top-th on are free, and the parent holds every cell of it
--- that is new
-pub record Comparable (memory bodies : List ℕ) (e : ℕ) (t : List ℕ) (top : ℕ) (held ws : List ℕ) (d : ℕ) (p : Part) : Type 0 where
-  pub asks : Askable memory held ws d p
-  pub slots : e ≤ max_slots
-  pub long : pairs_at e ≤ length t
-  pub ends : EndsAt e t top
-  pub deep : live t ≤ max_live
-  pub inner : 1 ≤ d
-  pub among : d ≤ live t
-  pub once : CellsOnce e t e
-  pub sources : (j : ℕ) → j < p.count → fresh_to held d (ranges_in p.seen ws) (p.first + j) ≡ true → Source e t bodies (parent d) (p.first + j)
-
--- what the questions on ranges have before them: a table that passes questions 1 to 4 with a domain in it, its marks, and the list
-pub record Asking (memory bodies t : List ℕ) (top : ℕ) (held ws : List ℕ) (n : ℕ) : Type 0 where
-  pub store : store_check (lent (length memory) (length bodies) t) ≡ 0
-  pub inner : 1 ≤ live t
-  pub ends : EndsAt (slots_of (length t)) t top
-  pub cells : max_cells ≤ cells_in held
-  pub marks : Marked (slots_of (length t)) t (slots_of (length t)) held
-  pub few : n ≤ max_ranges
-  pub listed : record_size * n ≤ length ws
+abbrev pub BodiesTold : ℕ → List ℕ → List ℕ → Type 0
+BodiesTold e t used = (k : ℕ) → unmarked used k ≡ body_free e t k
 
 -- so many copies among so many new cells of one kind
 abbrev pub copies_of : (k n : ℕ) → ℕ
@@ -181,7 +145,8 @@ list_change m e b t rs n i =
 -- what taking asks: no question refuses the list, and the marks are right
 pub record Takeable (memory bodies t held used : List ℕ) (rs : List Range) : Type 0 where
   pub ready : Ready memory bodies t rs
-  pub marks : AllMarked (slots_of (length t)) t held used
+  pub holders : CellsTold (slots_of (length t)) t held
+  pub in_use : BodiesTold (slots_of (length t)) t used
   pub cells : max_cells ≤ cells_in held
   pub places : length used ≡ max_bodies
 
@@ -191,8 +156,22 @@ pub record RoomToTake (memory t : List ℕ) (rs : List Range) (words bits : List
   pub ends : EndsAt (slots_of (length t)) t top
   pub room : RoomFor (end_of (slots_of (length t)) (count (cells_of (length memory)) (is_new (slots_of (length t)) t rs)) top) words bits
 
+-- what is lent to take the cells has as many bytes of bodies as this, whatever they are
+abbrev pub AbleToTake : (memory : List ℕ) (n : ℕ) (t held used : List ℕ) (rs : List Range) → Type 0
+AbleToTake memory n t held used rs = (bodies : List ℕ) → length bodies ≡ n → Takeable memory bodies t held used rs
+
+-- where taking stands: at a cell, with the cursors w
+pub record Stand : Type 0 where
+  pub at : ℕ
+  pub slot : ℕ
+  pub body : ℕ
+  pub made : ℕ
+
+abbrev pub stand : ℕ → Cursors → Stand
+stand c w = record { at = c; slot = w.slot; body = w.body; made = w.made }
+
 -- the cells before w.at are taken, and their entries staged
-pub record Standing (memory bodies t : List ℕ) (rs : List Range) (w : Cursors) (words bits : List ℕ) : Type 0 where
+pub record Standing (memory bodies t : List ℕ) (rs : List Range) (w : Stand) (words bits : List ℕ) : Type 0 where
   pub cell : w.at ≤ cells_of (length memory)
   pub slot : w.slot ≤ slots_of (length t)
   pub slots : count w.slot (slot_free (slots_of (length t)) t) ≡ count w.at (is_new (slots_of (length t)) t rs)
@@ -202,35 +181,34 @@ pub record Standing (memory bodies t : List ℕ) (rs : List Range) (w : Cursors)
   pub staged : Stages w.slot (take_change (cells_of (length memory)) (slots_of (length t)) (bodies_of (length bodies)) t rs) words bits
 
 -- the bytes of the cells from v.at to before w.at, which are stored as far as the budget goes
-pub record Copied (memory t : List ℕ) (rs : List Range) (budget : ℕ) (v w : Cursors) (bodies bodies' : List ℕ) : Type 0 where
+pub record Copied (memory t : List ℕ) (rs : List Range) (budget : ℕ) (v w : Stand) (bodies bodies' : List ℕ) : Type 0 where
   pub on : v.at ≤ w.at
   pub made : w.made ≡ v.made + length (gather (w.at - v.at) (λ j. bytes_at (bodies_of (length bodies)) memory t rs (v.at + j)))
   pub bytes : bodies' ≡ stores (take (budget - v.made) (gather (w.at - v.at) (λ j. bytes_at (bodies_of (length bodies)) memory t rs (v.at + j)))) bodies
 
 -- where taking stands once cell w .at is taken, as kind k
-abbrev pub took_cell : (e b : ℕ) → (t used : List ℕ) → (k : ℕ) → Cursors → Cursors
+abbrev pub took_cell : (e b : ℕ) → (t used : List ℕ) → (k : ℕ) → Stand → Stand
 took_cell e b t used k w = record {
   at = w.at + 1;
-  next = w.next;
   slot = free_from e t w.slot + 1;
   body = cond (eqb k 0) (unmarked_from b used w.body + 1) w.body;
   made = w.made + cond (eqb k 0) cell_size 0;
 }
 
-abbrev pub passed_cell : Cursors → Cursors
-passed_cell w = record { at = w.at + 1; next = w.next; slot = w.slot; body = w.body; made = w.made }
+abbrev pub passed_cell : Stand → Stand
+passed_cell w = record { at = w.at + 1; slot = w.slot; body = w.body; made = w.made }
 
 -- its bytes, and its entry staged where it is new
-abbrev pub cell_bytes_of : (b : ℕ) → (memory used : List ℕ) → (k : ℕ) → Cursors → List Store
+abbrev pub cell_bytes_of : (b : ℕ) → (memory used : List ℕ) → (k : ℕ) → Stand → List Store
 cell_bytes_of b memory used k w = cond (eqb k 0) (cell_plan memory w.at (unmarked_from b used w.body)) []
 
-pub record TookEntry (new : Bool) (e b : ℕ) (t used : List ℕ) (s : Segment) (w : Cursors) (words bits words' bits' : List ℕ) : Type 0 where
+pub record TookEntry (new : Bool) (e b : ℕ) (t used : List ℕ) (k r l : ℕ) (w : Stand) (words bits words' bits' : List ℕ) : Type 0 where
   pub put : new ≡ true → Restaged words bits (free_from e t w.slot)
-      (put (entry_word (innermost t) s.kind s.label w.at) (second_word s.kind s.rule (body_beyond used b s.kind w.body))) words' bits'
+      (put (entry_word (innermost t) k l w.at) (second_word k r (body_beyond used b k w.body))) words' bits'
   pub kept : new ≡ false → (words' ≡ words) × (bits' ≡ bits)
 
 -- there is a slot for it, with room to stage it, and a body if it is a copy
-pub record RoomForCell (e b : ℕ) (t used : List ℕ) (k : ℕ) (w : Cursors) (words bits : List ℕ) : Type 0 where
+pub record RoomForCell (e b : ℕ) (t used : List ℕ) (k : ℕ) (w : Stand) (words bits : List ℕ) : Type 0 where
   pub slot : free_from e t w.slot < e
   pub room : RoomFor (free_from e t w.slot + 1) words bits
   pub body : k ≡ 0 → unmarked_from b used w.body < b
@@ -246,7 +224,7 @@ pub record Restages (i : ℕ) (c : Change) (words bits words' bits' : List ℕ) 
 pub record Lifts (e : ℕ) (t : List ℕ) (rs : List Range) (words bits words' bits' : List ℕ) : Type 0 where
   pub of : (m b : ℕ) → Stages e (list_change m e b t rs 0) words bits → Stages e (list_change m e b t rs e) words' bits'
 
--- ---- the call on the numbers of a list
+-- ---- the call
 
 abbrev pub bytes_of : (memory bodies t : List ℕ) → List Range → List Store
 bytes_of memory bodies t rs = add_bytes (bodies_of (length bodies)) memory t rs

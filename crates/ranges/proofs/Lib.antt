@@ -1,7 +1,6 @@
--- Lists of records: what they ask for a cell, gathered into numbers, and in the order of the cells.
+-- Lists of ranges: what they ask for a cell, gathered into a batch, and in the order of the cells.
 pub mod Ranges
 pub mod Gathered
-pub mod Numbered
 pub mod Lists
 pub mod Least
 pub mod Orders

@@ -1,69 +1,46 @@
--- `add::add_check` meets its contract. Assumes nothing.
-use mathlib.Core.Path.{sym, ◌∙◌}
-use native.Mathlib.Omega.{arith}
-use Rattle.ranges.specs.Batch.{ranges_in}
+use Rattle.std.proofs.Common.{◌≡◌, ℕ, ◌≤◌, List, sym, ap, subst, ◌∙◌, length, arith}
+use Rattle.words.specs.Layout.{slots_of}
 use Rattle.marks.proofs.Blocks.{kept_cells}
-use Rattle.store.proofs.Raw.{raw_rule}
-use Rattle.store.proofs.Checks.{store_lengths}
-use Rattle.store.proofs.Checked.{checked_ends}
-use Rattle.add.proofs.Listing.{inner_live, list_refused_lem, list_taken, check_store, check_inner, check_20, check_list}
+use Rattle.table.specs.Entry.{live}
+use Rattle.table.proofs.Marks.{marked_holds}
+use Rattle.store.specs.Checks.{store_check, lent}
+use Rattle.store.proofs.Refused.{handed_on, question_no}
+use Rattle.add.specs.Walking.{CellsTold}
+use Rattle.add.proofs.Listing.{list_refused_lem, list_taken, check_store, check_inner, check_20, check_list}
 use Rattle.add.proofs.add_check.Goals as goal
 
-pub returns-then-no-ne0 : goal.returns-then-no-ne0
-returns-then-no-ne0 c =
-    let a = c.args in record {
-      no = c.refused.ensures
-          ∙ check_store a.memory.now a.bodies.now a.table.now a.handle (ranges_in a.n a.list.now) c.store_check-no.result c.store_check-no.ensures.no c.if-no-ne0.true;
-      marks = λ z. absurd (c.if-no-ne0.true (sym c.refused.ensures ∙ z));
-      counted = λ z. absurd (c.if-no-ne0.true (sym c.refused.ensures ∙ z));
-    }
-
-pub innermost_check-out-requires : goal.innermost_check-out-requires
-innermost_check-out-requires c =
+pub returns-in_err-sound-clause-no : goal.returns-in_err-sound-clause-no
+returns-in_err-sound-clause-no c =
     let a = c.args in
-    let good = sym c.store_check-no.ensures.no ∙ c.if-no-ne0.false in
-    let f = store_lengths _ _ a.table.now good in
-    (omega (arith, f.table_exact), (raw_rule a.memory.now a.bodies.now a.table.now good).live)
+    handed_on _ _ c.from_residual.ensures.1 ∙ check_store a.memory.now a.bodies.now a.table.now a.handle a.list.now _ c.in_err-sound.ensures.no (question_no _)
 
-pub returns-then-out-ne0 : goal.returns-then-out-ne0
-returns-then-out-ne0 c =
+pub returns-in_err-innermost_check-clause-no : goal.returns-in_err-innermost_check-clause-no
+returns-in_err-innermost_check-clause-no c =
     let a = c.args in
-    let good = sym c.store_check-no.ensures.no ∙ c.if-no-ne0.false in record {
-      no = c.refused-then-out-ne0.ensures
-          ∙ check_inner a.memory.now a.bodies.now a.table.now a.handle (ranges_in a.n a.list.now) good c.innermost_check-out.result c.innermost_check-out.ensures c.if-out-ne0.true;
-      marks = λ z. absurd (c.if-out-ne0.true (sym c.refused-then-out-ne0.ensures ∙ z));
-      counted = λ z. absurd (c.if-out-ne0.true (sym c.refused-then-out-ne0.ensures ∙ z));
-    }
+    handed_on _ _ c.from_residual-in_err-innermost_check.ensures.1
+    ∙ check_inner a.memory.now a.bodies.now a.table.now a.handle a.list.now (sym c.in_ok-sound.ensures.no) _ c.in_err-innermost_check.ensures.no (question_no _)
 
-pub returns-then-n : goal.returns-then-n
-returns-then-n c =
+pub returns-then-list-clause-no : goal.returns-then-list-clause-no
+returns-then-list-clause-no c =
     let a = c.args in
-    let good = sym c.store_check-no.ensures.no ∙ c.if-no-ne0.false in
-    let in-it = sym c.innermost_check-out.ensures ∙ c.if-out-ne0.false in record {
-      no = c.refused-then-n.ensures
-          ∙ check_20 a.memory.now a.bodies.now a.table.now a.handle (ranges_in a.n a.list.now) good in-it (list_refused_lem a.list.now a.n c.if-n.true);
-      marks = λ z. absurd (omega (arith, c.refused-then-n.ensures, z));
-      counted = λ z. absurd (omega (arith, c.refused-then-n.ensures, z));
-    }
+    check_20 a.memory.now a.bodies.now a.table.now a.handle a.list.now (sym c.in_ok-sound.ensures.no) (sym c.in_ok-innermost_check.ensures.no) (list_refused_lem a.list.now c.if-list.true)
 
-pub list_check-requires : goal.list_check-requires
-list_check-requires c =
+pub invariant_of-asking : goal.invariant_of-asking
+invariant_of-asking c =
     let a = c.args in
-    let good = sym c.store_check-no.ensures.no ∙ c.if-no-ne0.false in
-    let marks = c.store_check-no.ensures.marks c.if-no-ne0.false in
-    let few = (list_taken a.list.now a.n c.if-n.false).0 in
+    let s = c.in_ok-sound.ensures.sound in
+    let marks = c.in_ok-sound.ensures.marks in
+    let back = sym s.words in
     record {
-      store = good;
-      inner = inner_live a.table.now a.handle (sym c.innermost_check-out.ensures ∙ c.if-out-ne0.false);
-      ends = checked_ends _ _ a.table.now good a.top c.requires.0.reached;
+      store = subst (λ (w : List ℕ). store_check (lent (length a.memory.now) (length a.bodies.now) w) ≡ 0) back (sym c.in_ok-sound.ensures.no);
+      inner = subst (λ (w : List ℕ). 1 ≤ live w) back c.in_ok-innermost_check.ensures.inner.1;
+      slots = s.slots ∙ ap (λ (w : List ℕ). slots_of (length w)) back;
       cells = omega (arith, kept_cells _ marks.kept);
-      marks = marks.cells;
-      few = few;
-      listed = c.requires.1 few;
+      told = subst (λ (w : List ℕ). CellsTold (slots_of (length w)) w c.store_check.new.seen) back (marked_holds (slots_of (length a.table.now)) a.table.now c.store_check.new.seen marks.cells);
     }
 
-pub returns : goal.returns
-returns c =
+pub returns-clause-no : goal.returns-clause-no
+returns-clause-no c =
     let a = c.args in
-    let good = sym c.store_check-no.ensures.no ∙ c.if-no-ne0.false in
-    let in-it = sym c.innermost_check-out.ensures ∙ c.if-out-ne0.false in record { no = check_list a.memory.now a.bodies.now a.table.now a.handle (ranges_in a.n a.list.now) good in-it (list_taken a.list.now a.n c.if-n.false).1 c.list_check.result.no c.list_check.ensures.no; marks = λ z. c.store_check-no.ensures.marks c.if-no-ne0.false; counted = c.list_check.ensures.counted }
+    check_list a.memory.now a.bodies.now a.table.now a.handle a.list.now (sym c.in_ok-sound.ensures.no) (sym c.in_ok-innermost_check.ensures.no)
+    (list_taken a.list.now c.if-list.false) _ (rw c.in_ok-sound.ensures.sound.words at c.list_check.ensures.no)

@@ -1,7 +1,6 @@
--- `add::add_stores` meets its contract. Assumes nothing.
-use native.Mathlib.Omega.{arith}
+use Rattle.std.proofs.Common.{arith}
+use Rattle.store.proofs.Checks.{store_lengths}
 use Rattle.add.proofs.add_stores.Goals as goal
 
-pub write_few-requires : goal.write_few-requires
-write_few-requires c =
-    record { able = c.requires.able; list = c.requires.list; room = (c.requires.new.0, omega (arith, c.least-end.ensures, c.slots_of.ensures, c.requires.new.1, c.if-end-le-FEW_SLOTS.true)) }
+pub write_with-requires-2-clause-room : goal.write_with-requires-2-clause-room
+write_with-requires-2-clause-room c = let f = store_lengths _ _ c.args.table.now c.requires.able.ready.store in (omega (arith, f.slots_high), omega arith, omega arith)

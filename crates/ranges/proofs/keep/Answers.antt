@@ -1,15 +1,16 @@
--- `ranges::keep` meets its contract: the five stores of a record, or the count alone. Assumes nothing.
-use Rattle.std.proofs.Common.{◌*◌, le-ltb, lt-ltb}
+-- `ranges::keep` meets its contract. Assumes nothing.
+use Rattle.std.proofs.Common.{length, arith, sym, ◌∙◌}
+use borrow.Author.Tests.{le-leb, lt-leb}
 use Rattle.ranges.specs.Batch.{kept}
-use Rattle.ranges.proofs.Gathered.{five_stores}
+use Rattle.ranges.specs.Ranges.{max_ranges}
 use Rattle.ranges.proofs.keep.Goals as goal
 
-pub returns-then-n-lt-MAX_RANGES : goal.returns-then-n-lt-MAX_RANGES
+pub returns-then-len-lt-BATCH_ROOM : goal.returns-then-len-lt-BATCH_ROOM
 unfolding kept
-returns-then-n-lt-MAX_RANGES c =
-    let a = c.args in
-    simp (lt-ltb _ _ c.if-n-lt-MAX_RANGES.true, five_stores a.batch.numbers (5 * a.batch.count) a.first a.count a.kind a.rule a.label)
+returns-then-len-lt-BATCH_ROOM c =
+    c.push.ensures.items ∙ sym (rw (le-leb (length c.args.batch.ranges.items) max_ranges (omega (arith, c.len.ensures.value, c.if-len-lt-BATCH_ROOM.true))))
 
-pub returns : goal.returns
+pub returns-else-len-lt-BATCH_ROOM : goal.returns-else-len-lt-BATCH_ROOM
 unfolding kept
-returns c = simp (le-ltb _ _ c.if-n-lt-MAX_RANGES.false)
+returns-else-len-lt-BATCH_ROOM c =
+    sym (rw (lt-leb (length c.args.batch.ranges.items) max_ranges (omega (arith, c.len.ensures.value, c.if-len-lt-BATCH_ROOM.false))))

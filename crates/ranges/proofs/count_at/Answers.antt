@@ -1,6 +1,0 @@
--- `ranges::count_at` meets its contract. Assumes nothing.
-use Rattle.std.proofs.Common.{◌+◌, ◌*◌, arith}
-use Rattle.ranges.proofs.count_at.Goals as goal
-
-pub returns : goal.returns
-returns c = (c.wide.ensures, omega (arith, c.type_inv.list (5 * c.args.i + 1)))
