@@ -69,6 +69,9 @@ module _ (memory bodies : ℕ) (t : List ℕ) where
   unfolding open_check
   open_shape e = (or_else_both (shape_check (lent memory bodies t)) (table_check (lent memory bodies t)) e).0
 
+  pub open_lengths : open_check (lent memory bodies t) ≡ 0 → Lengths memory bodies (length t)
+  open_lengths e = shape_facts (open_shape e)
+
   pub open_table : open_check (lent memory bodies t) ≡ 0 → table_check (lent memory bodies t) ≡ 0
   unfolding open_check
   open_table e = (or_else_both (shape_check (lent memory bodies t)) (table_check (lent memory bodies t)) e).1
@@ -104,6 +107,9 @@ module _ (memory bodies : ℕ) (t : List ℕ) where
   pub create_store : create_check (lent memory bodies t) ≡ 0 → store_check (lent memory bodies t) ≡ 0
   unfolding create_check
   create_store e = (or_else_both (store_check (lent memory bodies t)) _ e).0
+
+  pub create_lengths : create_check (lent memory bodies t) ≡ 0 → Lengths memory bodies (length t)
+  create_lengths e = store_lengths (create_store e)
 
   create_rest : create_check (lent memory bodies t) ≡ 0 → ask (ltb (live t) max_live) 9 (ask (ltb (next_handle t) 4_294_967_295) 10 0) ≡ 0
   unfolding create_check

@@ -6,11 +6,15 @@ use mathlib.Core.Path.{◌≡◌, refl, sym, ◌∙◌}
 use native.Mathlib.Omega.{arith}
 use Rattle.std.specs.Prelude.{Result, IsErrAnd}
 use Rattle.std.proofs.lemmas.Result.{err_from_is_err_and}
-use Rattle.model.specs.Answer.{ask, or_else}
+use Rattle.model.specs.Answer.{refused, ask, or_else}
+use Rattle.model.specs.Calls.{list_refused}
 use Rattle.model.proofs.Asking.{ask_yes, ask_go, or_else_go, or_else_stop}
+use Rattle.store.specs.declared.answers.Ended.{Ended}
+use Rattle.store.specs.declared.answers.Listing.{Listing}
 use Rattle.store.specs.declared.answers.Refusal.{Refusal}
-use Rattle.store.specs.Answer.{question, number_in}
+use Rattle.store.specs.Answer.{question, number_in, report, listing}
 use Rattle.store.specs.Checks.{ask_innermost_in}
+use Rattle.store.specs.Outcome.{Buffers, Outcome, leaves}
 use Rattle.store.proofs.Named.{innermost_no, innermost_then}
 
 -- a refusal has a number
@@ -44,6 +48,13 @@ ask_behind b n rest l e = ask_go b n rest (ask_yes b n 0 l (sym e))
 
 pub innermost_behind : (t : List ℕ) (h rest : ℕ) → 0 ≡ ask_innermost_in t h 0 → ask_innermost_in t h rest ≡ rest
 innermost_behind t h rest e = sym (innermost_then t h 0 rest e refl)
+
+-- a call whose questions a `?` ends answers the refusal's report
+pub answer_refused : (r : Result Ended Refusal) (why : Refusal) → IsErrAnd r (λ w. w ≡ why) → {b : Buffers} {o : Outcome} → leaves (refused (question why)) b ≡ o → leaves (report r) b ≡ o
+answer_refused r why back {b} e = let p = err_from_is_err_and r back in rw (p.1, p.2) e
+
+pub listing_refused : (r : Result Listing Refusal) (why : Refusal) → IsErrAnd r (λ w. w ≡ why) → listing r ≡ list_refused (question why)
+listing_refused r why back = let p = err_from_is_err_and r back in rw (p.1, p.2)
 
 -- what a `using` names where questions are put
 pub ruleset asking = (handed_on, refused_before, refused_behind, ask_before, innermost_before, or_else_go, ask_behind, innermost_behind)

@@ -5,8 +5,8 @@ ghost use Rattle.table.specs.Entry.{live};
 ghost use Rattle.marks.specs.Blocks.{block_at, groups_for};
 ghost use Rattle.table.specs.Marks.{Reached, RoomForMarks, AllMarked};
 ghost use Rattle.search.specs.Domain.{depth_named};
-ghost use Rattle.model.specs.Answer.{ask, ended};
-ghost use Rattle.model.specs.Holdings.{range_ok};
+ghost use Rattle.model.specs.Answer.{ended};
+ghost use Rattle.model.specs.Holdings.{ask_range};
 ghost use Rattle.store.specs.Answer.{number_in, report};
 ghost use Rattle.store.specs.Checks.{shape_check, idle_check, table_check, open_check, store_check, ask_live_in, ask_innermost_in, lent};
 ghost use Rattle.store.specs.Lent.{Passes, SoundOf};
@@ -177,10 +177,11 @@ pub fn sound_of<'a>(table: &'a [u32], top: usize) -> Sound<'a>
 // ---- the questions behind these
 
 // Question 5, in a table that passed those before: the depth of the domain that the handle names.
+#[tactic(auto, using(search::proofs::Domain::depth_small))]
 pub fn live_check(table: &[u32], handle: u32) -> Result<u32, Refusal>
     requires { (handle_at max_live ≤ length table.now) × (live table.now ≤ max_live) }
     ensures no { number_in result ≡ ask_live_in table.now handle 0 }
-    ensures depth { IfOk result (λ d. d ≡ depth_named table.now handle) }
+    ensures depth { IfOk result (λ d. (d ≡ depth_named table.now handle) × (1 ≤ d) × (d ≤ live table.now)) }
 {
     match find_domain(table, handle) {
         0 => Err(Refusal::NoSuchDomain),
@@ -191,7 +192,8 @@ pub fn live_check(table: &[u32], handle: u32) -> Result<u32, Refusal>
 // Questions 5 and 6, in a table that passed those before.
 pub fn innermost_check(table: &[u32], handle: u32) -> Result<(), Refusal>
     requires { (handle_at max_live ≤ length table.now) × (live table.now ≤ max_live) }
-    ensures { number_in result ≡ ask_innermost_in table.now handle 0 }
+    ensures no { number_in result ≡ ask_innermost_in table.now handle 0 }
+    ensures inner { OnOk result ((depth_named table.now handle ≡ live table.now) × (1 ≤ live table.now)) }
 {
     let depth = live_check(table, handle)?;
     if depth != table[LIVE_AT] {
@@ -202,7 +204,8 @@ pub fn innermost_check(table: &[u32], handle: u32) -> Result<(), Refusal>
 
 // Question 8: at least one cell, and all of them in memory. No sum is made, since it could wrap.
 pub fn range_check(cells: usize, first: usize, count: usize) -> Result<(), Refusal>
-    ensures { number_in result ≡ ask (range_ok cells first count) 8 0 }
+    ensures no { number_in result ≡ ask_range cells first count 0 }
+    ensures within { OnOk result ((1 ≤ count) × (first + count ≤ cells)) }
 {
     if count == 0 || cells < count || cells - count < first {
         return Err(Refusal::Range);
