@@ -1,5 +1,5 @@
 -- What the questions after the pass over the entries decide. Assumes nothing.
-use Rattle.std.proofs.Common.{◌≡◌, ℕ, min, Bool, true, false, List, sym, ◌∙◌, arith}
+use Rattle.std.proofs.Common.{◌≡◌, ℕ, min, true, false, List, sym, ◌∙◌, arith}
 use Rattle.words.specs.Layout.{max_cells}
 use Rattle.words.specs.Scan.{all}
 use Rattle.table.specs.Rule.{head_ok, entry_ok, rule_ok}

@@ -1,21 +1,14 @@
 -- A scan that an iterator makes over the numbers below a bound. Assumes nothing.
-use Rattle.std.proofs.Common.{◌≡◌, ℕ, zero, suc, ◌+◌, Bool, true, false, ◌&&◌, refl, sym, ap, ◌∙◌, arith}
+use Rattle.std.proofs.Common.{◌≡◌, ℕ, zero, suc, ◌+◌, Bool, ◌&&◌, refl, sym, ap, ◌∙◌, arith}
 use Rattle.std.specs.List.{list_all, range_with_len}
+use Rattle.std.proofs.Math.Bool.{and-true, and_assoc}
 use Rattle.words.specs.Scan.{all}
 use Rattle.words.proofs.Scan.{all_ext}
-
-and_assoc : (a b c : Bool) → ((a && b) && c) ≡ (a && (b && c))
-and_assoc true b c = refl
-and_assoc false b c = refl
-
-and_true : (a : Bool) → (a && true) ≡ a
-and_true true = refl
-and_true false = refl
 
 -- the first number by itself
 all_first : (n : ℕ) (f : ℕ → Bool) → all (suc n) f ≡ (f 0 && all n (λ k. f (suc k)))
 unfolding all
-all_first zero f = sym (and_true (f 0))
+all_first zero f = sym (and-true (f 0))
 all_first (suc n) f = ap (λ b. b && f (suc n)) (all_first n f) ∙ and_assoc (f 0) (all n (λ k. f (suc k))) (f (suc n))
 
 listed_from : (n a : ℕ) (f : ℕ → Bool) → list_all f (range_with_len a n) ≡ all n (λ k. f (a + k))

@@ -328,17 +328,3 @@ passed_all {m} {e} {b} {t} {n} p {top} low near ends alone counted =
 pub rule_least : (m e b : ℕ) (t : List ℕ) → rule_ok (min m max_cells) e b t ≡ rule_ok m e b t
 unfolding rule_ok
 rule_least m e b t = rw (all_ext e (entry_ok (min m max_cells) e b t) (entry_ok m e b t) (λ i l. entry_least m e b t i))
-
--- ---- runs of free entries
-
--- one more of them, by the test of the code
-pub run_more : (e : ℕ) (t : List ℕ) (n k : ℕ) (free : Bool) → (free ≡ true → FreeRun e t n (n + k))
-    → (free && (eqb (word1 e t (n + k)) 0 && eqb (word2 e t (n + k)) 0)) ≡ true → FreeRun e t n (n + (k + 1))
-run_more e t n k free so_far h i low l =
-    let both = and_split free _ h in
-    let here = and_split (eqb (word1 e t (n + k)) 0) _ both.1 in
-    split (n + k) i (omega arith) (λ q. rw q (eqb-true _ _ here.0, eqb-true _ _ here.1)) (λ near. so_far both.0 i low near)
-
--- a run in front of the end of the table
-pub ends_before : (e : ℕ) (t : List ℕ) (n k : ℕ) → k ≤ n → EndsAt e t n → FreeRun e t k n → EndsAt e t k
-ends_before e t n k low ends run = (omega (arith, ends.0), λ i l h. by_le n i (λ far. ends.1 i far h) (λ near. run i l near))

@@ -1,5 +1,5 @@
 -- The table's rule as facts, and that the computed test and the facts say the same. Assumes nothing.
-use Prim.Native.Nat.{ℕ, ◌%◌, ◌≤◌, ◌<◌, min}
+use Prim.Native.Nat.{ℕ, ◌≤◌, ◌<◌, min}
 use mathlib.Core.Bool.{Bool, true, false, cond, not, ◌&&◌, ◌||◌}
 use mathlib.Core.List.{List}
 use mathlib.Core.Path.{◌≡◌, refl, sym, ◌∙◌}
@@ -38,19 +38,6 @@ pub record Rule (m e b : ℕ) (t : List ℕ) : Type 0 where
   pub outer : (i : ℕ) → i < e → (via_of (word1 e t i) ≡ 0 → ⊥) → find_in e t (parent (depth_of (word1 e t i))) (cell_of (word1 e t i)) < e
   pub outer_plain : (i : ℕ) → i < e → (via_of (word1 e t i) ≡ 0 → ⊥) → pattern_of (word1 e t (find_in e t (parent (depth_of (word1 e t i))) (cell_of (word1 e t i)))) ≡ 0
   pub apart_from : (i : ℕ) → i < e → (j : ℕ) → j < i → (word1 e t i ≡ 0 → ⊥) → (word1 e t j ≡ 0 → ⊥) → Apart e t j i
-
--- ---- tests with no branch
--- the bits below the kind are a cell's number where the unused ones are zero
-pub cell_alone : (w m : ℕ) → m ≤ max_cells → ltb (w % 33_554_432) m ≡ (eqb (unused_of w) 0 && ltb (cell_of w) m)
-cell_alone w m l =
-    by_bool (eqb (unused_of w) 0)
-    (λ z.
-    let none = eqb-true (unused_of w) 0 z in
-    let same : w % 33_554_432 ≡ cell_of w = omega (arith, none) in
-    rw (z, same))
-    (λ z.
-    let some-bit = eqb-false (unused_of w) 0 z in
-    rw (z, le-ltb (w % 33_554_432) m (omega (arith, some-bit))))
 
 -- ---- the two agree
 module _ (m e b : ℕ) (t : List ℕ) where

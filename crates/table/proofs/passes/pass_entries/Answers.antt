@@ -1,4 +1,4 @@
-use Rattle.std.proofs.Common.{◌≡◌, ◌+◌, ap, ◌∙◌, arith}
+use Rattle.std.proofs.Common.{ap, ◌∙◌, arith}
 use native.Mathlib.Nat.{not-suc-le-zero}
 use Rattle.words.proofs.Scan.{count_le}
 use Rattle.table.specs.Entry.{word1, via_of, pattern_of, is_pattern}

@@ -1,5 +1,5 @@
 -- `table::passes::pending_ok` meets its contract. The copy agrees with the effective table in every word that the rule reads (proofs/Agree.antt). Assumes nothing.
-use Rattle.std.proofs.Common.{◌≡◌, ℕ, ◌<◌, length, get_or, take, replicate, sym, ap, ◌∙◌, arith, length-take, length-append, get_or-take}
+use Rattle.std.proofs.Common.{◌≡◌, ℕ, ◌<◌, length, get_or, sym, ap, ◌∙◌, arith, length-take, length-append, get_or-take}
 use Rattle.std.proofs.lemmas.List.{get_or_append_left, length-replicate}
 use Rattle.words.specs.Layout.{pairs_at}
 use Rattle.words.specs.Stores.{stores}

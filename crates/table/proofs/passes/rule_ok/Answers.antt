@@ -1,5 +1,5 @@
 -- `table::passes::rule_ok` meets its contract. Assumes nothing.
-use Rattle.std.proofs.Common.{refl, sym, ap, ◌∙◌, arith, rules}
+use Rattle.std.proofs.Common.{sym, arith, rules}
 use Rattle.table.proofs.Rule.{no_head}
 use Rattle.table.proofs.Parts.{live_small, no_once, decided}
 use Rattle.table.proofs.Passing.{rule_least}
