@@ -2,6 +2,7 @@
 -- these and never opens what is staged. Assumes nothing.
 use Prim.Native.Nat.{ℕ, ◌+◌, ◌*◌, ◌/◌, ◌%◌, ◌^◌, ◌≤◌, ◌<◌}
 use lib.Bits.{bit_or}
+use Rattle.std.specs.Bool.{then_some}
 use mathlib.Core.Bool.{Bool, true, false, cond}
 use mathlib.Core.List.{List, [], ◌∷◌, ◌++◌}
 use mathlib.Core.Path.{◌≡◌, refl, sym, ap, ap₂, subst, ◌∙◌}
@@ -21,7 +22,7 @@ use Rattle.table.specs.Marks.{zeros}
 use Rattle.table.specs.Changes.{Change, keep, put, is_changed, entry_stores, entry_changes}
 use Rattle.marks.proofs.Blocks.{zeros_clear}
 use Rattle.changes.specs.declared.Head.{Head}
-use Rattle.changes.specs.Staged.{with_bit, is_set, Inside, with_words, Turned, entry_of, staged, but, Restaged, below, Stages, Gathers, head_room, HeadOk, head_stores}
+use Rattle.changes.specs.Staged.{with_bit, is_set, Inside, with_words, Turned, entry_of, staged, change_of, but, Restaged, below, Stages, Gathers, head_room, HeadOk, head_stores}
 use Rattle.changes.proofs.Bits.{bit_none, bit_kept, bit_shifted, word_own, word_other, more_here, more_other}
 
 -- ---- f below n
@@ -53,6 +54,11 @@ unstaged words bits i h = is_false (is_set bits i) (λ b. true≢ refl (ap is_ch
 staged_same : (words bits bits' : List ℕ) (i : ℕ) → is_set bits' i ≡ is_set bits i → staged words bits' i ≡ staged words bits i
 unfolding staged
 staged_same words bits bits' i h = ap (λ (b : Bool). entry_of b words i) h
+
+-- the words of an entry that changes where a test says so
+pub change_then : (b : Bool) (words : ℕ × ℕ) → change_of (then_some b words) ≡ cond b (put words.0 words.1) keep
+change_then true words = refl
+change_then false words = refl
 
 -- ---- at the start
 

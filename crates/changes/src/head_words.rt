@@ -1,3 +1,4 @@
+// What is staged of the head: which of its words get which values.
 ghost use Rattle.std.specs.Prelude.{ℕ, ◌<◌, length, slice_index_or};
 ghost use Rattle.words.specs.Layout.{handle_at, max_live};
 

@@ -209,10 +209,7 @@ fn free_entry(
     requires { (i < entries.now.slots) × (first + count ≤ max_cells) }
     ensures { change_of result ≡ delete_change entries.now.slots entries.now.words.now depth first count i }
 {
-    if in_cells(entries.first_word(i), depth, first, count) {
-        return Some((0, 0));
-    }
-    None
+    in_cells(entries.first_word(i), depth, first, count).then_some((0, 0))
 }
 
 // Is none of the entries from `from` to `end` freed? All of them are asked, with no branch, so that the compiler can ask many at once.

@@ -1,7 +1,7 @@
 -- Laws of marks that are kept in blocks: what taking a block and storing a mark do to the marks of all cells. Assumes nothing.
 use Prim.Native.Nat.{ℕ, zero, suc, ◌+◌, ◌-◌, ◌*◌, ◌/◌, ◌%◌, ◌<◌, ◌≤◌}
 use mathlib.Core.Bool.{Bool, true, false, cond, not, ◌||◌}
-use mathlib.Core.List.{List, [], ◌∷◌}
+use mathlib.Core.List.{List}
 use mathlib.Core.Path.{◌≡◌, refl, sym, ap, ap₂, ◌∙◌}
 use native.Mathlib.Omega.{arith}
 use borrow.Author.Tests.{not-false, eq-eqb, ne_eqb, eqb-true, eqb-false, lt-ltb, ltb-true, le-leb, leb-true}
@@ -9,19 +9,14 @@ use lib.Bits.{bit_and, and_zero_l, and_le_r, and_block}
 use lib.Dec.{eqb, ltb, leb}
 use lib.ListN.{length, get_or, set, take, drop, replicate, length-set, length-replicate}
 use lib.Seq.{get_or-set_same, get_or-set_other, get_or-take, get_or-drop}
+use Rattle.std.proofs.lemmas.List.{get_or_past, get_or-replicate}
+use Rattle.std.specs.Int.{w64, from_le_bytes}
 use Rattle.words.specs.Layout.{max_cells, group_of}
 use Rattle.words.specs.Scan.{count}
 use Rattle.words.proofs.Scan.{by_bool, by_le, or_split, is_false, count_le, count_flip, count_ext, count_none}
-use Rattle.marks.specs.Blocks.{number, put_number, taken, block_of, owns, max_groups, groups_for, directory_end, block_at, place_of, mark_of, cells_in, Kept, Outside, with_block, mark_cell, Spare, Room, OneMark, Blank, zeros, with_depth, packed, spread, run_held}
+use Rattle.marks.specs.Blocks.{number, put_number, taken, block_of, owns, max_groups, groups_for, directory_end, block_at, place_of, mark_of, cells_in, Kept, Outside, with_block, mark_cell, Spare, Room, OneMark, Blank, zeros, Enough, EnoughBytes, most_bytes, with_depth, packed, spread, run_held}
 
 -- ---- where marks stand
-
--- behind the end there is nothing
-pub past : (l : List ℕ) (k : ℕ) → length l ≤ k → get_or l k 0 ≡ 0
-past [] zero h = refl
-past [] (suc k) h = refl
-past (x ∷ l) zero h = absurd (omega arith)
-past (x ∷ l) (suc k) h = past l k (omega arith)
 
 pub mark_at_lem : (s : List ℕ) (c : ℕ) → c < max_cells → mark_of s c ≡ get_or s (place_of s c) 0
 unfolding mark_of
@@ -89,15 +84,12 @@ unfolding number
 store_number s p v k far l = rw (get_or-set_other s p (2 * k) v 0 (λ q. omega (arith, q, far, l)), get_or-set_other s p (2 * k + 1) v 0 (λ q. omega (arith, q, far, l)))
 
 -- ---- none made yet
-replicate_clear : (n k : ℕ) → ◌≡◌ {A = ℕ} (get_or (replicate n 0) k 0) 0
-replicate_clear zero zero = refl
-replicate_clear zero (suc k) = refl
-replicate_clear (suc n) zero = refl
-replicate_clear (suc n) (suc k) = replicate_clear n k
-
 pub zeros_clear : (n k : ℕ) → get_or (zeros n) k 0 ≡ 0
 unfolding zeros
-zeros_clear n k = replicate_clear n k
+zeros_clear n k =
+    by_le n k
+    (λ far. get_or_past (replicate n 0) k 0 (omega (arith, far, length-replicate {A = ℕ} n 0)))
+    (λ near. get_or-replicate n k 0 0 near)
 
 pub zeros_length : (n : ℕ) → length (zeros n) ≡ n
 unfolding zeros
@@ -105,6 +97,19 @@ zeros_length n = length-replicate n 0
 
 pub blank_zeros : (n : ℕ) → Blank (zeros n)
 blank_zeros n k = zeros_clear n k
+
+-- an array of so many zeros, as the code writes it
+pub zeros_is : (n : ℕ) → replicate n 0 ≡ zeros n
+unfolding zeros
+zeros_is n = refl
+
+-- so many bytes have room for the blocks of n entries' cells
+pub enough_room : (bytes n m : ℕ) → EnoughBytes bytes n m → Room n m (zeros bytes)
+enough_room bytes n m h = omega (arith, h.1, zeros_length bytes)
+
+-- as many as the bytes have room for are no more than so many blocks, where so many are enough
+pub enough_bytes : (k bytes n m : ℕ) → Enough k n m → block_at (k + 1) ≤ bytes → bytes ≤ most_bytes → EnoughBytes bytes n m
+enough_bytes k bytes n m few fits small = (small, omega (arith, few, fits))
 
 module _ (s : List ℕ) (blank : (k : ℕ) → get_or s k 0 ≡ 0) where
   blank_number : (k : ℕ) → number s k ≡ 0
@@ -452,26 +457,34 @@ part_fits s ok cell n small one =
     let block = ok.low (cell / 64) (omega (arith, small)) in
     (omega (arith, place_is s cell, block, ok.room, one), omega (arith, place_is s cell, block, few s ok, one))
 
--- the j-th of them as the part has it
-pub part_mark : (s : List ℕ) (cell n w : ℕ) → cell < max_cells → cell % 64 + n ≤ 64 → n ≤ w → (j : ℕ) → j < n
-    → get_or (take w (drop (place_of s cell) s)) j 0 ≡ mark_of s (cell + j)
-part_mark s cell n w small one long j b =
+-- the j-th of them
+pub part_mark : (s : List ℕ) (cell n : ℕ) → cell < max_cells → cell % 64 + n ≤ 64 → (j : ℕ) → j < n → get_or s (place_of s cell + j) 0 ≡ mark_of s (cell + j)
+part_mark s cell n small one j b =
     let same : (cell + j) / 64 ≡ cell / 64 = omega (arith, one, b) in
     let block : block_of s ((cell + j) / 64) ≡ block_of s (cell / 64) = ap (block_of s) same in
     let there : place_of s (cell + j) ≡ place_of s cell + j = omega (arith, place_is s (cell + j), place_is s cell, block, same, one, b) in
-    rw (get_or-take w (drop (place_of s cell) s) j 0 (omega (arith, long, b)), get_or-drop) (sym (mark_at_lem s (cell + j) (omega (arith, small, same)) ∙ ap (λ (p : ℕ). get_or s p 0) there))
+    sym (mark_at_lem s (cell + j) (omega (arith, small, same)) ∙ ap (λ (p : ℕ). get_or s p 0) there)
 
 -- ---- a run of marks as one number
 
-pub packed_four : (l : List ℕ) (k : ℕ) → packed l k 4 ≡ get_or l k 0 + 256 * get_or l (k + 1) 0 + 65536 * get_or l (k + 2) 0 + 16777216 * get_or l (k + 3) 0
+packed_same : (a b : List ℕ) (i k n : ℕ) → ((j : ℕ) → j < n → get_or a (i + j) 0 ≡ get_or b (k + j) 0) → packed a i n ≡ packed b k n
 unfolding packed
-packed_four l k =
-    let at : (i j : ℕ) → i ≡ j → get_or l i 0 ≡ get_or l j 0 = λ i j q. ap (λ (x : ℕ). get_or l x 0) q in
-    omega (arith, at (suc k) (k + 1) (omega arith), at (suc (suc k)) (k + 2) (omega arith), at (suc (suc (suc k))) (k + 3) (omega arith))
+packed_same a b i k zero same = refl
+packed_same a b i k (suc n) same =
+    let p : i + 0 ≡ i = omega arith in
+    let q : k + 0 ≡ k = omega arith in
+    let here : get_or a i 0 ≡ get_or b k 0 = rw (p, q) at (same 0 (omega arith)) in
+    let rest : packed a (suc i) n ≡ packed b (suc k) n =
+    packed_same a b (suc i) (suc k) n
+    (λ j h. let p : i + suc j ≡ suc i + j = omega arith in let q : k + suc j ≡ suc k + j = omega arith in rw (p, q) at (same (suc j) (omega (arith, h)))) in
+    omega (arith, here, rest)
 
-pub packed_eight : (l : List ℕ) → packed l 0 8 ≡ packed l 0 4 + 4294967296 * packed l 4 4
+-- eight bytes of a list, which were read as a number
+pub packed_eight : (l : List ℕ) (k : ℕ) (bytes : List ℕ) → ((j : ℕ) → j < 8 → get_or bytes j 0 ≡ get_or l (k + j) 0) → from_le_bytes w64 bytes ≡ packed l k 8
 unfolding packed
-packed_eight l = omega arith
+packed_eight l k bytes same =
+    let read : from_le_bytes w64 bytes ≡ packed bytes 0 8 = omega arith in
+    read ∙ packed_same bytes l 0 k 8 (λ j h. let z : 0 + j ≡ j = omega arith in rw z (same j h))
 
 pub spread_eight : (mask : ℕ) → spread mask 8 ≡ 72340172838076673 * mask
 unfolding spread

@@ -109,6 +109,14 @@ Room n m seen = block_at (min n (groups_for m) + 1) ≤ length seen
 abbrev pub Enough : ℕ → ℕ → ℕ → Type 0
 Enough k n m = min n (groups_for m) ≤ k
 
+-- as many bytes as the marks of the largest memory take
+abbrev pub most_bytes : ℕ
+most_bytes = block_at (max_groups + 1)
+
+-- so many bytes are enough for them, and no more than there may be
+abbrev pub EnoughBytes : ℕ → ℕ → ℕ → Type 0
+EnoughBytes bytes n m = (bytes ≤ most_bytes) × (block_at (min n (groups_for m) + 1) ≤ bytes)
+
 -- cell c has mark v, and every other the mark that it had
 abbrev pub OneMark : (before : List ℕ) (c v : ℕ) (after : List ℕ) → Type 0
 OneMark before c v after = (k : ℕ) → mark_of after k ≡ cond (eqb k c) v (mark_of before k)

@@ -11,8 +11,8 @@ use Rattle.marks.proofs.mark_cell.Goals as goal
 pub take_block-requires : goal.take_block-requires
 take_block-requires c = (omega (arith, c.group_of.ensures, c.requires.1), omega (arith, c.requires.2.room), few c.args.seen.now c.requires.2)
 
-pub place_of-at-requires : goal.place_of-at-requires
-place_of-at-requires c = (c.requires.1, omega (arith, c.requires.2.room, c.take_block.auto.seen))
+pub invariant_of-directory : goal.invariant_of-directory
+invariant_of-directory c = record { whole = omega (arith, c.requires.2.room, c.take_block.auto.seen) }
 
 pub bounds-seen-at : goal.bounds-seen-at
 bounds-seen-at c = rw (c.place_of-at.ensures, c.take_block.ensures, c.group_of.ensures) (cell_fits c.args.depth c.args.cell c.requires.1 c.args.seen.now c.requires.2 c.requires.3)
