@@ -17,9 +17,7 @@ use Rattle.model.specs.Calls.{Listed}
 use Rattle.store.specs.Outcome.{Buffers, Call, Outcome, outcome, leaves}
 use Rattle.add.specs.Add.{add_call}
 use Rattle.add.proofs.Lists.{same_call}
-use Rattle.look.specs.Look.{PlaceWithin}
-use Rattle.look.specs.declared.Place.{Place}
-use Rattle.look.specs.declared.Place.TheVariants.{Refused, Memory, Bodies, Rule}
+use Rattle.look.specs.Look.{Placed, Refused, Memory, Bodies, Rule, PlaceWithin}
 use Rattle.look.proofs.Placing.{memory_within, bodies_within}
 use Rattle.domain_store.specs.Boundary.{number_of, returned, returned_by, Returns, eight, listed_in_c, listed_by, looked_in_c, looked_by, OffsetWithin}
 
@@ -55,7 +53,7 @@ module _ (r : Report) (k : ℕ) (hs : List ℕ) (l : Listed) (g : record { repor
   handles_listed to h = tab_below _ (λ j. get_or hs j 0) 8 h ∙ ap (λ (x : Listed). eight x.handles) g
 
 -- a place that was found, by its case: refused, in memory, in bodies, by a rule
-module _ (b : Buffers) (x q : Place) (same : x ≡ q) (within : PlaceWithin x b) where
+module _ (b : Buffers) (x q : Placed) (same : x ≡ q) (within : PlaceWithin x b) where
   pub in_none : (n : ℕ) → x ≡ Refused n → (looked_in_c n 0 0 0 ≡ looked_by q) × OffsetWithin 0 0 0 b
   in_none n e = (ap looked_by (sym e ∙ same), (λ z. absurd (omega arith), λ z. absurd (omega arith), λ z. absurd (omega arith)))
 
@@ -67,4 +65,4 @@ module _ (b : Buffers) (x q : Place) (same : x ≡ q) (within : PlaceWithin x b)
 
   pub in_rule : (r : ℕ) → x ≡ Rule r → (looked_in_c 0 3 0 r ≡ looked_by q) × OffsetWithin 3 0 r b
   in_rule r e =
-      (ap looked_by (sym e ∙ same), (λ z. absurd (omega arith), λ z. absurd (omega arith), λ z. subst (λ (y : Place). PlaceWithin y b) e within))
+      (ap looked_by (sym e ∙ same), (λ z. absurd (omega arith), λ z. absurd (omega arith), λ z. subst (λ (y : Placed). PlaceWithin y b) e within))

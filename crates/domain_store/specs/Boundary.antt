@@ -6,8 +6,7 @@ use Rattle.patterns.specs.Pattern.{max_rule}
 use Rattle.model.specs.Answer.{Status, is_done, is_stopped, is_refused}
 use Rattle.model.specs.Calls.{Listed}
 use Rattle.store.specs.Outcome.{Buffers, Call, Outcome, outcome}
-use Rattle.look.specs.declared.Place.{Place}
-use Rattle.look.specs.declared.Place.TheVariants.{Refused, Memory, Bodies, Rule}
+use Rattle.look.specs.Look.{Placed, Refused, Memory, Bodies, Rule}
 
 -- 0 when done, 255 when stopped by its budget, else the refusal's number
 abbrev pub number_of : Status → (refusal : ℕ) → ℕ
@@ -56,7 +55,7 @@ pub record LookedInC : Type 0 where
 abbrev pub looked_in_c : (number place offset rule : ℕ) → LookedInC
 looked_in_c n p o r = record { number = n; place = p; offset = o; rule = r }
 
-abbrev pub looked_by : Place → LookedInC
+abbrev pub looked_by : Placed → LookedInC
 looked_by (Refused n) = looked_in_c n 0 0 0
 looked_by (Memory at) = looked_in_c 0 1 at 0
 looked_by (Bodies at) = looked_in_c 0 2 at 0

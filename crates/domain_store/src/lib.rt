@@ -5,7 +5,8 @@
 ghost use Rattle.std.specs.Prelude.{◌≡◌, length};
 ghost use Rattle.ranges.specs.Ranges.{one_range};
 ghost use Rattle.ranges.specs.Batch.{batch_ranges};
-ghost use Rattle.store.specs.Outcome.{buffers, outcome, report};
+ghost use Rattle.store.specs.Answer.{report};
+ghost use Rattle.store.specs.Outcome.{buffers, outcome};
 ghost use Rattle.store.specs.Calls.{make_call, open_call, create_call};
 ghost use Rattle.store.specs.Means.{list_means};
 ghost use Rattle.add.specs.Add.{add_call};
@@ -18,44 +19,23 @@ ghost use Rattle.domain_store.specs.Boundary.{number_of, eight, listed_in_c, lis
 
 use look::{Place, look_place};
 use ranges::{Batch, Range, gather};
-use store::Answer;
+use store::answers::{Answer, Ended};
 
-// Tells how a call ended: its steps through the out parameter, its number as the result.
+// Tells how a call ended: its steps through the out parameter, its number as the result: 0 when done, 255 when stopped, else the refusal's.
 fn tell(answer: Answer, steps: &mut u64) -> u32
     ensures number { result ≡ number_of (report answer).status (report answer).refusal }
     ensures steps { steps.new ≡ (report answer).steps }
 {
-    match answer {
-        Answer::Refused(no) => {
-            *steps = 0;
-            no
-        }
-        Answer::Done {
+    let (number, made) = match answer {
+        Ok(Ended::Done {
             steps: made,
             handle: _,
-        } => {
-            *steps = made as u64;
-            0
-        }
-        Answer::Stopped(made) => {
-            *steps = made as u64;
-            255
-        }
-    }
-}
-
-// The number of an answer: 0 when done, 255 when stopped, else the refusal's.
-fn number_of(answer: Answer) -> u32
-    ensures { result ≡ number_of (report answer).status (report answer).refusal }
-{
-    match answer {
-        Answer::Refused(no) => no,
-        Answer::Done {
-            steps: _,
-            handle: _,
-        } => 0,
-        Answer::Stopped(_) => 255,
-    }
+        }) => (0, made),
+        Ok(Ended::Stopped(made)) => (255, made),
+        Err(why) => (why.number(), 0),
+    };
+    *steps = made as u64;
+    number
 }
 
 // The handle that an answer names, 0 where it names none.
@@ -63,9 +43,8 @@ fn handle_of(answer: Answer) -> u32
     ensures { result ≡ (report answer).handle }
 {
     match answer {
-        Answer::Refused(_) => 0,
-        Answer::Done { steps: _, handle } => handle,
-        Answer::Stopped(_) => 0,
+        Ok(Ended::Done { steps: _, handle }) => handle,
+        _ => 0,
     }
 }
 
@@ -252,14 +231,18 @@ pub fn ds_list(
     ensures handles { length handles.old ≡ 8 → eight handles.new
         ≡ eight (list_means (buffers memory.now bodies.now table.now)).handles }
 {
-    let listing = begin::list(memory, bodies, table);
-    let mut k = 0;
-    while k < 8 {
-        handles[k] = listing.handles[k];
-        k += 1;
+    match begin::list(memory, bodies, table) {
+        Ok(listing) => {
+            *handles = listing.handles;
+            *count = listing.count;
+            0
+        }
+        Err(why) => {
+            *handles = [0u32; 8];
+            *count = 0;
+            why.number()
+        }
     }
-    *count = listing.count;
-    number_of(listing.answer)
 }
 
 // Tells where the 64 bytes stand that restore would leave in a cell: they lie inside the buffer named.
@@ -278,29 +261,29 @@ pub fn ds_look(
     ensures within { OffsetWithin place.new offset.new rule.new (buffers memory.now bodies.now table.now) }
 {
     match look_place(memory, bodies, table, handle, cell) {
-        Place::Refused(no) => {
-            *place = 0;
-            *offset = 0;
-            *rule = 0;
-            no
-        }
-        Place::Memory(at) => {
+        Ok(Place::Memory(at)) => {
             *place = 1;
             *offset = at as u64;
             *rule = 0;
             0
         }
-        Place::Bodies(at) => {
+        Ok(Place::Bodies(at)) => {
             *place = 2;
             *offset = at as u64;
             *rule = 0;
             0
         }
-        Place::Rule(number) => {
+        Ok(Place::Rule(number)) => {
             *place = 3;
             *offset = 0;
             *rule = number;
             0
+        }
+        Err(why) => {
+            *place = 0;
+            *offset = 0;
+            *rule = 0;
+            why.number()
         }
     }
 }

@@ -29,9 +29,7 @@ use Rattle.store.specs.State.{slots, state_of}
 use Rattle.store.proofs.Checks.{or_else_go, ask_go, store_lengths}
 use Rattle.store.proofs.Raw.{raw_named}
 use Rattle.store.proofs.Outermost.{store_held, store_bytes, store_rule, store_none}
-use Rattle.look.specs.Look.{look_check, place_in, look_place, place_part, PlaceWithin, shown_at, look_means, place_of_rule, place_of, place_by_state}
-use Rattle.look.specs.declared.Place.{Place}
-use Rattle.look.specs.declared.Place.TheVariants.{Refused, Memory, Bodies, Rule}
+use Rattle.look.specs.Look.{Placed, Refused, Memory, Bodies, Rule, look_check, place_in, look_place, place_part, PlaceWithin, shown_at, look_means, place_of_rule, place_of, place_by_state}
 use Rattle.look.proofs.Placing.{PlaceFound, in_memory, in_bodies_lem, in_rule, place_found, Accepted, check_passed, look_placed, look_means_lem, look_within}
 
 -- look's number, of its buffers
@@ -44,13 +42,13 @@ part_length : (s : List ℕ) (at : ℕ) → at + 64 ≤ length s → length (tak
 part_length s at l = simp (length-take, length-drop) (omega arith)
 
 -- "when it is refused, the part has length 0", and so it has where a rule is told; else 64
-abbrev pub length_at : Place → ℕ
+abbrev pub length_at : Placed → ℕ
 length_at (Refused n) = 0
 length_at (Memory at) = 64
 length_at (Bodies at) = 64
 length_at (Rule r) = 0
 
-place_length : (p : Place) (b : Buffers) → PlaceWithin p b → length (place_part p b) ≡ length_at p
+place_length : (p : Placed) (b : Buffers) → PlaceWithin p b → length (place_part p b) ≡ length_at p
 place_length (Refused n) b w = refl
 place_length (Memory at) b w = part_length b.memory at w
 place_length (Bodies at) b w = part_length b.bodies at w
@@ -107,10 +105,10 @@ module _ (h c : ℕ) (b : Buffers) (pass : checked h c b ≡ 0) where
     same : bytes_told (look_means h c b) ≡ left
     size : length left ≡ 64
 
-  told_at : (p : Place) (v : List ℕ) → place_in e b.table d c ≡ p → bytes_told (shown_at p b) ≡ v → left ≡ v → length v ≡ 64 → Told
+  told_at : (p : Placed) (v : List ℕ) → place_in e b.table d c ≡ p → bytes_told (shown_at p b) ≡ v → left ≡ v → length v ≡ 64 → Told
   told_at p v q r s l =
       record {
-        same = ap bytes_told (sym (look_means_lem h c b) ∙ ap (λ (x : Place). shown_at x b) (look_placed h c b pass ∙ q)) ∙ r ∙ sym s;
+        same = ap bytes_told (sym (look_means_lem h c b) ∙ ap (λ (x : Placed). shown_at x b) (look_placed h c b pass ∙ q)) ∙ r ∙ sym s;
         size = ap length s ∙ l;
       }
 
@@ -120,7 +118,7 @@ module _ (h c : ℕ) (b : Buffers) (pass : checked h c b ≡ 0) where
       told_at (Memory (cell_at c)) (cell_bytes b.memory c) q refl (rw p at bytes) (cell_bytes_length b.memory c (omega (arith, exact, passed.cell)))
   told_by (in_bodies_lem p r q) =
       let k = word2 e b.table (source_from e b.table d c) in
-      let within = subst (λ (x : Place). PlaceWithin x b) (look_placed h c b pass ∙ q) (look_within h c b) in
+      let within = subst (λ (x : Placed). PlaceWithin x b) (look_placed h c b pass ∙ q) (look_within h c b) in
       told_at (Bodies (cell_at k)) (cell_bytes b.bodies k) q refl (rw (p, r) at bytes) (cell_bytes_length b.bodies k within)
   told_by (in_rule p r q) =
       let k = word2 e b.table (source_from e b.table d c) in
@@ -156,7 +154,7 @@ look_tells h c b store live range = found ∙ ap place (sym same)
     same = raw_named b.memory b.bodies b.table store h
 
     -- the place by the state, of a domain at depth d
-    place : ℕ → Place
+    place : ℕ → Placed
     place d = place_of c (outermost d c (state_of b)) (word2 (slots b) b.table (source_from (slots b) b.table d c))
 
     live-there : 1 ≤ (depth_named b.table h)

@@ -2,100 +2,93 @@
 // It changes nothing.
 #![tactic(auto)]
 
-ghost use Rattle.std.specs.Prelude.{◌≡◌, ◌≤◌, length};
-ghost use Rattle.store.specs.Checks.{lent};
-ghost use Rattle.words.specs.Layout.{pairs_at, max_slots, max_live};
-ghost use Rattle.table.specs.Entry.{live};
-ghost use Rattle.table.specs.Marks.{CellsOnce, EndsAt, Reached};
+ghost use Rattle.std.specs.Prelude.{◌≡◌, ◌≤◌, length, IfOk};
+ghost use Rattle.words.specs.Layout.{cells_of};
+ghost use Rattle.table.specs.Marks.{Reached};
 ghost use Rattle.search.specs.Search.{HasSource};
+ghost use Rattle.search.specs.Domain.{depth_named};
+ghost use Rattle.store.specs.Answer.{number_in};
+ghost use Rattle.store.specs.Checks.{lent};
+ghost use Rattle.store.specs.Lent.{SoundOf};
 ghost use Rattle.store.specs.Outcome.{buffers};
-ghost use Rattle.look.specs.Look.{look_check, place_in, look_place, place_part, PlaceWithin, shown_at, answer_report, answer_rule, look_means};
+ghost use Rattle.look.specs.Look.{look_check, place_in, look_place, placed_at, placed, place_part, PlaceWithin, shown_at, answer_report, answer_rule, look_means};
 
-use search::notes::no_notes;
-use search::{Held, find_domain, find_value};
-use store::{range_ok, reached_check};
+use search::holders::{Value, find_value};
+use search::notes::Notes;
+use store::answers::Refusal;
+use store::questions::{live_check, range_check, reached_check};
+use table::lent::Sound;
 use table::reach_of;
-use words::layout::{CELL_SIZE, cell_at, cells_of, slots_of};
-use words::wide;
+use words::layout::{CELL_SIZE, cell_at, cells_of};
 
-// Where the 64 bytes stand: refused by a question's number, or at this offset of the lent memory, or of the lent bodies; or the rule that they
-// follow, which has none.
-#[derive(Clone, Copy)]
+// Where the 64 bytes stand: at this offset of the lent memory, or of the lent bodies; or the rule that they follow, which has none.
+#[derive(Clone, Copy, PartialEq, Eq, Debug)]
 pub enum Place {
-    Refused(u32),
     Memory(usize),
     Bodies(usize),
     Rule(u32),
 }
 
-// Look's answer: refused by a question's number; done, with bytes to show; or done, with a rule to tell.
-#[derive(Clone, Copy)]
+// What look answers: bytes to show, or a rule to tell.
+#[derive(Clone, Copy, PartialEq, Eq, Debug)]
 pub enum LookAnswer {
-    Refused(u32),
     Bytes,
     Rule(u32),
 }
 
-// The questions put to look: 0, or the number of the first no. `top` is how many entries there are to pass.
-fn look_check(
+// The questions put to look. `top` is how many entries there are to pass. The call goes on with the table, and with the depth of the domain named.
+#[tactic(auto, using(store::proofs::Refused::asking), unfolding(crate::specs::Look::look_check))]
+fn look_check<'a>(
     memory: usize,
     bodies: usize,
-    table: &[u32],
+    table: &'a [u32],
     top: usize,
     handle: u32,
     cell: u32,
-) -> u32
+) -> Result<(Sound<'a>, u32), Refusal>
     requires { Reached table.now top }
-    ensures { result ≡ look_check (lent memory bodies table.now) handle cell }
+    ensures no { number_in result ≡ look_check (lent memory bodies table.now) handle cell }
+    ensures passed { IfOk result (λ p. SoundOf table.now top p.0 × (p.1 ≡ depth_named table.now handle)) }
 {
-    let no = reached_check(memory, bodies, table, top);
-    if no != 0 {
-        return no;
-    }
-    if find_domain(table, handle) == 0 {
-        return 5;
-    }
-    if !range_ok(cells_of(memory), wide(cell), 1) {
-        return 8;
-    }
-    0
+    let sound = reached_check(memory, bodies, table, top)?;
+    let depth = live_check(table, handle)?;
+    range_check(cells_of(memory), cell as usize, 1)?;
+    Ok((sound, depth))
 }
 
-// The place of a cell's bytes in a table that passed the questions. The entries from `top` on are free.
-fn find_place(table: &[u32], slots: usize, top: usize, depth: u32, cell: u32) -> Place
-    requires sizes { (slots ≤ max_slots) × (pairs_at slots ≤ length table.now) × EndsAt slots table.now top × (live table.now ≤ max_live) × (1 ≤ depth) }
-    requires cells_once { CellsOnce slots table.now slots × HasSource slots table.now depth cell }
-    ensures { result ≡ place_in slots table.now depth cell }
+// The place of a cell's bytes in a table that passed the questions: one search, for which notes would take longer to make.
+#[tactic(auto, unfolding(crate::specs::Look::place_in))]
+fn find_place(table: &Sound<'_>, depth: u32, cell: u32) -> Place
+    requires depth { 1 ≤ depth }
+    requires source { HasSource table.now.entries.slots table.now.entries.words.now depth cell }
+    ensures { placed_at result ≡ place_in table.now.entries.slots table.now.entries.words.now depth cell }
 {
-    // one search alone: notes would take longer to make
-    let notes = no_notes();
-    match find_value(table, slots, top, depth, cell, &notes, &notes) {
-        Held::Nowhere => Place::Memory(cell_at(wide(cell))),
-        Held::InBody(_, body) => Place::Bodies(cell_at(wide(body))),
-        Held::ByRule(_, rule) => Place::Rule(rule),
+    match find_value(table, depth, cell, &Notes::<1>::none()) {
+        None => Place::Memory(cell_at(cell as usize)),
+        Some(held) => match held.value {
+            Value::Body(body) => Place::Bodies(cell_at(body as usize)),
+            Value::Rule(rule) => Place::Rule(rule),
+        },
     }
 }
 
 // Where restore would take the bytes of this cell from: 64 bytes that lie inside the buffer named, or a rule.
-pub fn look_place(memory: &[u8], bodies: &[u8], table: &[u32], handle: u32, cell: u32) -> Place
-    ensures found { result ≡ look_place handle cell (buffers memory.now bodies.now table.now) }
-    ensures means { shown_at result (buffers memory.now bodies.now table.now)
+pub fn look_place(
+    memory: &[u8],
+    bodies: &[u8],
+    table: &[u32],
+    handle: u32,
+    cell: u32,
+) -> Result<Place, Refusal>
+    ensures found { placed result ≡ look_place handle cell (buffers memory.now bodies.now table.now) }
+    ensures means { shown_at (placed result) (buffers memory.now bodies.now table.now)
         ≡ look_means handle cell (buffers memory.now bodies.now table.now) }
-    ensures within { PlaceWithin result (buffers memory.now bodies.now table.now) }
+    ensures within { PlaceWithin (placed result) (buffers memory.now bodies.now table.now) }
 {
     // asked once, for the questions and for the search
     let top = reach_of(table);
-    let no = look_check(memory.len(), bodies.len(), table, top, handle, cell);
-    if no != 0 {
-        return Place::Refused(no);
-    }
-    find_place(
-        table,
-        slots_of(table.len()),
-        top,
-        find_domain(table, handle),
-        cell,
-    )
+    let (sound, depth) = look_check(memory.len(), bodies.len(), table, top, handle, cell)?;
+    Ok(find_place(&sound, depth, cell))
 }
 
 // Look's answer.
@@ -105,15 +98,13 @@ pub fn look_answer(
     table: &[u32],
     handle: u32,
     cell: u32,
-) -> LookAnswer
+) -> Result<LookAnswer, Refusal>
     ensures report { answer_report result ≡ (look_means handle cell (buffers memory.now bodies.now table.now)).report }
     ensures rule { answer_rule result ≡ (look_means handle cell (buffers memory.now bodies.now table.now)).rule }
 {
-    match look_place(memory, bodies, table, handle, cell) {
-        Place::Refused(no) => LookAnswer::Refused(no),
-        Place::Memory(_) => LookAnswer::Bytes,
-        Place::Bodies(_) => LookAnswer::Bytes,
-        Place::Rule(rule) => LookAnswer::Rule(rule),
+    match look_place(memory, bodies, table, handle, cell)? {
+        Place::Memory(_) | Place::Bodies(_) => Ok(LookAnswer::Bytes),
+        Place::Rule(rule) => Ok(LookAnswer::Rule(rule)),
     }
 }
 
@@ -131,9 +122,8 @@ pub fn look<'a>(
     ensures means { result.now ≡ (look_means handle cell (buffers memory.now bodies.now table.now)).part }
 {
     match look_place(memory, bodies, table, handle, cell) {
-        Place::Refused(_) => &memory[0..0],
-        Place::Memory(at) => &memory[at..at + CELL_SIZE],
-        Place::Bodies(at) => &bodies[at..at + CELL_SIZE],
-        Place::Rule(_) => &memory[0..0],
+        Ok(Place::Memory(at)) => &memory[at..at + CELL_SIZE],
+        Ok(Place::Bodies(at)) => &bodies[at..at + CELL_SIZE],
+        Ok(Place::Rule(_)) | Err(_) => &memory[..0],
     }
 }

@@ -1,37 +1,40 @@
--- `look_place` meets its contract. Assumes nothing.
-use mathlib.Core.Path.{sym, ◌∙◌}
-use native.Mathlib.Omega.{arith}
-use Rattle.store.specs.Outcome.{Buffers, buffers}
-use Rattle.store.proofs.Raw.{live_within}
-use Rattle.look.proofs.Placing.{look_refused_lem, look_found, placed_means, check_passed, store_room, place_requires}
+-- `look_place` meets its contract: what it finds, or is refused with, is look's place, and so meets the other clauses. Assumes nothing.
+use Rattle.store.specs.Outcome.{buffers}
+use Rattle.look.proofs.Placing.{look_refused_lem, look_found, look_room, placed_means, placed_within}
 use Rattle.look.proofs.look_place.Goals as goal
 
-pub look_check-no-requires : goal.look_check-no-requires
-look_check-no-requires c = c.reach_of-top.ensures
+pub returns-in_err-sound-clause-found : goal.returns-in_err-sound-clause-found
+returns-in_err-sound-clause-found c =
+    look_refused_lem _ _ (buffers c.args.memory.now c.args.bodies.now c.args.table.now) _ _ c.from_residual.ensures.1 c.in_err-sound.ensures.no
 
-pub returns-then-no-ne0 : goal.returns-then-no-ne0
-returns-then-no-ne0 c =
-    let a = c.args in
-    let b : Buffers = buffers a.memory.now a.bodies.now a.table.now in
-    let e = look_refused_lem a.handle a.cell b _ c.look_check-no.ensures c.if-no-ne0.true in
-    let facts = placed_means a.handle a.cell b _ e in record { found = facts.0; means = facts.1.0; within = facts.1.1 }
+pub returns-in_err-sound-clause-means : goal.returns-in_err-sound-clause-means
+returns-in_err-sound-clause-means c =
+    let b = buffers c.args.memory.now c.args.bodies.now c.args.table.now in
+    placed_means _ _ b _ (look_refused_lem _ _ b _ _ c.from_residual.ensures.1 c.in_err-sound.ensures.no)
 
-pub find_domain-requires : goal.find_domain-requires
-find_domain-requires c =
-    let a = c.args in
-    let p = check_passed _ _ a.table.now a.handle a.cell (sym c.look_check-no.ensures ∙ c.if-no-ne0.false) in
-    let r = store_room _ _ a.table.now p.store in
-    (omega arith, live_within _ _ a.table.now p.store)
+pub find_place-requires-clause-depth : goal.find_place-requires-clause-depth
+find_place-requires-clause-depth c =
+    let f = c.in_ok-sound.ensures in
+    (look_room _ _ (buffers c.args.memory.now c.args.bodies.now c.args.table.now) _ _ _ f.no f.passed.0 f.passed.1).0
 
-pub find_place-requires : goal.find_place-requires
-find_place-requires c =
-    let a = c.args in
-    let p = check_passed _ _ a.table.now a.handle a.cell (sym c.look_check-no.ensures ∙ c.if-no-ne0.false) in
-    let facts = place_requires _ _ a.table.now a.handle a.cell _ _ _ p c.slots_of.ensures c.reach_of-top.ensures c.find_domain.ensures in record { sizes = facts.0; cells_once = facts.1 }
+pub find_place-requires-clause-source : goal.find_place-requires-clause-source
+find_place-requires-clause-source c =
+    let f = c.in_ok-sound.ensures in
+    (look_room _ _ (buffers c.args.memory.now c.args.bodies.now c.args.table.now) _ _ _ f.no f.passed.0 f.passed.1).1
 
-pub returns : goal.returns
-returns c =
-    let a = c.args in
-    let b : Buffers = buffers a.memory.now a.bodies.now a.table.now in
-    let e = look_found a.handle a.cell b _ _ _ (sym c.look_check-no.ensures ∙ c.if-no-ne0.false) c.slots_of.ensures c.find_domain.ensures c.find_place.ensures in
-    let facts = placed_means a.handle a.cell b _ e in record { found = facts.0; means = facts.1.0; within = facts.1.1 }
+pub returns-clause-found : goal.returns-clause-found
+returns-clause-found c =
+    let f = c.in_ok-sound.ensures in
+    look_found _ _ (buffers c.args.memory.now c.args.bodies.now c.args.table.now) _ _ _ _ f.no f.passed.0 f.passed.1 c.find_place.ensures
+
+pub returns-clause-means : goal.returns-clause-means
+returns-clause-means c =
+    let b = buffers c.args.memory.now c.args.bodies.now c.args.table.now in
+    let f = c.in_ok-sound.ensures in
+    placed_means _ _ b _ (look_found _ _ b _ _ _ _ f.no f.passed.0 f.passed.1 c.find_place.ensures)
+
+pub returns-clause-within : goal.returns-clause-within
+returns-clause-within c =
+    let b = buffers c.args.memory.now c.args.bodies.now c.args.table.now in
+    let f = c.in_ok-sound.ensures in
+    placed_within _ _ b _ (look_found _ _ b _ _ _ _ f.no f.passed.0 f.passed.1 c.find_place.ensures)
