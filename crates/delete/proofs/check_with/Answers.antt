@@ -1,6 +1,6 @@
 -- `delete::check_with` meets its contract, question by question (proofs/Asked.antt). Assumes nothing.
 use Prim.Native.Nat.{ℕ}
-use mathlib.Core.Path.{◌≡◌, refl, sym, ◌∙◌}
+use mathlib.Core.Path.{sym, ◌∙◌}
 use native.Mathlib.Omega.{arith}
 use lib.ListN.{length-replicate}
 use Rattle.marks.proofs.Blocks.{blank_zeros, kept_cells}

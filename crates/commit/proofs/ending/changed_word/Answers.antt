@@ -1,6 +1,6 @@
--- `changed_word` meets its contract. Assumes nothing.
+-- `commit::ending::changed_word` meets its contract. Assumes nothing.
 use mathlib.Core.Path.{◌∙◌}
-use Rattle.commit.proofs.changed_word.Goals as goal
+use Rattle.commit.proofs.ending.changed_word.Goals as goal
 
 pub move_out-requires : goal.move_out-requires
 move_out-requires c = c.requires.0 c.if-out.true
