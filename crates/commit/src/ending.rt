@@ -13,7 +13,14 @@ use table::domains::{is_inner, parent_of};
 use table::fields::{cell_of, depth_of, move_out, raise, writable_of};
 use table::lent::Entries;
 
-// The innermost domain where it has a parent, by its depth.
+// The innermost domain, by its depth: as many domains are live.
+#[derive(Clone, Copy)]
+pub struct Innermost {
+    pub depth: u32,
+    ghost lives: { (1 ≤ depth) × (depth ≤ max_live) },
+}
+
+// The innermost domain where it has a parent.
 #[derive(Clone, Copy)]
 struct Inner {
     depth: u32,
@@ -66,39 +73,40 @@ fn body_if(kept: bool, second: u32) -> u32
     if kept { second } else { 0 }
 }
 
-// The entries, the depth of the innermost domain, and marks that tell which cells it holds read-write and which its parent holds.
+// The entries, the innermost domain, and marks that tell which cells it holds read-write and which its parent holds.
 #[derive(Clone, Copy)]
 pub struct Ending<'t, 's> {
     pub entries: Entries<'t>,
-    pub live: u32,
+    pub innermost: Innermost,
     pub seen: &'s [u8],
-    ghost lives: { (1 ≤ live) × (live ≤ max_live) },
     ghost marks: { max_cells ≤ cells_in seen.now },
-    ghost told: { TellsBoth entries.slots entries.words.now live seen.now },
+    ghost told: { TellsBoth entries.slots entries.words.now innermost.depth seen.now },
 }
 
 impl<'t, 's> Ending<'t, 's> {
     // What becomes of entry i where the innermost domain has no parent: its entries are freed, and the others stay.
     fn free_entry(&self, i: usize) -> Option<(u32, u32)>
-        requires { (i < self.now.entries.slots) × (self.now.live < 2) }
-        ensures { change_of result ≡ commit_change self.now.entries.slots self.now.entries.words.now self.now.live i }
+        requires { (i < self.now.entries.slots) × (self.now.innermost.depth < 2) }
+        ensures { change_of result ≡ commit_change self.now.entries.slots self.now.entries.words.now self.now.innermost.depth i }
     {
-        (depth_of(self.entries.first_word(i)) == self.live).then_some((0, 0))
+        (depth_of(self.entries.first_word(i)) == self.innermost.depth).then_some((0, 0))
     }
 
     // The same where it has one: its entries change, and those of the parent that are raised.
     fn merge_entry(&self, i: usize) -> Option<(u32, u32)>
-        requires { (i < self.now.entries.slots) × (2 ≤ self.now.live) }
-        ensures { change_of result ≡ commit_change self.now.entries.slots self.now.entries.words.now self.now.live i }
+        requires { (i < self.now.entries.slots) × (2 ≤ self.now.innermost.depth) }
+        ensures { change_of result ≡ commit_change self.now.entries.slots self.now.entries.words.now self.now.innermost.depth i }
     {
-        let inner = Inner { depth: self.live };
+        let inner = Inner {
+            depth: self.innermost.depth,
+        };
         let word = self.entries.first_word(i);
         if !inner.is_concerned(word) {
             return None;
         }
         let mark = mark_of(self.seen, cell_of(word));
         let raised = inner.is_raised(word, mark);
-        if !((depth_of(word) == self.live) | raised) {
+        if !((depth_of(word) == self.innermost.depth) | raised) {
             return None;
         }
         let out = inner.moves_out(word, mark);
@@ -110,9 +118,9 @@ impl<'t, 's> Ending<'t, 's> {
     // What becomes of entry i: its two new words, or nothing where it stays. No mark is read where there is no parent.
     pub fn commit_entry(&self, i: usize) -> Option<(u32, u32)>
         requires { i < self.now.entries.slots }
-        ensures { change_of result ≡ commit_change self.now.entries.slots self.now.entries.words.now self.now.live i }
+        ensures { change_of result ≡ commit_change self.now.entries.slots self.now.entries.words.now self.now.innermost.depth i }
     {
-        if is_inner(self.live) {
+        if is_inner(self.innermost.depth) {
             return self.merge_entry(i);
         }
         self.free_entry(i)

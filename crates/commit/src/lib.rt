@@ -8,8 +8,7 @@
 #![tactic(auto)]
 
 ghost use Rattle.std.specs.Prelude.{◌≡◌, ◌*◌, ◌≤◌, length, IfOk, OnOk};
-ghost use Rattle.words.specs.Layout.{cells_of, slots_of, table_words, max_slots, max_live, max_cells, group_at};
-ghost use Rattle.table.specs.Entry.{live};
+ghost use Rattle.words.specs.Layout.{cells_of, slots_of, table_words, max_slots, max_cells, group_at};
 ghost use Rattle.marks.specs.Blocks.{cells_in, Kept, EnoughBytes};
 ghost use Rattle.table.specs.Marks.{Marked, EndsAt, Reached, RoomForMarks, AllMarked};
 ghost use Rattle.changes.specs.Head.{head_stores};
@@ -28,7 +27,7 @@ mod ending;
 use changes::head_words::Head;
 use changes::staged::{FEW_BITS, FEW_WORDS, MANY_BITS, MANY_WORDS, Staged};
 use changes::writer::write_staged;
-use ending::Ending;
+use ending::{Ending, Innermost};
 use marks::{FEW_BLOCKS, FEW_BYTES, MANY_BYTES, SOME_BLOCKS, SOME_BYTES, blocks_wanted};
 use search::writable::keep_writable;
 use store::answers::{Answer, Refusal};
@@ -63,26 +62,26 @@ fn commit_check<'a>(
 
 // Has the marks tell of the innermost depth which cells it holds read-write. The outermost domain has no parent whose entries could be
 // raised, so that nothing is asked of its marks.
-fn tell_writable(table: &Sound<'_>, live: u32, seen: &mut [u8])
-    requires lives { (1 ≤ live) × (live ≤ max_live) }
-    requires marked { Kept seen.old × Marked table.now.entries.slots table.now.entries.words.now table.now.entries.slots seen.old }
-    ensures { TellsBoth table.now.entries.slots table.now.entries.words.now live seen.new }
+fn tell_writable(table: &Sound<'_>, innermost: Innermost, seen: &mut [u8])
+    requires { Kept seen.old × Marked table.now.entries.slots table.now.entries.words.now table.now.entries.slots seen.old }
+    ensures { TellsBoth table.now.entries.slots table.now.entries.words.now innermost.depth seen.new }
 {
-    if !is_inner(live) {
+    if !is_inner(innermost.depth) {
         return;
     }
-    keep_writable(table, live, seen);
+    keep_writable(table, innermost.depth, seen);
 }
 
 // ---- the words
 
 // The words of the head: the number of live domains, and the handle that leaves.
-fn commit_head(live: u32) -> Head
-    requires { (1 ≤ live) × (live ≤ max_live) }
-    ensures { head_stores result ≡ head_words live }
+fn commit_head(innermost: Innermost) -> Head
+    ensures { head_stores result ≡ head_words innermost.depth }
 {
-    let one = Head::none().with(LIVE_AT, live - 1);
-    one.with(handle_at(parent_of(live) as usize), 0)
+    let left = parent_of(innermost.depth);
+    Head::none()
+        .with(LIVE_AT, left)
+        .with(handle_at(left as usize), 0)
 }
 
 // Ends the innermost domain by what the marks tell. Gives the steps uncut.
@@ -90,15 +89,15 @@ fn end_with<const WORDS: usize, const BITS: usize>(
     table: &mut [u32],
     slots: usize,
     top: usize,
-    live: u32,
+    innermost: Innermost,
     seen: &[u8],
     budget: usize,
 ) -> usize
-    requires small { (slots ≤ max_slots) × (length table.old ≡ table_words slots) × (1 ≤ live) × (live ≤ max_live) }
+    requires small { (slots ≤ max_slots) × (length table.old ≡ table_words slots) }
     requires ends { EndsAt slots table.old top }
-    requires told { (max_cells ≤ cells_in seen.now) × TellsBoth slots table.old live seen.now }
+    requires told { (max_cells ≤ cells_in seen.now) × TellsBoth slots table.old innermost.depth seen.now }
     requires room { (top ≤ group_at BITS) × (2 * group_at BITS ≤ WORDS) × (WORDS ≤ 2 * max_slots) }
-    ensures { Journaled slots (ending_words slots table.old live) budget table.old result table.new }
+    ensures { Journaled slots (ending_words slots table.old innermost.depth) budget table.old result table.new }
 {
     let mut staged = Staged::<WORDS, BITS>::none();
     let entries = Entries {
@@ -108,11 +107,11 @@ fn end_with<const WORDS: usize, const BITS: usize>(
     };
     let ending = Ending {
         entries,
-        live,
+        innermost,
         seen,
     };
     staged.stage_below(entries.top, |_, _| false, |i| ending.commit_entry(i));
-    write_staged(table, slots, &commit_head(live), &staged, budget)
+    write_staged(table, slots, &commit_head(innermost), &staged, budget)
 }
 
 // The same in arrays chosen by how far the entries in use reach, so that a large table of few entries clears no more than a small one. They are
@@ -121,19 +120,19 @@ fn end_domain(
     table: &mut [u32],
     slots: usize,
     top: usize,
-    live: u32,
+    innermost: Innermost,
     seen: &[u8],
     budget: usize,
 ) -> usize
-    requires small { (slots ≤ max_slots) × (length table.old ≡ table_words slots) × (1 ≤ live) × (live ≤ max_live) }
+    requires small { (slots ≤ max_slots) × (length table.old ≡ table_words slots) }
     requires ends { EndsAt slots table.old top }
-    requires told { (max_cells ≤ cells_in seen.now) × TellsBoth slots table.old live seen.now }
-    ensures { Journaled slots (ending_words slots table.old live) budget table.old result table.new }
+    requires told { (max_cells ≤ cells_in seen.now) × TellsBoth slots table.old innermost.depth seen.now }
+    ensures { Journaled slots (ending_words slots table.old innermost.depth) budget table.old result table.new }
 {
     if top <= FEW_SLOTS {
-        return end_with::<FEW_WORDS, FEW_BITS>(table, slots, top, live, seen, budget);
+        return end_with::<FEW_WORDS, FEW_BITS>(table, slots, top, innermost, seen, budget);
     }
-    end_with::<MANY_WORDS, MANY_BITS>(table, slots, top, live, seen, budget)
+    end_with::<MANY_WORDS, MANY_BITS>(table, slots, top, innermost, seen, budget)
 }
 
 // ---- the call
@@ -164,9 +163,11 @@ fn commit_with<const BYTES: usize>(
         &mut used,
     )?;
     let slots = sound.entries.slots;
-    let live = sound.entries.words[LIVE_AT];
-    tell_writable(&sound, live, &mut seen);
-    let steps = end_domain(table, slots, top, live, &seen, budget);
+    let innermost = Innermost {
+        depth: sound.entries.words[LIVE_AT],
+    };
+    tell_writable(&sound, innermost, &mut seen);
+    let steps = end_domain(table, slots, top, innermost, &seen, budget);
     answer_of(steps, 0, budget)
 }
 

@@ -21,12 +21,16 @@ pub returns-in_err-sound : goal.returns-in_err-sound
 returns-in_err-sound g c = let a = c.args in
     commit_refused a.memory.now a.bodies.now a.table.now a.handle a.budget _ _ c.from_residual.ensures.1 c.in_err-sound.ensures.no
 
+pub invariant_of-innermost : goal.invariant_of-innermost
+invariant_of-innermost g c =
+    let p = commit_ready _ _ c.args.table.now c.args.handle (sym c.in_ok-sound.ensures.no) in
+    record { lives = rw c.in_ok-sound.ensures.sound.words (p.low, p.high) }
+
 pub tell_writable-requires : goal.tell_writable-requires
 tell_writable-requires g c =
-    let p = commit_ready _ _ c.args.table.now c.args.handle (sym c.in_ok-sound.ensures.no) in
     let s = c.in_ok-sound.ensures.sound in
     let marks = c.in_ok-sound.ensures.marks in
-    record { lives = rw s.words (p.low, p.high); marked = rw (s.words, s.slots) (marks.kept, marks.cells) }
+    rw (s.words, s.slots) (marks.kept, marks.cells)
 
 pub end_domain-steps-requires : goal.end_domain-steps-requires
 end_domain-steps-requires g c =
@@ -34,7 +38,7 @@ end_domain-steps-requires g c =
     let s = c.in_ok-sound.ensures.sound in
     let kept = c.in_ok-sound.ensures.marks.kept in
     record {
-      small = rw (s.words, s.slots) (p.small, p.long, p.low, p.high);
+      small = rw s.slots (p.small, p.long);
       ends = rw s.slots (p.ends c.args.top c.requires.reached);
       told = (marks_ready _ _ kept c.tell_writable.auto.seen, rw s.words (rw s.words at c.tell_writable.ensures));
     }

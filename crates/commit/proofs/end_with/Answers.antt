@@ -10,15 +10,15 @@ use Rattle.commit.proofs.end_with.Goals.{After-commit_head}
 use Rattle.commit.proofs.end_with.Goals as goal
 
 all_staged : (g : Over) (c : After-commit_head g)
-    → Stages c.args.slots (commit_change c.args.slots c.args.table.now c.args.live) c.stage_below.new.self.words c.stage_below.new.self.changed
+    → Stages c.args.slots (commit_change c.args.slots c.args.table.now c.args.innermost.depth) c.stage_below.new.self.words c.stage_below.new.self.changed
 all_staged g c =
     let a = c.args in
-    let f = commit_change a.slots a.table.now a.live in
+    let f = commit_change a.slots a.table.now a.innermost.depth in
     c.stage_below.ensures f a.slots (omega arith)
     (record {
       each = λ i l r given. search rules;
       left_out = λ from end l le given i low high. search rules;
-      behind = λ i low l. change_free a.slots a.table.now a.live i c.requires.small.2 (c.requires.ends.1 i low l).0;
+      behind = λ i low l. change_free a.slots a.table.now a.innermost.depth i a.innermost.lives.0 (c.requires.ends.1 i low l).0;
     })
     (c.none-staged.ensures f)
 

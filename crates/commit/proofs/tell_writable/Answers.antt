@@ -8,4 +8,4 @@ pub returns-then-not-is_inner : goal.returns-then-not-is_inner
 returns-then-not-is_inner c = tells_outermost _ _ _ _ (leb-false 2 _ (sym c.is_inner.ensures ∙ c.if-not-is_inner.true))
 
 pub returns : goal.returns
-returns c = tells_after _ _ _ _ _ c.requires.marked.1 c.keep_writable.ensures
+returns c = tells_after _ _ _ _ _ c.requires.1 c.keep_writable.ensures
