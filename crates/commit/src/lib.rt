@@ -110,6 +110,7 @@ fn end_with<const WORDS: usize, const BITS: usize>(
         innermost,
         seen,
     };
+    // No group is left out: that an entry stays is told by its first word as fast.
     staged.stage_below(entries.top, |_, _| false, |i| ending.commit_entry(i));
     write_staged(table, slots, &commit_head(innermost), &staged, budget)
 }
