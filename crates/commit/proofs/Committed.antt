@@ -5,6 +5,7 @@ use mathlib.Core.List.{List, []}
 use mathlib.Core.Option.{Option}
 use mathlib.Core.Path.{◌≡◌, refl, sym, ap, subst, ◌∙◌}
 use native.Mathlib.Omega.{arith}
+use Rattle.std.specs.Prelude.{Result, IsErrAnd}
 use borrow.Author.Tests.{ltb-true, lt-ltb}
 use lib.Dec.{ltb, eqb}
 use lib.ListN.{length, take, length-append}
@@ -17,7 +18,7 @@ use Rattle.words.proofs.Names.{name_live, name_from}
 use Rattle.table.specs.Entry.{live}
 use Rattle.table.specs.Changes.{is_changed, entry_changes}
 use Rattle.marks.specs.Blocks.{cells_in, Kept}
-use Rattle.table.specs.Marks.{CellsOnce, EndsAt, Reached}
+use Rattle.table.specs.Marks.{EndsAt, Reached}
 use Rattle.marks.proofs.Blocks.{kept_cells, cells_same}
 use Rattle.table.proofs.Rule.{Rule}
 use Rattle.table.proofs.Entries.{changes_count, changes_names}
@@ -27,13 +28,16 @@ use Rattle.model.specs.State.{State}
 use Rattle.model.specs.Answer.{Report, refused, ended, ask, or_else, view, steps_of}
 use Rattle.model.specs.Calls.{viewed, change, or_refuse}
 use Rattle.model.specs.Holdings.{inner_cells, raised_cells, commit, commit_checks, commit_effect}
+use Rattle.store.specs.declared.answers.Ended.{Ended}
+use Rattle.store.specs.declared.answers.Refusal.{Refusal}
+use Rattle.store.specs.Answer.{question, report}
 use Rattle.store.specs.Outcome.{Buffers, buffers, change_plan, outcome, leaves, perform, unless}
 use Rattle.store.specs.Checks.{store_check, lent, lent_of}
 use Rattle.store.specs.State.{state_in, state_of}
-use Rattle.store.specs.Means.{or_refused, call_means}
+use Rattle.store.specs.Means.{visible, or_refused, call_means}
 use Rattle.store.proofs.Checks.{ask_yes, or_else_both, or_else_go, store_lengths}
-use Rattle.store.proofs.Checked.{checked_once}
 use Rattle.store.proofs.Outcome.{refuses}
+use Rattle.store.proofs.Refused.{question_no, answer_refused}
 use Rattle.store.proofs.Means.{visible_of, by_check, store_standing, live_count}
 use Rattle.store.proofs.Bounds.{change_bound}
 use Rattle.store.proofs.Raw.{live_within, raw_rule, raw_state, raw_named, raw_next, raw_after, raw_long}
@@ -155,6 +159,10 @@ commit_means_lem h k b =
     (λ n e. ap (λ (s : Option State). view (refused (suc n)) s b.memory) stands)
     (λ e. commit_seen b.memory b.bodies b.table yes (asked_live b.table h e) k)))
 
+-- what a call makes shows what it means
+pub commit_shows : (h k : ℕ) (b after : Buffers) (r : Report) → leaves r after ≡ outcome (commit_call h b) k b → visible r after ≡ commit_means h k b
+commit_shows h k b after r e = ap visible_of e ∙ commit_means_lem h k b
+
 -- ---- the pairs that it leaves pending, at every budget
 
 pub commit_pending : (h k : ℕ) (b : Buffers) → store_check (lent_of b) ≡ 0
@@ -170,14 +178,13 @@ commit_pending h k b good =
 pub marks_ready : (seen after : List ℕ) → Kept seen → length after ≡ length seen → max_cells ≤ cells_in after
 marks_ready seen after kept same = omega (arith, kept_cells seen kept, cells_same after seen same)
 
--- what passed questions tell, e being what the code took for the number of slots
-pub record Ready (e : ℕ) (t : List ℕ) : Type 0 where
-  pub small : e ≤ max_slots
-  pub long : length t ≡ table_words e
+-- what passed questions tell
+pub record Ready (t : List ℕ) : Type 0 where
+  pub small : slots_of (length t) ≤ max_slots
+  pub long : length t ≡ table_words (slots_of (length t))
   pub low : 1 ≤ live t
   pub high : live t ≤ max_live
-  pub once : CellsOnce e t e
-  pub ends : (top : ℕ) → Reached t top → EndsAt e t top
+  pub ends : (top : ℕ) → Reached t top → EndsAt (slots_of (length t)) t top
 
 module _ (memory bodies : ℕ) (t : List ℕ) (h : ℕ) (passed : commit_check (lent memory bodies t) h ≡ 0) where
   pub commit_store : store_check (lent memory bodies t) ≡ 0
@@ -188,23 +195,23 @@ module _ (memory bodies : ℕ) (t : List ℕ) (h : ℕ) (passed : commit_check (
   unfolding commit_check
   commit_live = asked_live t h (or_else_both (store_check (lent memory bodies t)) (asked t h) passed).1
 
-  pub commit_ready : {e : ℕ} → e ≡ slots_of (length t) → Ready e t
-  commit_ready slots =
+  pub commit_ready : Ready t
+  commit_ready =
       let f = store_lengths memory bodies t commit_store in
-      rw slots
-      (record {
+      record {
         small = f.slots_high;
         long = f.table_exact;
         low = commit_live;
         high = live_within memory bodies t commit_store;
-        once = checked_once memory bodies t commit_store;
         ends = λ top reach. (reach f.slots_low f.slots_high).0;
-      })
+      }
 
 module _ (m b t : List ℕ) (h k : ℕ) where
-  pub commit_refused : (q : ℕ) → q ≡ commit_check (lent (length m) (length b) t) h → (q ≡ 0 → ⊥) → leaves (refused q) (buffers m b t) ≡ outcome (commit_call h (buffers m b t)) k (buffers m b t)
+  -- a refusal that a `?` hands on
+  pub commit_refused : (r : Result Ended Refusal) (why : Refusal) → IsErrAnd r (λ w. w ≡ why) → question why ≡ commit_check (lent (length m) (length b) t) h
+      → leaves (report r) (buffers m b t) ≡ outcome (commit_call h (buffers m b t)) k (buffers m b t)
   unfolding commit_call
-  commit_refused q e n = refuses q (commit_check (lent (length m) (length b) t) h) _ k (buffers m b t) e n
+  commit_refused r why back q = answer_refused r why back (refuses (question why) (commit_check (lent (length m) (length b) t) h) _ k (buffers m b t) q (question_no why))
 
   pub commit_performed : {e need : ℕ} {t' : List ℕ} {r : Report} → commit_check (lent (length m) (length b) t) h ≡ 0 → e ≡ slots_of (length t)
       → need ≡ length (journal (pairs_at e) (ending_words e t (live t))) → t' ≡ stores (take k (journal (pairs_at e) (ending_words e t (live t)))) t

@@ -2,9 +2,9 @@
 use Prim.Native.Nat.{ℕ, ◌≤◌, ◌<◌}
 use mathlib.Core.Bool.{Bool, true, false, cond, not, ◌&&◌, ◌||◌}
 use mathlib.Core.List.{List}
-use mathlib.Core.Path.{◌≡◌, ◌∙◌}
+use mathlib.Core.Path.{◌≡◌, refl, ◌∙◌}
 use native.Mathlib.Omega.{arith}
-use borrow.Author.Tests.{eq-eqb, ne_eqb, eqb-true, leb-true, lt-leb}
+use borrow.Author.Tests.{ne_eqb, eqb-true, leb-true, lt-leb}
 use lib.Dec.{leb, eqb}
 use Rattle.words.proofs.Scan.{by_bool, and_split, and_join, is_false, true≢}
 use Rattle.table.specs.Entry.{word1, word2, depth_of, cell_of, writable_of, parent, outward, writable, writes_in, parent_has}
@@ -76,13 +76,9 @@ module _ (e : ℕ) (t : List ℕ) (d i : ℕ) (few : d < 2) where
   alone : leb 2 d ≡ false
   alone = lt-leb 2 d few
 
-  pub change_other : (depth_of (word1 e t i) ≡ d → ⊥) → commit_change e t d i ≡ keep
+  pub change_alone : cond (eqb (depth_of (word1 e t i)) d) (put 0 0) keep ≡ commit_change e t d i
   unfolding commit_change
-  change_other n = rw (ne_eqb (depth_of (word1 e t i)) d n, alone)
-
-  pub change_freed : depth_of (word1 e t i) ≡ d → commit_change e t d i ≡ put 0 0
-  unfolding commit_change
-  change_freed q = rw (eq-eqb (depth_of (word1 e t i)) d q, alone)
+  change_alone = rw alone refl
 
 -- ---- entry i, by the marks of all cells
 

@@ -1,7 +1,6 @@
 use Prim.Native.Nat.{ℕ, ◌+◌}
 use mathlib.Core.Path.{◌≡◌, sym, ap, ◌∙◌}
 use native.Mathlib.Omega.{arith}
-use borrow.Author.Rules.{rules}
 use borrow.Author.Count.{below_none}
 use Rattle.words.specs.Scan.{all}
 use Rattle.words.proofs.Scan.{all_make, all_next}
@@ -10,16 +9,15 @@ use Rattle.table.specs.Marks.{has}
 use Rattle.delete.proofs.all_held.Goals as goal
 
 pub loop-j-init : goal.loop-j-init
-loop-j-init c = (search rules, sym (all_make 0 _ (below_none _)))
+loop-j-init c = sym (all_make 0 _ (below_none _))
 
 pub loop-j-preserved : goal.loop-j-preserved
 loop-j-preserved c =
-    let turn = c.loop-j in
     let a = c.args in
-    (omega arith, rw (turn.invariant.1, c.has_depth-held.ensures, c.mark_of.ensures) (all_next turn.j (λ k. has a.depth (mark_of a.seen.now (a.first + k)))))
+    rw (c.loop-j.invariant, c.has_depth-held.ensures, c.mark_of.ensures) (all_next c.loop-j.j (λ k. has a.cells.depth (mark_of a.seen.now (a.cells.first + k))))
 
 pub returns : goal.returns
 returns c =
     let a = c.args in
-    let e : c.loop-j.j ≡ a.count = omega arith in
-    c.loop-j.invariant.1 ∙ ap (λ (n : ℕ). all n (λ k. has a.depth (mark_of a.seen.now (a.first + k)))) e
+    let e : c.loop-j.j ≡ a.cells.count = omega arith in
+    c.loop-j.invariant ∙ ap (λ (n : ℕ). all n (λ k. has a.cells.depth (mark_of a.seen.now (a.cells.first + k)))) e

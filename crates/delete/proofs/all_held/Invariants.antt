@@ -1,5 +1,5 @@
 -- `delete::all_held` meets its contract. The loop's invariant: the answer so far is that of the marks passed. Assumes nothing.
-use Prim.Native.Nat.{◌+◌, ◌-◌, ◌≤◌}
+use Prim.Native.Nat.{◌+◌}
 use mathlib.Core.Path.{◌≡◌}
 use Rattle.words.specs.Scan.{all}
 use Rattle.marks.specs.Blocks.{mark_of}
@@ -7,7 +7,4 @@ use Rattle.table.specs.Marks.{has}
 use Rattle.delete.proofs.all_held.Given as goal
 
 abbrev pub invariant-loop-j : goal.invariant-loop-j
-invariant-loop-j l = (l.j ≤ l.count) × (l.held ≡ all l.j (λ k. has l.depth (mark_of l.seen (l.first + k))))
-
-abbrev pub decreases-loop-j : goal.decreases-loop-j
-decreases-loop-j l = l.count - l.j
+invariant-loop-j l = l.held ≡ all l.j (λ k. has l.cells.depth (mark_of l.seen (l.cells.first + k)))

@@ -6,4 +6,4 @@ use Rattle.delete.proofs.free_entry.Goals as goal
 
 pub returns : goal.returns
 unfolding delete_change
-returns c = rw (c.then_some.ensures, change_then, c.in_cells.ensures, c.first_word.ensures) refl
+returns c = rw (c.then_some.ensures, change_then, c.frees.ensures, c.first_word.ensures) refl

@@ -10,15 +10,15 @@ use Rattle.delete.proofs.free_with.Goals.{After-none}
 use Rattle.delete.proofs.free_with.Goals as goal
 
 all_staged : (g : Over) (c : After-none g)
-    → Stages c.args.slots (delete_change c.args.slots c.args.table.now c.args.depth c.args.first c.args.count) c.stage_below.new.self.words c.stage_below.new.self.changed
+    → Stages c.args.slots (delete_change c.args.slots c.args.table.now c.args.cells.depth c.args.cells.first c.args.cells.count) c.stage_below.new.self.words c.stage_below.new.self.changed
 all_staged g c =
     let a = c.args in
-    let f = delete_change a.slots a.table.now a.depth a.first a.count in
+    let f = delete_change a.slots a.table.now a.cells.depth a.cells.first a.cells.count in
     c.stage_below.ensures f a.slots (omega arith)
     (record {
       each = λ i l r given. search rules;
       left_out = λ from end l le given i low high. search rules;
-      behind = λ i low l. free_kept a.slots a.table.now a.depth a.first a.count i c.requires.ends.1 (c.requires.ends.0.1 i low l).0;
+      behind = λ i low l. free_kept a.slots a.table.now a.cells.depth a.cells.first a.cells.count i a.cells.lives.0 (c.requires.ends.1 i low l).0;
     })
     (c.none-staged.ensures f)
 

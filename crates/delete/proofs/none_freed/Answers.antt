@@ -14,6 +14,6 @@ loop-i-preserved c =
     let a = c.args in
     λ h j low l.
     let both = and_split turn.none _ h in
-    let stays = rw c.first_word.ensures at (sym c.in_cells.ensures ∙ not-true _ both.1) in
-    below_more (λ j. a.from ≤ j → delete_change a.entries.now.slots a.entries.now.words.now a.depth a.first a.count j ≡ keep) turn.i
+    let stays = rw c.first_word.ensures at (sym c.frees.ensures ∙ not-true _ both.1) in
+    below_more (λ j. a.from ≤ j → delete_change a.entries.now.slots a.entries.now.words.now a.cells.depth a.cells.first a.cells.count j ≡ keep) turn.i
     (λ j l low. turn.invariant both.0 j low l) (λ low. rw stays) j l low

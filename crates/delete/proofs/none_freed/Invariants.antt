@@ -7,4 +7,4 @@ use Rattle.delete.specs.Delete.{delete_change}
 use Rattle.delete.proofs.none_freed.Given as goal
 
 abbrev pub invariant-loop-i : goal.invariant-loop-i
-invariant-loop-i l = l.none ≡ true → (j : ℕ) → l.from ≤ j → j < l.i → delete_change l.entries.slots l.entries.words.now l.depth l.first l.count j ≡ keep
+invariant-loop-i l = l.none ≡ true → (j : ℕ) → l.from ≤ j → j < l.i → delete_change l.entries.slots l.entries.words.now l.cells.depth l.cells.first l.cells.count j ≡ keep

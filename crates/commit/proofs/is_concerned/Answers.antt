@@ -1,6 +1,0 @@
--- `is_concerned` meets its contract. Assumes nothing.
-use borrow.Author.Tests.{le-leb}
-use Rattle.commit.proofs.is_concerned.Goals as goal
-
-pub returns : goal.returns
-returns c = rw (le-leb 2 _ c.requires, c.depth_of-depth.ensures, c.parent_of.ensures, c.writable_of.ensures)

@@ -1,6 +1,0 @@
--- `moves_out` meets its contract. Assumes nothing.
-use borrow.Author.Tests.{le-leb}
-use Rattle.commit.proofs.moves_out.Goals as goal
-
-pub returns : goal.returns
-returns c = rw (le-leb 2 _ c.requires.0, c.depth_of.ensures, c.has_depth.ensures, c.parent_of.ensures)
