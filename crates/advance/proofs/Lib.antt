@@ -2,6 +2,7 @@
 pub mod Turning
 pub mod Choosing
 pub mod Bits
+pub mod Found
 pub mod Blocks
 pub mod Listing
 pub mod Giving
@@ -9,3 +10,4 @@ pub mod Noting
 pub mod Given
 pub mod Performing
 pub mod Advanced
+pub mod Asked

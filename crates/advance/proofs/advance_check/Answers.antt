@@ -1,79 +1,63 @@
 -- `advance::advance_check` meets its contract. Assumes nothing.
-use Prim.Native.Nat.{ℕ}
-use mathlib.Core.Path.{sym, ap, ◌∙◌}
+use mathlib.Core.Path.{sym, ◌∙◌}
 use native.Mathlib.Omega.{arith}
-use lib.ListN.{length}
-use Rattle.table.proofs.Rule.{ok_make}
 use Rattle.store.specs.Outcome.{buffers}
-use Rattle.store.proofs.Checks.{or_else_go, or_else_stop, store_lengths}
-use Rattle.store.proofs.Named.{innermost_no, innermost_then, innermost_named}
+use Rattle.store.proofs.Checks.{or_else_go, store_lengths}
 use Rattle.store.proofs.Raw.{check_rule}
-use Rattle.advance.specs.Notes.{entries_check}
-use Rattle.advance.proofs.Noting.{given_count, entries_cells, turned_advances}
+use Rattle.store.proofs.Refused.{handed_on, refused_before, innermost_before}
+use Rattle.advance.proofs.Noting.{given_count, turned_advances}
 use Rattle.advance.proofs.Advanced.{check_is, advance_slots, advance_room}
+use Rattle.advance.proofs.Asked.{lives, asked, comparable}
 use Rattle.advance.proofs.advance_check.Goals as goal
 
-pub store_check-no-requires : goal.store_check-no-requires
-store_check-no-requires c = c.requires.room
+pub returns-in_err-sound-clause-no : goal.returns-in_err-sound-clause-no
+returns-in_err-sound-clause-no c = refused_before _ _ c.from_residual.ensures.1 _ _ c.in_err-sound.ensures.no ∙ sym (check_is _ _)
 
-pub returns-then-no-ne0 : goal.returns-then-no-ne0
-returns-then-no-ne0 c = record { no = c.store_check-no.ensures.no ∙ sym (check_is _ _ ∙ or_else_stop _ _ (λ e. c.if-no-ne0.true (c.store_check-no.ensures.no ∙ e))); ready = λ z. absurd (c.if-no-ne0.true z) }
+pub returns-in_err-innermost_check-clause-no : goal.returns-in_err-innermost_check-clause-no
+returns-in_err-innermost_check-clause-no c =
+    innermost_before _ _ c.from_residual-in_err-innermost_check.ensures.1 _ _ _ c.in_err-innermost_check.ensures.no ∙ sym (check_is _ _ ∙ or_else_go _ _ (sym c.in_ok-sound.ensures.no))
 
-pub innermost_check-stale-requires : goal.innermost_check-stale-requires
-innermost_check-stale-requires c =
+pub entries_check-requires-clause-comparable : goal.entries_check-requires-clause-comparable
+entries_check-requires-clause-comparable c =
+    let q = c.in_ok-sound.ensures in
+    comparable _ _ _ _ _ _ q.sound q.no c.in_ok-innermost_check.ensures.no c.requires.room.reached _ _ q.marks
+
+pub returns-in_err-given-clause-no : goal.returns-in_err-given-clause-no
+returns-in_err-given-clause-no c =
+    let q = c.in_ok-sound.ensures in
+    handed_on _ _ c.from_residual-in_err-given.ensures.1 ∙ asked _ _ _ _ _ _ q.sound q.no c.in_ok-innermost_check.ensures.no _ c.in_err-given.ensures.no
+
+pub returns-clause-no : goal.returns-clause-no
+returns-clause-no c = let q = c.in_ok-sound.ensures in asked _ _ _ _ _ _ q.sound q.no c.in_ok-innermost_check.ensures.no _ c.in_ok-given.ensures.no
+
+pub returns-clause-ready : goal.returns-clause-ready
+returns-clause-ready c =
     let a = c.args in
-    let pass = sym c.store_check-no.ensures.no ∙ c.if-no-ne0.false in
-    let f = store_lengths _ _ _ pass in
-    (omega arith, (check_rule (length a.memory.now) (length a.bodies.now) a.table.now pass).live)
-
-pub returns-then-stale-ne0 : goal.returns-then-stale-ne0
-returns-then-stale-ne0 c =
-    let pass = sym c.store_check-no.ensures.no ∙ c.if-no-ne0.false in
-    record { no = innermost_no _ _ _ _ c.innermost_check-stale.ensures c.if-stale-ne0.true ∙ sym (check_is _ _ ∙ or_else_go _ _ pass); ready = λ z. absurd (c.if-stale-ne0.true z) }
-
-pub entries_check-requires : goal.entries_check-requires
-entries_check-requires c =
-    let a = c.args in
-    let pass = sym c.store_check-no.ensures.no ∙ c.if-no-ne0.false in
-    let f = store_lengths (length a.memory.now) (length a.bodies.now) a.table.now pass in
-    let ok = check_rule (length a.memory.now) (length a.bodies.now) a.table.now pass in
-    let low = (innermost_named a.table.now a.handle _ c.innermost_check-stale.ensures c.if-stale-ne0.false).1 in
-    let q = c.slots_of.ensures in
-    let marks = c.store_check-no.ensures.marks c.if-no-ne0.false in
-    let ends = (c.requires.room.reached f.slots_low f.slots_high).0 in record { comparable = record { slots = omega (arith, q, f.slots_high); words = omega (arith, q, f.table_exact); right = rw q (ok_make _ _ _ _ ok); ends = rw q ends; low = low; marked = rw q marks.cells; kept = marks.kept }; blank = (omega (arith, c.store_check-no.auto.seen, c.requires.blank.0), c.requires.blank.1) }
-
-pub returns : goal.returns
-returns c =
-    let a = c.args in
-    let low = (innermost_named a.table.now a.handle _ c.innermost_check-stale.ensures c.if-stale-ne0.false).1 in
-    let pass = sym c.store_check-no.ensures.no ∙ c.if-no-ne0.false in
-    let f = store_lengths (length a.memory.now) (length a.bodies.now) a.table.now pass in
-    let ok = check_rule (length a.memory.now) (length a.bodies.now) a.table.now pass in
-    let marks = c.store_check-no.ensures.marks c.if-no-ne0.false in
-    let no = c.entries_check.ensures.no ∙ ap (λ (e : ℕ). entries_check a.memory.now a.bodies.now e a.table.now) c.slots_of.ensures
-    ∙ entries_cells a.memory.now a.bodies.now a.table.now ok low
-    ∙ innermost_then a.table.now a.handle _ _ c.innermost_check-stale.ensures c.if-stale-ne0.false
-    ∙ sym (check_is _ _ ∙ or_else_go _ _ pass) in record {
-      no = no;
-      ready = λ z.
-          let bits = rw c.slots_of.ensures at c.entries_check.ensures.bits in (
-            record {
-              stands = pass;
-              lives = low;
-              slots = advance_slots (buffers a.memory.now a.bodies.now a.table.now) a.handle (sym no ∙ z);
-              room = advance_room (buffers a.memory.now a.bodies.now a.table.now) a.handle (sym no ∙ z);
-              marks = marks.copies;
-            },
-            record {
-              cells = record { each = turned_advances a.memory.now a.bodies.now a.table.now ok low _ bits.turned };
-              blocks = record {
-                kept = marks.kept;
-                room = omega (arith, c.store_check-no.auto.seen, c.entries_check.auto.bits, c.requires.blank.0);
-                front = bits.front;
-              };
-              ends = (c.requires.room.reached f.slots_low f.slots_high).0;
-              marked = marks.cells;
-              number = (rw c.slots_of.ensures at c.entries_check.ensures.given) ∙ given_count a.memory.now a.bodies.now a.table.now ok low;
-            },
-          );
-    }
+    let q = c.in_ok-sound.ensures in
+    let inner = c.in_ok-innermost_check.ensures.no in
+    let b = buffers a.memory.now a.bodies.now a.table.now in
+    let pass = sym q.no in
+    let no = asked _ _ _ _ _ _ q.sound q.no inner _ c.in_ok-given.ensures.no in
+    let low = lives a.memory.now a.bodies.now a.table.now a.handle _ _ q.sound q.no inner in
+    let f = store_lengths _ _ a.table.now pass in
+    let ok = check_rule _ _ a.table.now pass in
+    let bits = rw (q.sound.words, q.sound.slots) at c.in_ok-given.ensures.bits in (
+      record {
+        stands = pass;
+        lives = low;
+        slots = advance_slots b a.handle (sym no);
+        room = advance_room b a.handle (sym no);
+        marks = q.marks.copies;
+      },
+      record {
+        cells = record { each = turned_advances a.memory.now a.bodies.now a.table.now ok low _ bits.turned };
+        blocks = record {
+          kept = q.marks.kept;
+          room = omega (arith, c.store_check.auto.seen, c.entries_check.auto.bits, c.requires.blank.0);
+          front = bits.front;
+        };
+        ends = (c.requires.room.reached f.slots_low f.slots_high).0;
+        marked = q.marks.cells;
+        number = (rw (q.sound.words, q.sound.slots) at c.in_ok-given.ensures.given) ∙ given_count a.memory.now a.bodies.now a.table.now ok low;
+      },
+    )

@@ -17,5 +17,9 @@ overflow_add-top c =
     let f = store_lengths _ _ c.args.table.now ready.stands in
     omega (arith, told.ends.0, f.slots_high, told.number, ready.slots)
 
-pub store_few-requires : goal.store_few-requires
-store_few-requires c = record { ready = c.requires.ready; told = c.requires.told; sized = (c.requires.sized, c.if-top-given-le-FEW_SLOTS.true) }
+pub store_with-requires-else-top-given-le-FEW_SLOTS-clause-sized : goal.store_with-requires-else-top-given-le-FEW_SLOTS-clause-sized
+store_with-requires-else-top-given-le-FEW_SLOTS-clause-sized c =
+    let told = c.requires.told in
+    let f = store_lengths _ _ c.args.table.now c.requires.ready.0.stands in
+    let low = f.slots_high in
+    (c.requires.sized, omega (arith, told.ends.0), omega arith, omega (arith, told.ends.0), omega arith, omega arith, omega arith)

@@ -2,6 +2,7 @@ use Prim.Native.Nat.{ℕ, ◌+◌, ◌<◌, ◌^◌}
 use mathlib.Core.Path.{◌≡◌, refl, sym, ap, subst, ◌∙◌}
 use native.Mathlib.Omega.{arith}
 use lib.ListN.{get_or, length-set, set}
+use lib.Count.{ones}
 use Rattle.words.specs.Layout.{group_at}
 use Rattle.words.specs.Scan.{count}
 use Rattle.words.proofs.Nth.{count_mono}
@@ -13,7 +14,7 @@ use Rattle.advance.proofs.Blocks.{block_fits, blank_bits, count_more, ends_more}
 use Rattle.advance.proofs.count_groups.Goals as goal
 
 pub past_blank-g-requires : goal.past_blank-g-requires
-past_blank-g-requires c = (omega arith, c.requires.inside.0, omega (arith, c.requires.room.0.kept.room))
+past_blank-g-requires c = (omega arith, c.requires.inside.0)
 
 pub loop-g-init : goal.loop-g-init
 unfolding count
@@ -24,7 +25,7 @@ loop-g-init c = let a = c.args in
     (p.1, refl, count_empty x 0 _ p.0 none, ends_empty x 0 _ (by_group a.seen.now a.ends.now) none (ends_none x (by_group a.seen.now a.ends.now)))
 
 pub block_of-b-requires : goal.block_of-b-requires
-block_of-b-requires c = (omega (arith, c.loop-g-test.true, c.requires.inside.0), omega (arith, c.requires.room.0.kept.room))
+block_of-b-requires c = omega (arith, c.loop-g-test.true, c.requires.inside.0)
 
 pub bounds-bits-b : goal.bounds-bits-b
 bounds-bits-b c = let a = c.args in
@@ -37,7 +38,7 @@ overflow_add-n c = let a = c.args in
     let q = c.block_of-b.ensures.0 in
     let small : get_or a.bits.now (block_of a.seen.now s.g) 0 < 2 ^ 64 = omega (arith, rw q at (c.type_inv.bits c.block_of-b.result)) in
     let next = count_more a.seen.now a.bits.now c.requires.room.0 s.g l small in
-    omega (arith, next, rw q at c.wide-n.ensures, s.invariant.2, count_mono (is_set (by_group a.seen.now a.bits.now)) (group_at (s.g + 1)) 65536 (omega (arith, l)), c.requires.few)
+    rw q (omega (arith, next, s.invariant.2, count_mono (is_set (by_group a.seen.now a.bits.now)) (group_at (s.g + 1)) 65536 (omega (arith, l)), c.requires.few))
 
 pub overflow_cast-ends : goal.overflow_cast-ends
 overflow_cast-ends c = let a = c.args in
@@ -46,14 +47,14 @@ overflow_cast-ends c = let a = c.args in
     let q = c.block_of-b.ensures.0 in
     let small : get_or a.bits.now (block_of a.seen.now s.g) 0 < 2 ^ 64 = omega (arith, rw q at (c.type_inv.bits c.block_of-b.result)) in
     let next = count_more a.seen.now a.bits.now c.requires.room.0 s.g l small in
-    omega (arith, next, rw q at c.wide-n.ensures, s.invariant.2, count_mono (is_set (by_group a.seen.now a.bits.now)) (group_at (s.g + 1)) 65536 (omega (arith, l)), c.requires.few)
+    rw q (omega (arith, next, s.invariant.2, count_mono (is_set (by_group a.seen.now a.bits.now)) (group_at (s.g + 1)) 65536 (omega (arith, l)), c.requires.few))
 
 pub bounds-ends-b : goal.bounds-ends-b
 bounds-ends-b c = let a = c.args in
     omega (arith, block_fits a.seen.now c.requires.room.0.kept a.bits.now c.requires.room.0.room c.loop-g.g (omega (arith, c.loop-g-test.true, c.requires.inside.0)), c.block_of-b.ensures.0, c.loop-g.invariant.1, c.requires.room.1)
 
 pub past_blank-g-requires-in-loop-g : goal.past_blank-g-requires-in-loop-g
-past_blank-g-requires-in-loop-g c = (omega (arith, c.loop-g-test.true), c.requires.inside.0, omega (arith, c.requires.room.0.kept.room))
+past_blank-g-requires-in-loop-g c = (omega (arith, c.loop-g-test.true), c.requires.inside.0)
 
 pub loop-g-smaller : goal.loop-g-smaller
 loop-g-smaller c = omega (arith, c.past_blank-g-in-loop-g.ensures.0, c.loop-g-test.true)
@@ -67,14 +68,15 @@ loop-g-preserved c = let a = c.args in
     let q = c.block_of-b.ensures.0 in
     let small : get_or a.bits.now (block_of a.seen.now s.g) 0 < 2 ^ 64 = omega (arith, rw q at (c.type_inv.bits c.block_of-b.result)) in
     let next = count_more a.seen.now a.bits.now c.requires.room.0 s.g l small in
-    let now : s.n + c.wide-n.result ≡ count (group_at (s.g + 1)) (is_set x) = omega (arith, next, rw q at c.wide-n.ensures, s.invariant.2) in
+    let here : ℕ = ones (get_or a.bits.now c.block_of-b.result 0) in
+    let now : s.n + here ≡ count (group_at (s.g + 1)) (is_set x) = rw q (omega (arith, next, s.invariant.2)) in
     let none = blank_bits a.seen.now a.bits.now c.requires.room.0 (s.g + 1) _ (omega (arith, p.1, c.requires.inside.0)) p.2 in
     let fits = block_fits a.seen.now c.requires.room.0.kept a.bits.now c.requires.room.0.room s.g l in
-    let noted = ends_more a.seen.now a.bits.now c.requires.room.0 s.g (s.n + c.wide-n.result) s.ends l (omega (arith, fits, s.invariant.1, c.requires.room.1)) now s.invariant.3 in (
+    let noted = ends_more a.seen.now a.bits.now c.requires.room.0 s.g (s.n + here) s.ends l (omega (arith, fits, s.invariant.1, c.requires.room.1)) now s.invariant.3 in (
       p.1,
       length-set s.ends _ _ ∙ s.invariant.1,
       now ∙ count_empty x (s.g + 1) _ p.0 none,
-      ends_empty x (s.g + 1) _ _ none (subst (λ (k : ℕ). Ends x (s.g + 1) (by_group a.seen.now (set s.ends k (s.n + c.wide-n.result)))) (sym q) noted),
+      ends_empty x (s.g + 1) _ _ none (subst (λ (k : ℕ). Ends x (s.g + 1) (by_group a.seen.now (set s.ends k (s.n + here)))) (sym q) noted),
     )
 
 pub returns : goal.returns

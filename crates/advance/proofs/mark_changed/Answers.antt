@@ -3,7 +3,6 @@ use mathlib.Core.Bool.{true}
 use mathlib.Core.List.{List}
 use mathlib.Core.Path.{◌≡◌, refl, ap, sym, subst, ◌∙◌}
 use native.Mathlib.Omega.{arith}
-use borrow.Author.Rules.{rules}
 use borrow.Author.Tests.{eqb-true}
 use lib.Dec.{eqb}
 use lib.ListN.{length, get_or}
@@ -22,69 +21,62 @@ use Rattle.advance.proofs.mark_changed.Goals as goal
 
 pub loop-i-init : goal.loop-i-init
 unfolding count
-loop-i-init c =
+loop-i-init g c =
     let a = c.args in
-    (search rules, search rules, turned_none a.slots a.table.now (entry_changed a.memory.now a.bodies.now a.slots a.table.now a.live) (by_group a.seen.now a.bits.now) (by_blank a.seen.now a.bits.now c.requires.blank.1), c.requires.blank.1 0, refl)
+    (refl, turned_none a.table.now.entries.slots a.table.now.entries.words.now (entry_changed a.memory.now a.bodies.now a.table.now.entries.slots a.table.now.entries.words.now a.live) (by_group a.seen.now a.bits.now) (by_blank a.seen.now a.bits.now c.requires.blank.1), c.requires.blank.1 0, refl)
 
 pub entry_changed-goes-requires : goal.entry_changed-goes-requires
-entry_changed-goes-requires c =
+entry_changed-goes-requires g c =
     let p = c.requires.comparable in
-    let inside : c.loop-i.i < c.args.slots = omega (arith, p.ends.0, c.loop-i-test.true) in
-    record { sizes = (inside, p.slots, p.words, p.ends, p.low); rule = p.right }
+    (omega arith, ((omega (arith, p.ends.0), p.low), p.right))
 
 pub overflow_add-n : goal.overflow_add-n
-overflow_add-n c =
+overflow_add-n g c =
     let a = c.args in
-    omega (arith, count_le c.loop-i.i (entry_changed a.memory.now a.bodies.now a.slots a.table.now a.live), byte_small c.entry_changed-goes.result, c.loop-i.invariant.4, c.loop-i.invariant.0, c.requires.comparable.ends.0, c.requires.comparable.slots)
-
-pub first_word-requires : goal.first_word-requires
-first_word-requires c =
-    let p = c.requires.comparable in
-    (omega (arith, p.ends.0, c.loop-i-test.true), p.slots, p.words)
+    omega (arith, count_le c.loop-i.i (entry_changed a.memory.now a.bodies.now a.table.now.entries.slots a.table.now.entries.words.now a.live), byte_small c.entry_changed-goes.result, c.loop-i.invariant.3, c.requires.comparable.ends.0, c.requires.comparable.slots)
 
 pub mark_turning-requires : goal.mark_turning-requires
-mark_turning-requires c =
+mark_turning-requires g c =
     let a = c.args in
     let p = c.requires.comparable in
     let s = c.loop-i in
-    let room : length a.seen.now ≤ block_at (length s.bits) = omega (arith, s.invariant.1, c.requires.blank.0) in
+    let room : length a.seen.now ≤ block_at (length s.bits) = omega (arith, s.invariant.0, c.requires.blank.0) in
     (omega (arith, p.kept.room), block_fits a.seen.now p.kept s.bits room (group_of (cell_of c.first_word.result)) (omega arith))
 
 pub loop-i-preserved : goal.loop-i-preserved
-loop-i-preserved c =
+loop-i-preserved g c =
     let a = c.args in
     let p = c.requires.comparable in
     let s = c.loop-i in
     let word = c.first_word.ensures in
-    let w = word1 a.slots a.table.now s.i in
-    let goes = entry_changed a.memory.now a.bodies.now a.slots a.table.now a.live in
-    let inside : s.i < a.slots = omega (arith, p.ends.0, c.loop-i-test.true) in
-    let room : length a.seen.now ≤ block_at (length s.bits) = omega (arith, s.invariant.1, c.requires.blank.0) in
+    let w = word1 a.table.now.entries.slots a.table.now.entries.words.now s.i in
+    let goes = entry_changed a.memory.now a.bodies.now a.table.now.entries.slots a.table.now.entries.words.now a.live in
+    let inside : s.i < a.table.now.entries.slots = omega (arith, p.ends.0) in
+    let room : length a.seen.now ≤ block_at (length s.bits) = omega (arith, s.invariant.0, c.requires.blank.0) in
     let fits = block_fits a.seen.now p.kept s.bits room (group_of (cell_of w)) (omega arith) in
     let own : goes s.i ≡ true → 1 ≤ block_of a.seen.now (group_of (cell_of w)) =
     λ z.
-    turning_own a.seen.now p.kept a.slots a.table.now p.marked a.live s.i p.low inside
+    turning_own a.seen.now p.kept a.table.now.entries.slots a.table.now.entries.words.now p.marked a.live s.i p.low inside
     (eqb-true _ _ (and_split (eqb (depth_of w) a.live) (eqb (writable_of w) 1) (and_split (writes a.live w) _ z).0).0) in
     let q = c.mark_turning.ensures ∙ (λ j. mark_turning (c.entry_changed-goes.ensures j) (word j) (block_of a.seen.now (group_of (cell_of (word j)))) s.bits) in
     let all-bits = ap (by_group a.seen.now) q ∙ by_turning a.seen.now p.kept (goes s.i) w s.bits own fits in (
-      search rules,
-      c.mark_turning.auto.bits ∙ s.invariant.1,
-      subst (TurnedBits a.slots a.table.now goes (s.i + 1)) (sym all-bits)
-          (turned_more a.slots a.table.now goes s.i (by_group a.seen.now s.bits) (omega (arith, by_length a.seen.now s.bits)) s.invariant.2),
-      ap (λ (l : List ℕ). get_or l 0 0) q ∙ front_turning a.seen.now p.kept (goes s.i) w s.bits own s.invariant.3,
-      count_byte goes s.i s.n s.invariant.4 _ c.entry_changed-goes.ensures,
+      c.mark_turning.auto.bits ∙ s.invariant.0,
+      subst (TurnedBits a.table.now.entries.slots a.table.now.entries.words.now goes (s.i + 1)) (sym all-bits)
+          (turned_more a.table.now.entries.slots a.table.now.entries.words.now goes s.i (by_group a.seen.now s.bits) (omega (arith, by_length a.seen.now s.bits)) s.invariant.1),
+      ap (λ (l : List ℕ). get_or l 0 0) q ∙ front_turning a.seen.now p.kept (goes s.i) w s.bits own s.invariant.2,
+      count_byte goes s.i s.n s.invariant.3 _ c.entry_changed-goes.ensures,
     )
 
 pub returns : goal.returns
-returns c =
+returns g c =
     let a = c.args in
     let s = c.loop-i in
     let ends = c.requires.comparable.ends in
-    let goes = entry_changed a.memory.now a.bodies.now a.slots a.table.now a.live in
-    let last : s.i ≡ a.top = omega (arith, s.invariant.0, c.loop-i-test.false) in record {
-      counted = s.invariant.4 ∙ ap (λ (n : ℕ). count n goes) last ∙ advancing_front a.slots a.table.now a.top ends.0 ends.1 a.memory.now a.bodies.now a.live;
+    let goes = entry_changed a.memory.now a.bodies.now a.table.now.entries.slots a.table.now.entries.words.now a.live in
+    let last : s.i ≡ a.table.now.entries.top = omega arith in record {
+      counted = s.invariant.3 ∙ ap (λ (n : ℕ). count n goes) last ∙ advancing_front a.table.now.entries.slots a.table.now.entries.words.now a.table.now.entries.top ends.0 ends.1 a.memory.now a.bodies.now a.live;
       bits = record {
-        turned = turned_front a.slots a.table.now a.top ends.0 ends.1 a.memory.now a.bodies.now a.live _ (subst (λ (n : ℕ). TurnedBits a.slots a.table.now goes n (by_group a.seen.now s.bits)) last s.invariant.2);
-        front = s.invariant.3;
+        turned = turned_front a.table.now.entries.slots a.table.now.entries.words.now a.table.now.entries.top ends.0 ends.1 a.memory.now a.bodies.now a.live _ (subst (λ (n : ℕ). TurnedBits a.table.now.entries.slots a.table.now.entries.words.now goes n (by_group a.seen.now s.bits)) last s.invariant.1);
+        front = s.invariant.2;
       };
     }

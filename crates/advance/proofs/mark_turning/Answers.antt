@@ -7,7 +7,7 @@ use Rattle.marks.specs.Blocks.{block_of}
 use Rattle.advance.proofs.mark_turning.Goals as goal
 
 pub block_of-b-requires : goal.block_of-b-requires
-block_of-b-requires c = (omega (arith, c.group_of.ensures, c.cell_of-cell.ensures), c.requires.0)
+block_of-b-requires c = omega (arith, c.group_of.ensures, c.cell_of-cell.ensures)
 
 pub bounds-bits-b : goal.bounds-bits-b
 bounds-bits-b c = omega (arith, c.requires.1, c.block_of-b.ensures.0, ap (λ (x : ℕ). block_of c.args.seen.now (group_of x)) c.cell_of-cell.ensures, ap (block_of c.args.seen.now) c.group_of.ensures)

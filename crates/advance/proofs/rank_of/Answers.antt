@@ -11,7 +11,7 @@ use Rattle.advance.proofs.Blocks.{bit_cell, block_fits, rank_noted}
 use Rattle.advance.proofs.rank_of.Goals as goal
 
 pub block_of-b-requires : goal.block_of-b-requires
-block_of-b-requires c = (omega (arith, c.group_of.ensures, bit_cell c.args.seen.now c.args.bits.now c.args.cell c.requires.here), omega (arith, c.requires.sized.0.kept.room))
+block_of-b-requires c = omega (arith, c.group_of.ensures, bit_cell c.args.seen.now c.args.bits.now c.args.cell c.requires.here)
 
 pub bounds-ends-b : goal.bounds-ends-b
 bounds-ends-b c = let a = c.args in
@@ -30,14 +30,12 @@ pub overflow_sub-result : goal.overflow_sub-result
 overflow_sub-result c = let a = c.args in
     let q : c.block_of-b.result ≡ block_of a.seen.now (group_of a.cell) = c.block_of-b.ensures.0 ∙ ap (block_of a.seen.now) c.group_of.ensures in
     let small : get_or a.bits.now (block_of a.seen.now (group_of a.cell)) 0 < 2 ^ 64 = omega (arith, rw q at (c.type_inv.bits c.block_of-b.result)) in
-    let from = rw q at c.wide.ensures in
-    rw q (omega (arith, from, rank_noted a.seen.now a.bits.now c.requires.sized.0 a.ends.now a.cell small c.requires.noted c.requires.here))
+    rw q (omega (arith, rank_noted a.seen.now a.bits.now c.requires.sized.0 a.ends.now a.cell small c.requires.noted c.requires.here))
 
 pub returns : goal.returns
 returns c = let a = c.args in
     let q : c.block_of-b.result ≡ block_of a.seen.now (group_of a.cell) = c.block_of-b.ensures.0 ∙ ap (block_of a.seen.now) c.group_of.ensures in
     let small : get_or a.bits.now (block_of a.seen.now (group_of a.cell)) 0 < 2 ^ 64 = omega (arith, rw q at (c.type_inv.bits c.block_of-b.result)) in
-    let from = rw q at c.wide.ensures in
     let rank = rank_noted a.seen.now a.bits.now c.requires.sized.0 a.ends.now a.cell small c.requires.noted c.requires.here in
     let fits = rank_fits (by_group a.seen.now a.bits.now) 65536 a.cell (bit_cell a.seen.now a.bits.now a.cell c.requires.here) c.requires.here in
-    rw q (omega (arith, from, rank), omega (arith, from, rank, fits))
+    rw q (omega (arith, rank), omega (arith, rank, fits))

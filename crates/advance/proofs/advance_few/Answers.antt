@@ -1,8 +1,0 @@
--- `advance::advance_few` meets its contract. Assumes nothing.
-use borrow.Author.Rules.{rules}
-use Rattle.marks.proofs.Blocks.{blank_zeros}
-use Rattle.table.proofs.Marks.{room_few}
-use Rattle.advance.proofs.advance_few.Goals as goal
-
-pub advance_asked-requires : goal.advance_asked-requires
-advance_asked-requires c = record { room = rw (c.few_marks-seen.ensures, c.no_bodies-used.ensures) (room_few _ _ _ c.requires.1 c.requires.0); blank = (search rules, rw c.few_block_bits-bits.ensures (blank_zeros 65)); sized = search rules }
