@@ -7,20 +7,22 @@ ghost use Rattle.words.specs.Layout.{slots_of, table_words, max_slots, max_live,
 ghost use Rattle.words.specs.Stores.{stores, tab};
 ghost use Rattle.table.specs.Entry.{handle};
 ghost use Rattle.changes.specs.Staged.{HeadOk, head_stores, Journaled};
-ghost use Rattle.store.specs.Outcome.{buffers, report, Makes};
+ghost use Rattle.store.specs.Outcome.{buffers, Makes};
+ghost use Rattle.store.specs.Answer.{number_in, report, listing};
 ghost use Rattle.store.specs.Checks.{create_check, lent};
 ghost use Rattle.store.specs.Calls.{fresh_word, make_plan, make_call, open_call, domain_words, create_words, create_call};
-ghost use Rattle.store.specs.Means.{make_means, open_means, create_means, listing, list_means, Shows};
+ghost use Rattle.store.specs.Means.{make_means, open_means, create_means, list_means, Shows};
 
 use changes::{Head, no_head, with_word, write_head_words};
 use std::array;
-use store::{Answer, Listing, answer_of, open_check, plain_check};
+use store::answers::{Answer, Ended, Listing, Refusal};
+use store::questions::{answer_of, asked, open_check, plain_check};
 use table::lengths_ok;
+use words::apply_pending;
 use words::layout::{
     BODIES_AT, CELLS_AT, LIVE_AT, MAGIC, MAGIC_AT, MAX_LIVE, NEXT_AT, PENDING_AT, SLOTS_AT,
     bodies_of, cells_of, handle_at, pairs_at, slots_of,
 };
-use words::{apply_pending, wide};
 
 // ---- make
 
@@ -58,6 +60,7 @@ fn make_words(table: &mut [u32], cells: u32, slots: u32, bodies: u32, budget: us
 }
 
 // Makes a fresh store: no domains, next handle 1, no entries.
+#[tactic(auto, using(table::proofs::Checks::lengths_facts))]
 pub fn make(memory: &[u8], bodies: &[u8], table: &mut [u32], budget: usize) -> Answer
     ensures made { Makes make_call budget (buffers memory.now bodies.now table.old)
         (report result) (buffers memory.now bodies.now table.new) }
@@ -65,7 +68,7 @@ pub fn make(memory: &[u8], bodies: &[u8], table: &mut [u32], budget: usize) -> A
         (report result) (buffers memory.now bodies.now table.new) }
 {
     if !lengths_ok(memory.len(), bodies.len(), table.len()) {
-        return Answer::Refused(1);
+        return Err(Refusal::Lengths);
     }
     let cells = cells_of(memory.len()) as u32;
     let places = bodies_of(bodies.len()) as u32;
@@ -77,22 +80,20 @@ pub fn make(memory: &[u8], bodies: &[u8], table: &mut [u32], budget: usize) -> A
 // ---- open
 
 // Puts the pending pairs in place.
+#[tactic(auto, using(store::proofs::Checks::open_lengths))]
 pub fn open(memory: &[u8], bodies: &[u8], table: &mut [u32], budget: usize) -> Answer
     ensures made { Makes open_call budget (buffers memory.now bodies.now table.old)
         (report result) (buffers memory.now bodies.now table.new) }
     ensures means { Shows open_means budget (buffers memory.now bodies.now table.old)
         (report result) (buffers memory.now bodies.now table.new) }
 {
-    let no = open_check(memory.len(), bodies.len(), table);
-    if no != 0 {
-        return Answer::Refused(no);
-    }
-    let p = wide(table[PENDING_AT]);
+    open_check(memory.len(), bodies.len(), table)?;
+    let p = table[PENDING_AT] as usize;
     if p == 0 {
-        return Answer::Done {
+        return Ok(Ended::Done {
             steps: 0,
             handle: 0,
-        };
+        });
     }
     apply_pending(table, pairs_at(slots_of(table.len())), p, budget);
     answer_of(p + 1, 0, budget)
@@ -101,20 +102,13 @@ pub fn open(memory: &[u8], bodies: &[u8], table: &mut [u32], budget: usize) -> A
 // ---- create
 
 // The questions put to create.
-fn create_check(memory: usize, bodies: usize, table: &[u32]) -> u32
-    ensures { result ≡ create_check (lent memory bodies table.now) }
+#[tactic(auto, using(store::proofs::Refused::asking, store::proofs::Checks::store_lengths), unfolding(store::specs::Checks::create_check))]
+fn create_check(memory: usize, bodies: usize, table: &[u32]) -> Result<(), Refusal>
+    ensures { number_in result ≡ create_check (lent memory bodies table.now) }
 {
-    let no = plain_check(memory, bodies, table);
-    if no != 0 {
-        return no;
-    }
-    if table[LIVE_AT] >= MAX_LIVE {
-        return 9;
-    }
-    if table[NEXT_AT] >= 4294967295 {
-        return 10;
-    }
-    0
+    plain_check(memory, bodies, table)?;
+    asked(table[LIVE_AT] < MAX_LIVE, Refusal::TooManyDomains)?;
+    asked(table[NEXT_AT] < u32::MAX, Refusal::NoHandleLeft)
 }
 
 // The words of create: the number of live domains, the next handle, and the new domain's handle.
@@ -140,16 +134,14 @@ fn create_words(table: &mut [u32], budget: usize) -> usize
 }
 
 // Adds a domain inside the innermost, and names its handle.
+#[tactic(auto, using(store::proofs::Checks::create_lengths, store::proofs::Checks::create_live, store::proofs::Checks::create_next))]
 pub fn create(memory: &[u8], bodies: &[u8], table: &mut [u32], budget: usize) -> Answer
     ensures made { Makes create_call budget (buffers memory.now bodies.now table.old)
         (report result) (buffers memory.now bodies.now table.new) }
     ensures means { Shows create_means budget (buffers memory.now bodies.now table.old)
         (report result) (buffers memory.now bodies.now table.new) }
 {
-    let no = create_check(memory.len(), bodies.len(), table);
-    if no != 0 {
-        return Answer::Refused(no);
-    }
+    create_check(memory.len(), bodies.len(), table)?;
     let handle = table[NEXT_AT];
     let need = create_words(table, budget);
     answer_of(need, handle, budget)
@@ -166,24 +158,13 @@ fn read_handles(table: &[u32]) -> [u32; 8]
 }
 
 // Gives the number of live domains and their handles.
-pub fn list(memory: &[u8], bodies: &[u8], table: &[u32]) -> Listing
+#[tactic(auto, using(store::proofs::Checks::store_lengths))]
+pub fn list(memory: &[u8], bodies: &[u8], table: &[u32]) -> Result<Listing, Refusal>
     ensures { listing result ≡ list_means (buffers memory.now bodies.now table.now) }
 {
-    let no = plain_check(memory.len(), bodies.len(), table);
-    if no != 0 {
-        return Listing {
-            answer: Answer::Refused(no),
-            count: 0,
-            handles: [0u32; 8],
-        };
-    }
-    let handles = read_handles(table);
-    Listing {
-        answer: Answer::Done {
-            steps: 0,
-            handle: 0,
-        },
+    plain_check(memory.len(), bodies.len(), table)?;
+    Ok(Listing {
         count: table[LIVE_AT],
-        handles,
-    }
+        handles: read_handles(table),
+    })
 }

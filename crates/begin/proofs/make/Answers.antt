@@ -1,8 +1,6 @@
 -- `begin::make` meets its contract. Assumes nothing.
 use mathlib.Core.Path.{sym, ap, ◌∙◌}
-use native.Mathlib.Omega.{arith}
 use borrow.Author.Tests.{not-true, not-false}
-use Rattle.table.proofs.Checks.{lengths_facts}
 use Rattle.store.proofs.Means.{visible_of, make_means_lem, make_refused, make_performed}
 use Rattle.begin.proofs.make.Goals as goal
 
@@ -10,31 +8,6 @@ pub returns-then-not-lengths_ok : goal.returns-then-not-lengths_ok
 returns-then-not-lengths_ok c =
     let e = make_refused _ _ _ c.args.budget (sym c.lengths_ok.ensures ∙ not-true _ c.if-not-lengths_ok.true-raw) in
     record { made = e; means = ap visible_of e ∙ make_means_lem _ _ }
-
-pub overflow_cast-cells : goal.overflow_cast-cells
-overflow_cast-cells c =
-    let f = lengths_facts _ _ _ (sym c.lengths_ok.ensures ∙ not-false _ c.if-not-lengths_ok.false-raw) in
-    omega (arith, c.cells_of-cells.ensures)
-
-pub overflow_cast-places : goal.overflow_cast-places
-overflow_cast-places c =
-    let f = lengths_facts _ _ _ (sym c.lengths_ok.ensures ∙ not-false _ c.if-not-lengths_ok.false-raw) in
-    omega (arith, c.bodies_of-places.ensures)
-
-pub overflow_cast-slots : goal.overflow_cast-slots
-overflow_cast-slots c =
-    let f = lengths_facts _ _ _ (sym c.lengths_ok.ensures ∙ not-false _ c.if-not-lengths_ok.false-raw) in
-    omega (arith, c.slots_of-slots.ensures)
-
-pub make_words-requires : goal.make_words-requires
-make_words-requires c =
-    let f = lengths_facts _ _ _ (sym c.lengths_ok.ensures ∙ not-false _ c.if-not-lengths_ok.false-raw) in
-    (omega (arith, c.slots_of-slots.ensures), omega (arith, c.slots_of-slots.ensures))
-
-pub pairs_at-requires : goal.pairs_at-requires
-pairs_at-requires c =
-    let f = lengths_facts _ _ _ (sym c.lengths_ok.ensures ∙ not-false _ c.if-not-lengths_ok.false-raw) in
-    omega (arith, c.slots_of-slots.ensures)
 
 pub returns : goal.returns
 returns c =
