@@ -1,13 +1,14 @@
--- What is lent to the questions, and what they hand out: a table to search in.
+-- What passed questions hand out: a table to search in.
 use Rattle.std.specs.Prelude.{ℕ, List, ◌≡◌, length}
 use Rattle.words.specs.Layout.{slots_of}
 use Rattle.table.specs.declared.lent.Sound.{Sound}
-use Rattle.store.specs.declared.lent.Lent.{Lent}
-use Rattle.store.specs.Checks as checks
-use Rattle.store.specs.Checks.{lent}
+use Rattle.store.specs.Checks.{store_check, lent}
 
-abbrev pub lent_by : Lent → checks.Lent
-lent_by l = lent l.memory l.bodies l.table.now
+-- questions 1 to 4 let a table pass, beside memory and bodies of some lengths
+pub record Passes (t : List ℕ) : Type 0 where
+  pub memory : ℕ
+  pub bodies : ℕ
+  pub yes : store_check (lent memory bodies t) ≡ 0
 
 -- `s` is the table of these words, whose entries from `top` on are free
 pub record SoundOf (t : List ℕ) (top : ℕ) (s : Sound) : Type 0 where

@@ -1,7 +1,7 @@
 // The calls of the domain store, over three lent buffers: memory, bodies and table.
 //
 // Every call may be given any buffers and any numbers. It puts document 01's questions first, in one function that only reads, and
-// is refused by the first that is answered no. A changing call takes a budget of steps; it makes as many of its stores as the budget
+// refuses with the number of the first no. A changing call takes a budget of steps; it makes as many of its stores as the budget
 // allows, and whether it was done or stopped is decided once, at the end.
 #![tactic(auto)]
 
@@ -16,11 +16,9 @@ ghost use Rattle.store.specs.Answer.{number_in};
 ghost use Rattle.store.specs.Checks.{open_check, store_check, ask_innermost_in, lent};
 
 pub mod answers;
-pub mod lent;
 pub mod questions;
 
 use answers::{Ended, Refusal};
-use lent::Lent;
 
 // old form: goes when its callers have gone over
 // What a call answers: the number of the question that refused it; or done, with its steps and, from create, the new handle; or stopped
@@ -66,13 +64,7 @@ pub fn store_check(
     ensures no { result ≡ store_check (lent memory bodies table.now) }
     ensures marks { result ≡ 0 → AllMarked (slots_of (length table.now)) table.now seen.new used.new }
 {
-    let lent = Lent {
-        memory,
-        bodies,
-        table,
-        top,
-    };
-    match lent.store_check(seen, used) {
+    match questions::store_check(memory, bodies, table, top, seen, used) {
         Ok(_) => 0,
         Err(why) => why.number(),
     }
@@ -97,13 +89,7 @@ pub fn reached_check(memory: usize, bodies: usize, table: &[u32], top: usize) ->
     requires { Reached table.now top }
     ensures { result ≡ store_check (lent memory bodies table.now) }
 {
-    let lent = Lent {
-        memory,
-        bodies,
-        table,
-        top,
-    };
-    match lent.reached_check() {
+    match questions::reached_check(memory, bodies, table, top) {
         Ok(_) => 0,
         Err(why) => why.number(),
     }

@@ -4,16 +4,15 @@ ghost use Rattle.words.specs.Layout.{cells_of, slots_of, max_live, handle_at};
 ghost use Rattle.words.specs.Journal.{pending};
 ghost use Rattle.table.specs.Entry.{live};
 ghost use Rattle.marks.specs.Blocks.{block_at, max_groups, groups_for};
-ghost use Rattle.table.specs.Marks.{RoomForMarks, AllMarked};
+ghost use Rattle.table.specs.Marks.{Reached, RoomForMarks, AllMarked};
 ghost use Rattle.search.specs.Domain.{depth_named};
 ghost use Rattle.model.specs.Answer.{ask, ended};
 ghost use Rattle.model.specs.Holdings.{ask_range};
 ghost use Rattle.store.specs.Answer.{question, number_in, report};
 ghost use Rattle.store.specs.Checks.{shape_check, idle_check, table_check, open_check, store_check, ask_live_in, ask_innermost_in, lent};
-ghost use Rattle.store.specs.Lent.{lent_by, SoundOf};
+ghost use Rattle.store.specs.Lent.{Passes, SoundOf};
 
 use crate::answers::{Answer, Ended, Refusal};
-use crate::lent::Lent;
 use marks::{FEW_BLOCKS, SOME_BLOCKS, blocks_wanted};
 use search::find_domain;
 use table::lent::{Entries, Sound};
@@ -30,6 +29,52 @@ pub fn asked(yes: bool, why: Refusal) -> Result<(), Refusal>
 
 // ---- questions 1 to 4
 
+// Questions 1 and 2.
+#[tactic(auto, using(crate::proofs::Refused::asking, table::proofs::Checks::lengths_facts), unfolding(crate::specs::Checks::shape_check))]
+fn shape_check(memory: usize, bodies: usize, table: &[u32]) -> Result<(), Refusal>
+    ensures { number_in result ≡ shape_check (lent memory bodies table.now) }
+{
+    asked(lengths_ok(memory, bodies, table.len()), Refusal::Lengths)?;
+    asked(header_ok(memory, bodies, table), Refusal::NoStore)
+}
+
+// Questions 1 to 3.
+#[tactic(auto, using(crate::proofs::Refused::asking, crate::proofs::Checks::shape_facts), unfolding(crate::specs::Checks::idle_check))]
+fn idle_check(memory: usize, bodies: usize, table: &[u32]) -> Result<(), Refusal>
+    ensures { number_in result ≡ idle_check (lent memory bodies table.now) }
+{
+    shape_check(memory, bodies, table)?;
+    asked(table[PENDING_AT] == 0, Refusal::Pending)
+}
+
+// Question 4, with room for marks. Where no pairs are pending, the marks of the table's entries are left there. Only pending pairs need a copy of the
+// table, so that a call which finds none has no room for it in its frame.
+#[tactic(auto, using(crate::proofs::Checks::shape_facts), unfolding(crate::specs::Checks::table_check))]
+fn table_marked(
+    memory: usize,
+    bodies: usize,
+    table: &[u32],
+    top: usize,
+    seen: &mut [u8],
+    used: &mut [u8],
+) -> Result<(), Refusal>
+    requires passed { shape_check (lent memory bodies table.now) ≡ 0 }
+    requires room { RoomForMarks table.now (cells_of memory) top seen.old used.old }
+    ensures no { number_in result ≡ table_check (lent memory bodies table.now) }
+    ensures marks { OnOk result (pending table.now ≡ 0 → AllMarked (slots_of (length table.now)) table.now seen.new used.new) }
+{
+    let cells = cells_of(memory);
+    let slots = slots_of(table.len());
+    let places = bodies_of(bodies);
+    if table[PENDING_AT] == 0 {
+        let right = idle_ok(table, cells, slots, top, places, seen, used);
+        asked(right, Refusal::Corrupt)
+    } else {
+        let right = table_ok(table, cells, slots, top, places, seen, used);
+        asked(right, Refusal::Corrupt)
+    }
+}
+
 // How many bytes the marks of few blocks take, of some more, and of any memory.
 const FEW_BYTES: usize = 6272;
 
@@ -37,145 +82,38 @@ const SOME_BYTES: usize = 18560;
 
 const MANY_BYTES: usize = 67712;
 
-impl<'a> Lent<'a> {
-    // What is lent, with the entries to pass counted.
-    pub fn of(memory: usize, bodies: usize, table: &'a [u32]) -> Self
-        ensures { (result.memory ≡ memory) × (result.bodies ≡ bodies) × (result.table.now ≡ table.now) }
-    {
-        Lent {
-            memory,
-            bodies,
-            table,
-            top: reach_of(table),
-        }
-    }
+// The same with marks of its own. They come first, in a function that is taken into no other, so that its large frame is made where it begins: behind
+// a question, the compiler made it over a register in use.
+#[inline(never)]
+fn table_with<const BYTES: usize>(
+    memory: usize,
+    bodies: usize,
+    table: &[u32],
+    top: usize,
+) -> Result<(), Refusal>
+    requires passed { shape_check (lent memory bodies table.now) ≡ 0 }
+    requires reached { Reached table.now top }
+    requires room { (BYTES ≤ block_at (max_groups + 1)) × (block_at (min top (groups_for (cells_of memory)) + 1) ≤ BYTES) }
+    ensures { number_in result ≡ table_check (lent memory bodies table.now) }
+{
+    let mut seen = [0u8; BYTES];
+    let mut used = [0u8; MAX_BODIES];
+    table_marked(memory, bodies, table, top, &mut seen, &mut used)
+}
 
-    // Questions 1 and 2.
-    #[tactic(auto, using(crate::proofs::Refused::asking, table::proofs::Checks::lengths_facts), unfolding(crate::specs::Checks::shape_check))]
-    fn shape_check(&self) -> Result<(), Refusal>
-        ensures { number_in result ≡ shape_check (lent_by self.now) }
-    {
-        asked(
-            lengths_ok(self.memory, self.bodies, self.table.len()),
-            Refusal::Lengths,
-        )?;
-        asked(
-            header_ok(self.memory, self.bodies, self.table),
-            Refusal::NoStore,
-        )
-    }
-
-    // Questions 1 to 3.
-    #[tactic(auto, using(crate::proofs::Refused::asking, crate::proofs::Checks::shape_facts), unfolding(crate::specs::Checks::idle_check))]
-    fn idle_check(&self) -> Result<(), Refusal>
-        ensures { number_in result ≡ idle_check (lent_by self.now) }
-    {
-        self.shape_check()?;
-        asked(self.table[PENDING_AT] == 0, Refusal::Pending)
-    }
-
-    // Question 4 of a table with pending pairs, of which a copy is made. It is taken into no other function, so that a call which finds none pending
-    // has no frame with room for the copy, and the frame is made where a function begins: behind a question, the compiler made it over a register in
-    // use.
-    #[inline(never)]
-    #[tactic(auto, using(crate::proofs::Checks::shape_facts), unfolding(crate::specs::Checks::table_check))]
-    fn pending_check(&self, seen: &mut [u8], used: &mut [u8]) -> Result<(), Refusal>
-        requires passed { shape_check (lent_by self.now) ≡ 0 }
-        requires room { RoomForMarks self.now.table.now (cells_of self.now.memory) self.now.top seen.old used.old }
-        ensures { number_in result ≡ table_check (lent_by self.now) }
-    {
-        let cells = cells_of(self.memory);
-        let slots = slots_of(self.table.len());
-        let places = bodies_of(self.bodies);
-        let right = table_ok(self.table, cells, slots, self.top, places, seen, used);
-        asked(right, Refusal::Corrupt)
-    }
-
-    // Question 4, with room for marks. Where no pairs are pending, the marks of the table's entries are left there.
-    #[tactic(auto, using(crate::proofs::Checks::shape_facts), unfolding(crate::specs::Checks::table_check))]
-    fn table_marked(&self, seen: &mut [u8], used: &mut [u8]) -> Result<(), Refusal>
-        requires passed { shape_check (lent_by self.now) ≡ 0 }
-        requires room { RoomForMarks self.now.table.now (cells_of self.now.memory) self.now.top seen.old used.old }
-        ensures no { number_in result ≡ table_check (lent_by self.now) }
-        ensures marks { OnOk result (pending self.now.table.now ≡ 0
-            → AllMarked (slots_of (length self.now.table.now)) self.now.table.now seen.new used.new) }
-    {
-        if self.table[PENDING_AT] != 0 {
-            return self.pending_check(seen, used);
-        }
-        let cells = cells_of(self.memory);
-        let slots = slots_of(self.table.len());
-        let places = bodies_of(self.bodies);
-        let right = idle_ok(self.table, cells, slots, self.top, places, seen, used);
-        asked(right, Refusal::Corrupt)
-    }
-
-    // The same with marks of its own. They come first, in a function that is taken into no other, for the same reason.
-    #[inline(never)]
-    fn table_with<const BYTES: usize>(&self) -> Result<(), Refusal>
-        requires passed { shape_check (lent_by self.now) ≡ 0 }
-        requires room { (BYTES ≤ block_at (max_groups + 1))
-            × (block_at (min self.now.top (groups_for (cells_of self.now.memory)) + 1) ≤ BYTES) }
-        ensures { number_in result ≡ table_check (lent_by self.now) }
-    {
-        let mut seen = [0u8; BYTES];
-        let mut used = [0u8; MAX_BODIES];
-        self.table_marked(&mut seen, &mut used)
-    }
-
-    // Question 4, with marks by how many entries there are to pass.
-    fn table_check(&self) -> Result<(), Refusal>
-        requires { shape_check (lent_by self.now) ≡ 0 }
-        ensures { number_in result ≡ table_check (lent_by self.now) }
-    {
-        let blocks = blocks_wanted(self.top, cells_of(self.memory));
-        if blocks <= FEW_BLOCKS {
-            self.table_with::<FEW_BYTES>()
-        } else if blocks <= SOME_BLOCKS {
-            self.table_with::<SOME_BYTES>()
-        } else {
-            self.table_with::<MANY_BYTES>()
-        }
-    }
-
-    // The questions put to every call but make and open, of a call that needs no marks but goes on with the table.
-    #[tactic(auto, using(crate::proofs::Refused::asking, crate::proofs::Checks::idle_facts, crate::proofs::Checks::store_parts))]
-    pub fn reached_check(&self) -> Result<Sound<'a>, Refusal>
-        ensures no { number_in result ≡ store_check (lent_by self.now) }
-        ensures sound { IfOk result (SoundOf self.now.table.now self.now.top) }
-    {
-        self.idle_check()?;
-        self.table_check()?;
-        Ok(self.sound())
-    }
-
-    // The same with room for marks. What is lent has, once no question refuses the call, the marks of the table's entries: the call goes on with
-    // these and makes none of its own.
-    #[tactic(auto, using(crate::proofs::Refused::asking, crate::proofs::Checks::idle_facts, crate::proofs::Checks::store_parts))]
-    pub fn store_check(&self, seen: &mut [u8], used: &mut [u8]) -> Result<Sound<'a>, Refusal>
-        requires { RoomForMarks self.now.table.now (cells_of self.now.memory) self.now.top seen.old used.old }
-        ensures no { number_in result ≡ store_check (lent_by self.now) }
-        ensures sound { IfOk result (SoundOf self.now.table.now self.now.top) }
-        ensures marks { OnOk result (AllMarked (slots_of (length self.now.table.now)) self.now.table.now seen.new used.new) }
-    {
-        self.idle_check()?;
-        self.table_marked(seen, used)?;
-        Ok(self.sound())
-    }
-
-    // A table that questions 1 to 4 let pass, to search in.
-    pub fn sound(&self) -> Sound<'a>
-        requires { store_check (lent_by self.now) ≡ 0 }
-        ensures { SoundOf self.now.table.now self.now.top result }
-    {
-        let slots = slots_of(self.table.len());
-        Sound {
-            entries: Entries {
-                words: self.table,
-                slots,
-                top: self.top,
-            },
-        }
+// Question 4, with marks by how many entries there are to pass.
+fn table_check(memory: usize, bodies: usize, table: &[u32], top: usize) -> Result<(), Refusal>
+    requires passed { shape_check (lent memory bodies table.now) ≡ 0 }
+    requires reached { Reached table.now top }
+    ensures { number_in result ≡ table_check (lent memory bodies table.now) }
+{
+    let blocks = blocks_wanted(top, cells_of(memory));
+    if blocks <= FEW_BLOCKS {
+        table_with::<FEW_BYTES>(memory, bodies, table, top)
+    } else if blocks <= SOME_BLOCKS {
+        table_with::<SOME_BYTES>(memory, bodies, table, top)
+    } else {
+        table_with::<MANY_BYTES>(memory, bodies, table, top)
     }
 }
 
@@ -184,18 +122,72 @@ impl<'a> Lent<'a> {
 pub fn open_check(memory: usize, bodies: usize, table: &[u32]) -> Result<(), Refusal>
     ensures { number_in result ≡ open_check (lent memory bodies table.now) }
 {
-    let lent = Lent::of(memory, bodies, table);
-    lent.shape_check()?;
-    lent.table_check()
+    shape_check(memory, bodies, table)?;
+    table_check(memory, bodies, table, reach_of(table))
 }
 
-// The questions put to every call but make and open, of a call that neither needs marks nor searches.
+// The questions put to every call but make and open, of a call that needs no marks. `top` is how many entries there are to pass. The call goes on with
+// the table.
+#[tactic(auto, using(crate::proofs::Refused::asking, crate::proofs::Checks::idle_facts, crate::proofs::Checks::store_parts))]
+pub fn reached_check<'a>(
+    memory: usize,
+    bodies: usize,
+    table: &'a [u32],
+    top: usize,
+) -> Result<Sound<'a>, Refusal>
+    requires { Reached table.now top }
+    ensures no { number_in result ≡ store_check (lent memory bodies table.now) }
+    ensures sound { IfOk result (SoundOf table.now top) }
+{
+    idle_check(memory, bodies, table)?;
+    table_check(memory, bodies, table, top)?;
+    Ok(sound_of(table, top))
+}
+
+// The same of a call that searches for nothing.
 #[tactic(auto, using(crate::proofs::Refused::asking))]
 pub fn plain_check(memory: usize, bodies: usize, table: &[u32]) -> Result<(), Refusal>
     ensures { number_in result ≡ store_check (lent memory bodies table.now) }
 {
-    Lent::of(memory, bodies, table).reached_check()?;
+    reached_check(memory, bodies, table, reach_of(table))?;
     Ok(())
+}
+
+// The same with room for marks. What is lent has, once no question refuses the call, the marks of the table's entries: the call goes on with these and
+// makes none of its own.
+#[tactic(auto, using(crate::proofs::Refused::asking, crate::proofs::Checks::idle_facts, crate::proofs::Checks::store_parts))]
+pub fn store_check<'a>(
+    memory: usize,
+    bodies: usize,
+    table: &'a [u32],
+    top: usize,
+    seen: &mut [u8],
+    used: &mut [u8],
+) -> Result<Sound<'a>, Refusal>
+    requires { RoomForMarks table.now (cells_of memory) top seen.old used.old }
+    ensures no { number_in result ≡ store_check (lent memory bodies table.now) }
+    ensures sound { IfOk result (SoundOf table.now top) }
+    ensures marks { OnOk result (AllMarked (slots_of (length table.now)) table.now seen.new used.new) }
+{
+    idle_check(memory, bodies, table)?;
+    table_marked(memory, bodies, table, top, seen, used)?;
+    Ok(sound_of(table, top))
+}
+
+// A table that questions 1 to 4 let pass, to search in.
+pub fn sound_of<'a>(table: &'a [u32], top: usize) -> Sound<'a>
+    requires passes { Passes table.now }
+    requires reached { Reached table.now top }
+    ensures { SoundOf table.now top result }
+{
+    let slots = slots_of(table.len());
+    Sound {
+        entries: Entries {
+            words: table,
+            slots,
+            top,
+        },
+    }
 }
 
 // ---- the questions behind these
