@@ -181,7 +181,8 @@ impl<'a> Asking<'a> {
         requires backed { all_backed self.now part.now ≡ true }
         ensures { number_in result ≡ same_number self.now part.now }
     {
-        let notes = Notes::<N>::of(&self.table.entries);
+        let mut notes = Notes::<N>::none();
+        notes.note(&self.table.entries);
         self.values_check(part, &notes)
     }
 

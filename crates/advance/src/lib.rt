@@ -91,7 +91,8 @@ fn mark_changed<const N: usize>(
     ensures counted { result ≡ count table.now.entries.slots (entry_changed memory.now bodies.now table.now.entries.slots table.now.entries.words.now live) }
     ensures bits { ChangedBits memory.now bodies.now table.now.entries.slots table.now.entries.words.now live seen.now bits.new }
 {
-    let notes = Notes::<N>::of(&table.entries);
+    let mut notes = Notes::<N>::none();
+    notes.note(&table.entries);
     let mut n: usize = 0;
     for i in 0..table.entries.top {
         let goes = entry_changed(memory, bodies, table, live, i, &notes);

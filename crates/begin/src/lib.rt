@@ -6,14 +6,16 @@ ghost use Rattle.std.specs.Prelude.{◌≡◌, ◌≤◌, ◌<◌, length, take,
 ghost use Rattle.words.specs.Layout.{slots_of, table_words, max_slots, max_live, handle_at};
 ghost use Rattle.words.specs.Stores.{stores, tab};
 ghost use Rattle.table.specs.Entry.{handle};
-ghost use Rattle.changes.specs.Staged.{HeadOk, head_stores, Journaled};
+ghost use Rattle.changes.specs.Staged.{Journaled};
+ghost use Rattle.changes.specs.Head.{head_stores};
 ghost use Rattle.store.specs.Outcome.{buffers, Makes};
 ghost use Rattle.store.specs.Answer.{number_in, report, listing};
 ghost use Rattle.store.specs.Checks.{create_check, lent};
 ghost use Rattle.store.specs.Calls.{fresh_word, make_plan, make_call, open_call, domain_words, create_words, create_call};
 ghost use Rattle.store.specs.Means.{make_means, open_means, create_means, list_means, Shows};
 
-use changes::{Head, no_head, with_word, write_head_words};
+use changes::head_words::Head;
+use changes::writer::write_head_words;
 use std::array;
 use store::answers::{Answer, Ended, Listing, Refusal};
 use store::questions::{answer_of, asked, open_check, plain_check};
@@ -114,12 +116,12 @@ fn create_check(memory: usize, bodies: usize, table: &[u32]) -> Result<(), Refus
 // The words of create: the number of live domains, the next handle, and the new domain's handle.
 fn create_head(live: u32, handle: u32) -> Head
     requires { (live < max_live) × (handle < 4294967295) }
-    ensures right { HeadOk result }
-    ensures stored { head_stores result ≡ domain_words live handle }
+    ensures { head_stores result ≡ domain_words live handle }
 {
-    let one = with_word(no_head(), LIVE_AT as u32, live + 1);
-    let two = with_word(one, NEXT_AT as u32, handle + 1);
-    with_word(two, handle_at(live as usize) as u32, handle)
+    Head::none()
+        .with(LIVE_AT, live + 1)
+        .with(NEXT_AT, handle + 1)
+        .with(handle_at(live as usize), handle)
 }
 
 // Create's part on the table. Returns its steps uncut.
@@ -130,7 +132,7 @@ fn create_words(table: &mut [u32], budget: usize) -> usize
 {
     let head = create_head(table[LIVE_AT], table[NEXT_AT]);
     let slots = slots_of(table.len());
-    write_head_words(table, slots, head, budget)
+    write_head_words(table, slots, &head, budget)
 }
 
 // Adds a domain inside the innermost, and names its handle.

@@ -9,26 +9,15 @@ use lib.ListN.{length, get_or, set}
 use lib.Seq.{get_or-set_same, get_or-set_other}
 use Rattle.words.proofs.Scan.{by_bool}
 use Rattle.words.proofs.Plans.{tab_below}
-use Rattle.ranges.specs.declared.Range.{Range}
-use Rattle.ranges.specs.declared.Batch.{Batch}
-use Rattle.ranges.specs.Batch.{no_batch, gathered, batch_ranges}
 use Rattle.model.specs.Answer.{Report}
 use Rattle.model.specs.Calls.{Listed}
 use Rattle.store.specs.Outcome.{Buffers, Call, Outcome, outcome, leaves}
-use Rattle.add.specs.Add.{add_call}
-use Rattle.add.proofs.Lists.{same_call}
 use Rattle.look.specs.Look.{Placed, Refused, Memory, Bodies, Rule, PlaceWithin}
 use Rattle.look.proofs.Placing.{memory_within, bodies_within}
 use Rattle.domain_store.specs.Boundary.{number_of, returned, returned_by, Returns, eight, listed_in_c, listed_by, looked_in_c, looked_by, OffsetWithin}
 
 pub told : (n s : ℕ) (r : Report) (b : Buffers) (o : Outcome) → n ≡ number_of r.status r.refusal → s ≡ r.steps → leaves r b ≡ o → returned n s b ≡ returned_by o
 told n s r b o e f g = (λ i. returned (e i) (f i) b) ∙ ap returned_by g
-
--- what is told over the batch d, which is that of the list rs, holds over rs
-pub told_over : (h k : ℕ) (rs : List Range) (d : Batch) → d ≡ gathered no_batch rs → (before after : Buffers) (n s : ℕ)
-    → Returns (add_call h (batch_ranges d)) k before n s after → Returns (add_call h rs) k before n s after
-told_over h k rs d e before after n s t =
-    t ∙ ap (λ (x : Batch). returned_by (outcome (add_call h (batch_ranges x) before) k before)) e ∙ ap (λ (c : Call). returned_by (outcome c k before)) (same_call h rs before)
 
 -- the handle that create names
 pub named : (h : ℕ) (r : Report) (b : Buffers) (o : Outcome) → h ≡ r.handle → leaves r b ≡ o → h ≡ o.report.handle

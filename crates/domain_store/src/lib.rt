@@ -4,7 +4,6 @@
 
 ghost use Rattle.std.specs.Prelude.{◌≡◌, length};
 ghost use Rattle.ranges.specs.Ranges.{one_range};
-ghost use Rattle.ranges.specs.Batch.{batch_ranges};
 ghost use Rattle.store.specs.Answer.{report};
 ghost use Rattle.store.specs.Outcome.{buffers, outcome};
 ghost use Rattle.store.specs.Calls.{make_call, open_call, create_call};
@@ -18,7 +17,7 @@ ghost use Rattle.look.specs.Look.{look_place};
 ghost use Rattle.domain_store.specs.Boundary.{number_of, eight, listed_in_c, listed_by, looked_in_c, looked_by, OffsetWithin, Returns};
 
 use look::{Place, look_place};
-use ranges::{Batch, Range, gather};
+use ranges::Range;
 use store::answers::{Answer, Ended};
 
 // Tells how a call ended: its steps through the out parameter, its number as the result: 0 when done, 255 when stopped, else the refusal's.
@@ -27,10 +26,12 @@ fn tell(answer: Answer, steps: &mut u64) -> u32
     ensures steps { steps.new ≡ (report answer).steps }
 {
     let (number, made) = match answer {
-        Ok(Ended::Done {
-            steps: made,
-            handle: _,
-        }) => (0, made),
+        Ok(
+            Ended::Done {
+                steps: made,
+                handle: _,
+            },
+        ) => (0, made),
         Ok(Ended::Stopped(made)) => (255, made),
         Err(why) => (why.number(), 0),
     };
@@ -118,24 +119,7 @@ pub fn ds_add(
     tell(answer, steps)
 }
 
-// The same for the ranges of a batch, all of them or none.
-fn ds_add_batch(
-    memory: &[u8],
-    bodies: &mut [u8],
-    table: &mut [u32],
-    handle: u32,
-    batch: Batch,
-    budget: u64,
-    steps: &mut u64,
-) -> u32
-    ensures { Returns (add_call handle (batch_ranges batch)) budget (buffers memory.now bodies.old table.old)
-        result steps.new (buffers memory.now bodies.new table.new) }
-{
-    let answer = add::add_batch(memory, bodies, table, handle, batch, budget as usize);
-    tell(answer, steps)
-}
-
-// The same for the ranges of a lent list: it does no more than gather the list and hand it on.
+// The same for the ranges of a lent list, all of them or none.
 pub fn ds_add_ranges(
     memory: &[u8],
     bodies: &mut [u8],
@@ -148,8 +132,8 @@ pub fn ds_add_ranges(
     ensures { Returns (add_call handle ranges.now) budget (buffers memory.now bodies.old table.old)
         result steps.new (buffers memory.now bodies.new table.new) }
 {
-    let batch = gather(ranges);
-    ds_add_batch(memory, bodies, table, handle, batch, budget, steps)
+    let answer = add::add_ranges(memory, bodies, table, handle, ranges, budget as usize);
+    tell(answer, steps)
 }
 
 // Frees cells of a domain.

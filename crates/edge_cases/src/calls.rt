@@ -1,72 +1,14 @@
 // The calls into the store, over buffers that are lent to it, and what they answer.
 use crate::acts::{Act, Cells, Kind, Label, Listed};
-
-// The number of the question that refuses a call.
-pub type Refusal = u32;
-
-#[derive(Clone, Copy, PartialEq, Eq, Debug)]
-pub enum Ended {
-    Done { steps: usize, handle: u32 },
-    Stopped(usize),
-}
-
-pub type Answer = Result<Ended, Refusal>;
-
-// What list finds: how many domains are live, and their handles, with zeros after them.
-#[derive(Clone, Copy, PartialEq, Eq, Debug)]
-pub struct Listing {
-    pub count: u32,
-    pub handles: [u32; 8],
-}
-
-// Where the bytes stand that look shows, or which rule they follow.
-#[derive(Clone, Copy, PartialEq, Eq, Debug)]
-pub enum Place {
-    Memory(usize),
-    Bodies(usize),
-    Rule(u32),
-}
-
-// What look answers: that there are bytes, or a rule.
-#[derive(Clone, Copy, PartialEq, Eq, Debug)]
-pub enum Shown {
-    Bytes,
-    Rule(u32),
-}
+use look::{LookAnswer, Place};
+use store::answers::{Answer, Ended, Listing, Refusal};
 
 // What look gives by its three functions.
 #[derive(Clone, Copy)]
 pub struct Look<'a> {
     pub place: Result<Place, Refusal>,
     pub part: &'a [u8],
-    pub answer: Result<Shown, Refusal>,
-}
-
-// ---- what the store's crates answer, as it is told here; this goes when they answer so themselves
-
-fn answer_of(answer: store::Answer) -> Answer {
-    match answer {
-        store::Answer::Refused(question) => Err(question),
-        store::Answer::Done { steps, handle } => Ok(Ended::Done { steps, handle }),
-        store::Answer::Stopped(steps) => Ok(Ended::Stopped(steps)),
-    }
-}
-
-fn place_of(place: look::Place) -> Result<Place, Refusal> {
-    match place {
-        look::Place::Refused(question) => Err(question),
-        look::Place::Memory(at) => Ok(Place::Memory(at)),
-        look::Place::Bodies(at) => Ok(Place::Bodies(at)),
-        look::Place::Rule(rule) => Ok(Place::Rule(rule)),
-    }
-}
-
-fn shown_of(answer: look::LookAnswer) -> Result<Shown, Refusal> {
-    match answer {
-        look::LookAnswer::Refused(question) => Err(question),
-        look::LookAnswer::Bytes => Ok(Shown::Bytes),
-        look::LookAnswer::Rule(rule) => Ok(Shown::Rule(rule)),
-    }
+    pub answer: Result<LookAnswer, Refusal>,
 }
 
 // ---- a store that is read
@@ -80,11 +22,7 @@ pub struct Seen<'a> {
 
 impl<'a> Seen<'a> {
     pub fn list(&self) -> Result<Listing, Refusal> {
-        let listing = begin::list(self.memory, self.bodies, self.table);
-        let count = listing.count;
-        let handles = listing.handles;
-        answer_of(listing.answer)?;
-        Ok(Listing { count, handles })
+        begin::list(self.memory, self.bodies, self.table)
     }
 
     pub fn look(&self, handle: u32, cell: u32) -> Look<'a> {
@@ -92,9 +30,9 @@ impl<'a> Seen<'a> {
         let bodies = self.bodies;
         let table = self.table;
         Look {
-            place: place_of(look::look_place(memory, bodies, table, handle, cell)),
+            place: look::look_place(memory, bodies, table, handle, cell),
             part: look::look(memory, bodies, table, handle, cell),
-            answer: shown_of(look::look_answer(memory, bodies, table, handle, cell)),
+            answer: look::look_answer(memory, bodies, table, handle, cell),
         }
     }
 }
@@ -136,7 +74,7 @@ impl Lent<'_> {
             }
             _ => return read(memory, bodies, table, act),
         };
-        Some(answer_of(answer))
+        Some(answer)
     }
 }
 
@@ -179,7 +117,7 @@ fn add(
     handle: u32,
     range: ranges::Range,
     budget: usize,
-) -> store::Answer {
+) -> Answer {
     let ranges::Range {
         first,
         count,

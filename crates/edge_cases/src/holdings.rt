@@ -1,6 +1,6 @@
 // What a store holds: memory, the live domains, and the entries in their order.
 use crate::calls::Seen;
-use crate::told::Bytes;
+use crate::told::{Bytes, Live};
 use std::fmt;
 
 // An entry's two words, and the bodies that it may be copied into.
@@ -60,8 +60,8 @@ impl fmt::Display for Seen<'_> {
             write!(f, " {}", Bytes(cell))?;
         }
         match self.list() {
-            Ok(listing) => write!(f, "; {listing}")?,
-            Err(question) => write!(f, "; list refused with {question}")?,
+            Ok(listing) => write!(f, "; {}", Live(listing))?,
+            Err(why) => write!(f, "; list refused with {}", why.number())?,
         }
         let bodies = self.bodies;
         let end = front_of(self.table.len());

@@ -1,11 +1,11 @@
 // The player of the acts: it performs them on the buffers, and prints what they give.
 use crate::acts::{Act, Cells, EDGE, Kind, Label, Lengths, Shape};
 use crate::buffers::{Buffers, Snapshot, is_prefix, likeness};
-use crate::calls::Answer;
-use crate::told::Told;
+use crate::told::{Live, Told};
 use arrayvec::ArrayString;
 use std::fmt;
 use std::fmt::Write;
+use store::answers::Answer;
 
 // A budget that suffices for every call at every length.
 const ENOUGH: usize = 1000000;
@@ -200,8 +200,8 @@ impl Player {
 
     fn tell_list(&mut self) -> fmt::Result {
         match self.now.seen(self.lent).list() {
-            Ok(listing) => write!(self.line, "{listing}"),
-            Err(question) => write!(self.line, "list refused with {question}"),
+            Ok(listing) => write!(self.line, "{}", Live(listing)),
+            Err(why) => write!(self.line, "list refused with {}", why.number()),
         }
     }
 

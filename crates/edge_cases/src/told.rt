@@ -1,6 +1,8 @@
 // What is printed of numbers, bytes and answers.
-use crate::calls::{Answer, Ended, Listing, Look, Place, Shown};
+use crate::calls::Look;
+use look::{LookAnswer, Place};
 use std::fmt;
+use store::answers::{Answer, Ended, Listing};
 
 // A number of things, as "1 step" and "19 steps".
 #[derive(Clone, Copy)]
@@ -16,6 +18,10 @@ pub struct Told {
     pub answer: Answer,
     pub swept: usize,
 }
+
+// How many domains are live, and their handles.
+#[derive(Clone, Copy)]
+pub struct Live(pub Listing);
 
 impl fmt::Display for Count {
     fn fmt<W: fmt::Write>(&self, f: &mut fmt::Formatter<W>) -> fmt::Result {
@@ -54,7 +60,7 @@ impl fmt::Display for Bytes<'_> {
 impl fmt::Display for Told {
     fn fmt<W: fmt::Write>(&self, f: &mut fmt::Formatter<W>) -> fmt::Result {
         match self.answer {
-            Err(question) => write!(f, "refused with {question}"),
+            Err(why) => write!(f, "refused with {}", why.number()),
             Ok(Ended::Done { steps, handle: 0 }) => write!(f, "done in {}", Count(steps, "step")),
             Ok(Ended::Done { steps, handle }) => {
                 write!(f, "done in {} with handle {handle}", Count(steps, "step"))
@@ -66,10 +72,10 @@ impl fmt::Display for Told {
 }
 
 // The words after the last handle are 0.
-impl fmt::Display for Listing {
+impl fmt::Display for Live {
     fn fmt<W: fmt::Write>(&self, f: &mut fmt::Formatter<W>) -> fmt::Result {
-        write!(f, "{}", Count(self.count as usize, "domain"))?;
-        for handle in self.handles {
+        write!(f, "{}", Count(self.0.count as usize, "domain"))?;
+        for handle in self.0.handles {
             if handle != 0 {
                 write!(f, " {handle}")?;
             }
@@ -84,7 +90,7 @@ impl fmt::Display for Look<'_> {
         let bytes = Bytes(self.part);
         write!(f, "{}", Count(self.part.len(), "byte"))?;
         match self.place {
-            Err(question) => write!(f, ", refused with {question}"),
+            Err(why) => write!(f, ", refused with {}", why.number()),
             Ok(Place::Memory(at)) => write!(f, " of {bytes}, memory from byte {at}"),
             Ok(Place::Bodies(at)) => write!(f, " of {bytes}, bodies from byte {at}"),
             Ok(Place::Rule(rule)) => {
@@ -99,9 +105,9 @@ impl Look<'_> {
     // What look answers where its place is a rule.
     fn told_rule<W: fmt::Write>(&self, f: &mut fmt::Formatter<W>) -> fmt::Result {
         match self.answer {
-            Err(question) => write!(f, ", refused with {question}"),
-            Ok(Shown::Bytes) => write!(f, ", answered with bytes"),
-            Ok(Shown::Rule(rule)) => write!(f, ", answered with rule {rule}"),
+            Err(why) => write!(f, ", refused with {}", why.number()),
+            Ok(LookAnswer::Bytes) => write!(f, ", answered with bytes"),
+            Ok(LookAnswer::Rule(rule)) => write!(f, ", answered with rule {rule}"),
         }
     }
 }

@@ -194,10 +194,12 @@ fn memory_with<const N: usize>(
     ensures { let t = table.now.entries in
         PutBack (gather (cells_of (length memory.old)) (back_plan t.slots t.words.now depth bodies.now)) max_cells budget memory.old result memory.new }
 {
+    let mut notes = Notes::<N>::none();
+    notes.note(&table.entries);
     let held = Holdings {
         table,
         bodies,
-        notes: &Notes::<N>::of(&table.entries),
+        notes: &notes,
         marks,
         mask: inwards_of(depth),
         depth,

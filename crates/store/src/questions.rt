@@ -47,8 +47,9 @@ fn idle_check(memory: usize, bodies: usize, table: &[u32]) -> Result<(), Refusal
     asked(table[PENDING_AT] == 0, Refusal::Pending)
 }
 
-// Question 4, with room for marks. Where no pairs are pending, the marks of the table's entries are left there. Only pending pairs need a copy of the
-// table, so that a call which finds none has no room for it in its frame.
+// Question 4, with room for marks. Where no pairs are pending, the marks of the table's entries are left there. It is taken into no other function: where
+// a caller's answer is made in a place that is handed in, that place takes a register from the pass over the entries.
+#[inline(never)]
 #[tactic(auto, using(crate::proofs::Checks::shape_facts), unfolding(crate::specs::Checks::table_check))]
 fn table_marked(
     memory: usize,

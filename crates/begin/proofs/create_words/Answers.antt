@@ -4,4 +4,4 @@ use Rattle.begin.proofs.create_words.Goals as goal
 -- src/lib.rt:315:1
 pub returns : goal.returns
 unfolding create_words
-returns c = rw (c.create_head-head.ensures.stored, c.slots_of-slots.ensures) at c.write_head_words.ensures
+returns c = rw (c.create_head-head.ensures, c.slots_of-slots.ensures) at c.write_head_words.ensures
