@@ -21,8 +21,7 @@ use Rattle.words.proofs.Gather.{gather_ext}
 use Rattle.table.specs.Marks.{zeros}
 use Rattle.table.specs.Changes.{Change, keep, put, is_changed, entry_stores, entry_changes}
 use Rattle.marks.proofs.Blocks.{zeros_clear}
-use Rattle.changes.specs.declared.Head.{Head}
-use Rattle.changes.specs.Staged.{with_bit, is_set, Inside, with_words, Turned, entry_of, staged, change_of, but, Restaged, below, Stages, Gathers, head_room, HeadOk, head_stores}
+use Rattle.changes.specs.Staged.{with_bit, is_set, Inside, with_words, entry_of, staged, change_of, but, Restaged, below, Stages, Gathers}
 use Rattle.changes.proofs.Bits.{bit_none, bit_kept, bit_shifted, word_own, word_other, more_here, more_other}
 
 -- ---- f below n
@@ -143,13 +142,6 @@ module _ {f : ℕ → Change} {words bits : List ℕ} where
 
 -- ---- in the middle of 64 slots
 
-module _ {c : Change} {i : ℕ} {words : List ℕ} where
-  pub turn_kept : c ≡ keep → Turned c i words words false
-  turn_kept e = record { told = rw e; made = rw e }
-
-  pub turn_put : {w v : ℕ} {words' : List ℕ} → c ≡ put w v → words' ≡ with_words (put w v) i words → Turned c i words words' true
-  turn_put e h = record { told = rw e; made = rw e h }
-
 module _ {f : ℕ → Change} {words bits : List ℕ} where
   pub group_start : {n : ℕ} (k : ℕ) → Stages n f words bits → n ≡ 64 * k → k < length bits → Gathers k n f words bits 0
   group_start {n} k h e l = record {
@@ -180,32 +172,3 @@ module _ {f : ℕ → Change} {words bits : List ℕ} where
   pub gather_put : {k n w : ℕ} (a v : ℕ) → Gathers k n f words bits w → put a v ≡ f n → n / 64 ≡ k → 2 * n + 1 < length words
       → Gathers k (n + 1) f (set (set words (2 * n) a) (2 * n + 1) v) bits (bit_or w (1 * 2 ^ (n % 64) % 2 ^ 64))
   gather_put {k} {n} {w} a v g q here room = rw (bit_shifted w (n % 64) (omega arith)) (group_change g (put a v) (sym q) here room)
-
-  -- a turn: the words of slot n, and its bit
-  pub group_turn : {k n w : ℕ} {words' : List ℕ} {b : Bool} {w' : ℕ} → Gathers k n f words bits w → n / 64 ≡ k → 2 * n + 1 < length words
-      → Turned (f n) n words words' b → w' ≡ with_bit b (n % 64) w → Gathers k (n + 1) f words' bits w'
-  group_turn {k} {n} {w} g here room turned e = rw (turned.made, e, turned.told) (group_change g (f n) refl here room)
-
--- ---- one word of the head more
-
-pub word_staged : (head next : Head) (w v : ℕ) → head.count < length head.numbers → head.count < length head.values
-    → next.count ≡ head.count + 1 → next.numbers ≡ set head.numbers head.count w → next.values ≡ set head.values head.count v
-    → head_stores next ≡ head_stores head ++ (w ≔ v) ∷ []
-unfolding head_stores
-word_staged head next w v l h q₁ q₂ q₃ =
-    let n = head.count in
-    rw (q₁, q₂, q₃)
-    (ap (λ (k : ℕ). tab k (λ j. get_or (set head.numbers n w) j 0 ≔ get_or (set head.values n v) j 0)) (add-one n)
-    ∙ tab_last (λ j. get_or (set head.numbers n w) j 0 ≔ get_or (set head.values n v) j 0) n
-    ∙ rw (get_or-set_same head.numbers n w 0 l, get_or-set_same head.values n v 0 h, tab_below (λ j. get_or (set head.numbers n w) j 0 ≔ get_or (set head.values n v) j 0) (λ j. get_or head.numbers j 0 ≔ get_or head.values j 0) n (λ j b. rw (get_or-set_other head.numbers n j w 0 (λ q. omega arith), get_or-set_other head.values n j v 0 (λ q. omega arith)))))
-
-pub head_more : (head next : Head) (w v : ℕ) → HeadOk head → head.count < head_room → w < handle_at max_live → head.count < length head.numbers
-    → next.count ≡ head.count + 1 → next.numbers ≡ set head.numbers head.count w → HeadOk next
-head_more head next w v ok l small inside q₁ q₂ = record {
-  few = omega arith;
-  low = λ j b.
-      rw q₂
-      (by_bool (eqb j head.count)
-      (λ z. rw (eqb-true j head.count z, get_or-set_same head.numbers head.count w 0 inside) small)
-      (λ z. let n = eqb-false j head.count z in rw (get_or-set_other head.numbers head.count j w 0 n) (ok.low j (omega arith))));
-}

@@ -14,33 +14,12 @@ use Rattle.words.proofs.Gather.{each_gather, pairs_more}
 use Rattle.words.proofs.Phases.{journal_ready, journal_steps_lem, journal_whole, steps_small}
 use Rattle.table.specs.Changes.{Change, keep, put, entry_stores, entry_changes}
 use Rattle.table.proofs.Entries.{upto_few}
-use Rattle.changes.specs.declared.Head.{Head}
 use Rattle.changes.specs.Head.{word_store}
 use Rattle.std.specs.Prelude.{map}
 use Rattle.std.proofs.lemmas.List.{length-map, length-take-le, take_more, map-append}
-use Rattle.changes.specs.Staged.{HeadOk, head_stores, head_room, Journaled}
+use Rattle.changes.specs.Staged.{head_room, Journaled}
 
 -- ---- the head
-
--- its first n words
-abbrev pub head_upto : List ℕ → List ℕ → ℕ → List Store
-head_upto numbers values n = tab n (λ j. get_or numbers j 0 ≔ get_or values j 0)
-
-pub head_turn : (numbers values : List ℕ) (at k n : ℕ) (t t₁ t₂ : List ℕ) → t₁ ≡ stores (take k (pair_plans at (head_upto numbers values n))) t
-    → t₂ ≡ stores (take (k - 2 * n) (pair_plan (at + 2 * n) (get_or numbers n 0) (get_or values n 0))) t₁
-    → t₂ ≡ stores (take k (pair_plans at (head_upto numbers values (n + 1)))) t
-head_turn numbers values at k n t t₁ t₂ e₁ e₂ =
-    pairs_more at k n (head_upto numbers values n) ((get_or numbers n 0 ≔ get_or values n 0) ∷ []) t t₁ t₂ (sym (length_tab (λ j. get_or numbers j 0 ≔ get_or values j 0) n)) e₁ e₂
-    ∙ ap (λ (ws : List Store). stores (take k (pair_plans at ws)) t)
-    (sym (ap (head_upto numbers values) (add-one n) ∙ tab_last (λ j. get_or numbers j 0 ≔ get_or values j 0) n))
-
-pub head_count : (head : Head) → head.count ≡ length (head_stores head)
-unfolding head_stores
-head_count head = sym (length_tab (λ j. get_or head.numbers j 0 ≔ get_or head.values j 0) head.count)
-
-pub head_below : (e : ℕ) (head : Head) → HeadOk head → Each (λ s. s.at < pairs_at e) (head_stores head)
-unfolding head_stores
-head_below e head ok = each_tab (λ s. s.at < pairs_at e) (λ j. get_or head.numbers j 0 ≔ get_or head.values j 0) head.count (λ j l. omega (arith, ok.low j l))
 
 -- its first j words are written, and now one more
 pub words_turn : (words : List (ℕ × ℕ)) (at k j : ℕ) (t t₁ t₂ : List ℕ) → j < length words
@@ -72,28 +51,9 @@ module _ (e : ℕ) (ws : List Store) (t t₁ : List ℕ) (k p : ℕ) (small : e 
     journal_whole (pairs_at e) ws t t₁ k p number room written t₂ made,
   )
 
--- ---- the pairs of head and entries
-
 entry_below : (e i : ℕ) → i < e → (c : Change) → Each (λ s. s.at < pairs_at e) (entry_stores e i c)
 entry_below e i l keep = tt
 entry_below e i l (put w v) = (first_at_below e i l, (second_at_below e i l, tt))
-
-module _ (e : ℕ) (head : Head) (ok : HeadOk head) (f : ℕ → Change) (n : ℕ) (counted : n ≡ length (entry_changes e f)) where
-  pub all_number : head.count + n ≡ length (head_stores head ++ entry_changes e f)
-  all_number = rw length-append (omega (arith, head_count head))
-
-  pub all_few : head.count + n ≤ max_pairs e
-  all_few = omega (arith, ok.few, upto_few e f e)
-
-  pub all_below : Each (λ s. s.at < pairs_at e) (head_stores head ++ entry_changes e f)
-  all_below =
-      each_append (λ s. s.at < pairs_at e) (head_stores head) (entry_changes e f) (head_below e head ok)
-      (each_gather (λ i. entry_stores e i (f i)) (λ s. s.at < pairs_at e) e (λ i l. entry_below e i l (f i)))
-
-  pub all_written : (k : ℕ) (t t₁ t₂ : List ℕ) → t₁ ≡ stores (take k (pair_plans (pairs_at e) (head_stores head))) t
-      → t₂ ≡ stores (take (k - 2 * head.count) (pair_plans (pairs_at e + 2 * head.count) (entry_changes e f))) t₁
-      → t₂ ≡ stores (take k (pair_plans (pairs_at e) (head_stores head ++ entry_changes e f))) t
-  all_written k t t₁ t₂ e₁ e₂ = pairs_more (pairs_at e) k head.count (head_stores head) (entry_changes e f) t t₁ t₂ (head_count head) e₁ e₂
 
 -- ---- the pairs of a head and of entries
 

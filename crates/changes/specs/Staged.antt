@@ -5,7 +5,6 @@ use Rattle.words.specs.Layout.{pairs_at, max_pairs, handle_at, max_live, group_s
 use Rattle.words.specs.Stores.{Store, ◌≔◌, stores, tab, gather}
 use Rattle.words.specs.Journal.{journal}
 use Rattle.table.specs.Changes.{Change, keep, put, is_changed, entry_stores}
-use Rattle.changes.specs.declared.Head.{Head}
 
 -- ---- bits
 
@@ -46,11 +45,6 @@ Inside e bits = (i : ℕ) → is_set bits i ≡ true → i < e
 abbrev pub with_words : Change → ℕ → List ℕ → List ℕ
 with_words keep i words = words
 with_words (put w v) i words = set (set words (2 * i) w) (2 * i + 1) v
-
--- a turn of a pass: the staged words afterwards are with those of the change c of entry i, and b says whether its bit is to be set
-pub record Turned (c : Change) (i : ℕ) (words words' : List ℕ) (b : Bool) : Type 0 where
-  pub told : b ≡ is_changed c
-  pub made : words' ≡ with_words c i words
 
 -- the change of entry i where its bit is b
 abbrev pub entry_of : Bool → List ℕ → ℕ → Change
@@ -98,14 +92,6 @@ pub record Gathers (k n : ℕ) (f : ℕ → Change) (words bits : List ℕ) (w :
 -- how many words of it a pair may name: words 4, 5 and 8 to 15
 abbrev pub head_room : ℕ
 head_room = 10
-
-unfoldable pub head_stores : Head → List Store
-head_stores h = tab h.count (λ j. get_or h.numbers j 0 ≔ get_or h.values j 0)
-
--- no more words than there is room for, and all in front of the entries
-pub record HeadOk (h : Head) : Type 0 where
-  pub few : h.count ≤ head_room
-  pub low : (j : ℕ) → j < h.count → get_or h.numbers j 0 < handle_at max_live
 
 -- ---- what one word of bits adds: the stores of entry base + j, and those of the 64 entries from `base` on
 

@@ -46,16 +46,6 @@ pub fn group_of(cell: usize) -> usize
     cell / GROUP_SIZE
 }
 
-// The block of a group, or 0.
-// old form: goes when its callers have gone over to `Directory::block_of`
-pub fn block_of(seen: &[u8], g: usize) -> usize
-    requires { (g < max_groups) × (directory_end ≤ length seen.now) }
-    ensures { (result ≡ block_of seen.now g) × (result < 65536) }
-{
-    let directory = Directory { seen };
-    directory.block_of(g)
-}
-
 // Gives a group a block if it has none.
 #[tactic(auto, unfolding(crate::specs::Blocks::with_block))]
 fn take_block(seen: &mut [u8], g: usize)
@@ -125,18 +115,6 @@ pub fn change_mark(seen: &mut [u8], cell: usize, mark: u8)
     seen[at] = mark;
 }
 
-// ---- groups
-
-// Passes over groups without a block from `from` on and before `end`.
-// old form: goes when its callers have gone over to `Directory::past_blank`
-pub fn past_blank(seen: &[u8], from: usize, end: usize) -> usize
-    requires { (from ≤ end) × (end ≤ max_groups) × (directory_end ≤ length seen.now) }
-    ensures { (from ≤ result) × (result ≤ end) × ((g : ℕ) → from ≤ g → g < result → block_of seen.now g ≡ 0) }
-{
-    let directory = Directory { seen };
-    directory.past_blank(from, end)
-}
-
 // ---- room for marks, none made yet
 
 // How many blocks the cells of so many entries may need, in a memory of so many cells.
@@ -159,30 +137,6 @@ pub const SOME_BYTES: usize = 18560;
 // For every group of the largest memory.
 pub const MANY_BYTES: usize = 67712;
 
-// old form: goes when its callers have gone over to `[0u8; BYTES]`
-#[tactic(auto, unfolding(crate::specs::Blocks::zeros))]
-pub fn few_marks() -> [u8; 6272]
-    ensures { result ≡ zeros 6272 }
-{
-    [0u8; FEW_BYTES]
-}
-
-// old form: goes when its callers have gone over to `[0u8; BYTES]`
-#[tactic(auto, unfolding(crate::specs::Blocks::zeros))]
-pub fn some_marks() -> [u8; 18560]
-    ensures { result ≡ zeros 18560 }
-{
-    [0u8; SOME_BYTES]
-}
-
-// old form: goes when its callers have gone over to `[0u8; BYTES]`
-#[tactic(auto, unfolding(crate::specs::Blocks::zeros))]
-pub fn many_marks() -> [u8; 67712]
-    ensures { result ≡ zeros 67712 }
-{
-    [0u8; MANY_BYTES]
-}
-
 // ---- what the marks of a run of eight cells have of a mask of domains, as one number: a byte each, the first cell's lowest. So eight are asked
 // at once, and each is told apart without another look at the directory.
 
@@ -196,14 +150,3 @@ pub fn spread_mask(mask: u8) -> u64
     u64::from_le_bytes([mask; RUN_SIZE])
 }
 
-// What the marks of the eight cells from this one on, where a run begins, have of a mask that is spread.
-// old form: goes when its callers have gone over to `Marks::run_held`
-pub fn run_held(seen: &[u8], cell: usize, masks: u64) -> u64
-    requires { (cell < max_cells) × (in_group cell + run_size ≤ group_size) × Kept seen.now }
-    ensures { (mask : ℕ) → mask < 256 → masks ≡ spread mask run_size → result ≡ run_held seen.now mask cell run_size }
-{
-    let marks = Marks {
-        directory: Directory { seen },
-    };
-    marks.run_held(cell, masks)
-}

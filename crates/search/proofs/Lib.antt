@@ -3,7 +3,6 @@ pub mod From
 pub mod Keys
 pub mod Anywhere
 pub mod Inwards
-pub mod OldHolders
 pub mod Value
 pub mod Behind
 pub mod Holding

@@ -5,10 +5,6 @@ use Rattle.words.specs.Layout.{max_cells}
 use Rattle.words.specs.Cells.{cell_bytes}
 use Rattle.patterns.specs.Pattern.{pattern}
 use Rattle.table.specs.Entry.{word1, word2, depth_of, via_of, cell_of, below_depth, is_pattern, domains_from, names, find_in, holds_in}
-use Rattle.search.specs.declared.Holder.{Holder}
-use Rattle.search.specs.declared.Holder.TheVariants.{At, Nobody}
-use Rattle.search.specs.declared.Held.{Held}
-use Rattle.search.specs.declared.Held.TheVariants.{Nowhere, InBody, ByRule}
 
 -- what a search answers whose scan of n numbers gives `at`: that number, or none where it is n
 abbrev pub Found : (n at : ℕ) → Option ℕ → Type 0
@@ -43,10 +39,6 @@ steps_in e t d c = first (domains_from t d) (λ k. holds_in e t (d + k) c)
 abbrev pub held_from : ℕ → List ℕ → ℕ → ℕ → Bool
 held_from e t d c = nat_lt (steps_in e t d c) (domains_from t d)
 
--- the depth and the entry of the first holder, or nobody
-unfoldable pub holder_in : ℕ → List ℕ → ℕ → ℕ → Holder
-holder_in e t d c = cond (held_from e t d c) (At (d + steps_in e t d c) (find_in e t (d + steps_in e t d c) c)) Nobody
-
 -- "The value of a held cell is its body, or for via parent the value held by the next domain out": the entry at the end of that chain, a copy or
 -- one that follows a rule; or e
 unfoldable pub source_in : ℕ → List ℕ → ℕ → ℕ → ℕ
@@ -77,12 +69,3 @@ bytes_from e t bodies d c = value_in e t bodies (d + steps_in e t d c) c
 -- where there is a first holder, its chain ends in an entry of the table
 abbrev pub HasSource : ℕ → List ℕ → ℕ → ℕ → Type 0
 HasSource e t d c = held_from e t d c ≡ true → source_from e t d c < e
-
--- what a holder at depth d has whose chain ends in an entry with these words: a rule, or a body
-abbrev pub held_by : (d w v : ℕ) → Held
-held_by d w v = cond (is_pattern w) (ByRule d v) (InBody d v)
-
--- what the first holder from depth d inwards has of cell c
-unfoldable pub value_from : ℕ → List ℕ → ℕ → ℕ → Held
-value_from e t d c =
-    cond (held_from e t d c) (held_by (d + steps_in e t d c) (word1 e t (source_from e t d c)) (word2 e t (source_from e t d c))) Nowhere

@@ -3,15 +3,12 @@
 // 0 says that there is none.
 //
 // Nothing is promised of notes but safety: a search looks at every entry wherever it begins. So they may be old, or of another table, or lie.
-ghost use Rattle.std.specs.Prelude.{◌≡◌, ◌<◌, ◌≤◌, length};
-ghost use Rattle.words.specs.Layout.{pairs_at, max_slots};
+ghost use Rattle.std.specs.Prelude.{◌≤◌};
 ghost use Rattle.search.specs.declared.notes.TheConstants.{MANY_NOTES};
 
 use crate::key::Key;
 use table::fields::cell_of;
-use table::first_word;
 use table::lent::Entries;
-use words::{least, wide};
 
 // At most so many entries of a bucket are looked at: notes that lie may lead in a circle, and where more entries share a bucket, passing over
 // all of them is hardly slower.
@@ -77,95 +74,4 @@ impl<const N: usize> Notes<N> {
         }
         0
     }
-}
-
-// old form: goes when its callers have gone over
-pub fn few_notes() -> [u16; 256] {
-    [0u16; 256]
-}
-
-// old form: goes when its callers have gone over
-pub fn many_notes() -> [u16; 4096] {
-    [0u16; 4096]
-}
-
-// old form: goes when its callers have gone over
-pub fn no_notes() -> [u16; 1] {
-    [0u16; 1]
-}
-
-// old form: goes when its callers have gone over
-fn bucket_of(room: usize, cell: usize) -> usize
-    requires { 256 ≤ room }
-    ensures { result < room }
-{
-    if room < 4096 {
-        return cell % 256;
-    }
-    cell % 4096
-}
-
-// old form: goes when its callers have gone over
-fn index_of(x: u16) -> usize
-    ensures { (result ≡ x) × (result < 65536) }
-{
-    x as usize
-}
-
-// old form: goes when its callers have gone over
-pub fn note_entries(table: &[u32], slots: usize, top: usize, last: &mut [u16], before: &mut [u16])
-    requires { (slots ≤ max_slots) × (pairs_at slots ≤ length table.now) × (top ≤ slots) }
-{
-    let room = last.len();
-    if room < 256 {
-        return;
-    }
-    let end = least(top, before.len());
-    let mut i: usize = 0;
-    while i < end {
-        let word = first_word(table, slots, i);
-        if word != 0 {
-            let at = bucket_of(room, cell_of(word));
-            before[i] = last[at];
-            last[at] = (i + 1) as u16;
-        }
-        i += 1;
-    }
-}
-
-// old form: goes when its callers have gone over
-pub fn noted(
-    table: &[u32],
-    slots: usize,
-    last: &[u16],
-    before: &[u16],
-    depth: u32,
-    cell: u32,
-) -> usize
-    requires { (slots ≤ max_slots) × (pairs_at slots ≤ length table.now) }
-{
-    if last.len() < 256 {
-        return 0;
-    }
-    if (16 <= depth) | (65536 <= cell) {
-        return 0;
-    }
-    let key = Key::of(depth, cell);
-    let end = least(slots, before.len());
-    let mut at = index_of(last[bucket_of(last.len(), wide(cell))]);
-    let mut left = MAX_LINKS;
-    while 0 < left {
-        if at == 0 {
-            return 0;
-        }
-        if end < at {
-            return 0;
-        }
-        if key.names(first_word(table, slots, at - 1)) {
-            return at - 1;
-        }
-        at = index_of(before[at - 1]);
-        left -= 1;
-    }
-    0
 }

@@ -10,7 +10,6 @@ use Rattle.store.specs.Outcome.{Buffers, report, Call, Outcome, leaves, outcome}
 use Rattle.store.specs.Checks.{make_check, open_check, store_check, lent_of}
 use Rattle.store.specs.State.{state_of, standing, slots}
 use Rattle.store.specs.Calls.{opening_after}
-use Rattle.store.specs.declared.Listing.{Listing}
 
 -- what is to be visible of a report and the buffers left with it
 abbrev pub visible : Report → Buffers → View
@@ -71,9 +70,6 @@ pub record Reopens (c : Call) (b : Buffers) : Type 0 where
       → (opening_after ks j (outcome c k b).buffers).buffers ≡ (outcome c full b).buffers
 
 -- ---- list
-
-abbrev pub listing : Listing → Listed
-listing l = record { report = report l.answer; count = l.count; handles = l.handles }
 
 abbrev pub or_list_refused : ℕ → Listed → Listed
 or_list_refused = by_number list_refused

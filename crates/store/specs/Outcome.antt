@@ -3,8 +3,6 @@ use Rattle.std.specs.Prelude.{ℕ, List, map, ◌++◌, ◌≡◌, length, take}
 use Rattle.words.specs.Stores.{Store, store, run}
 use Rattle.words.specs.Journal.{journal}
 use Rattle.model.specs.Answer.{Report, done, stopped, refused, ended, by_number}
-use Rattle.store.specs.declared.Answer.{Answer}
-use Rattle.store.specs.declared.Answer.TheVariants.{Refused, Done, Stopped}
 
 -- the three lent buffers
 pub record Buffers : Type 0 where
@@ -26,12 +24,6 @@ step (in_table s) b = buffers b.memory b.bodies (store s b.table)
 
 abbrev pub steps : List Step → Buffers → Buffers
 steps = run step
-
--- an answer in document 01's numbers
-abbrev pub report : Answer → Report
-report (Refused n) = refused n
-report (Done n h) = done n h
-report (Stopped k) = stopped k
 
 -- a call: refused by a question's number, or carried out by these stores, with a handle to name
 pub data Call : Type 0 where

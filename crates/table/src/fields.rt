@@ -150,7 +150,6 @@ pub fn owns_body(word: u32) -> bool
 }
 
 // The bits of a kind as add numbers it: 0 copy, 1 via parent, 2 by rule.
-// old form: goes when its callers have gone over
 pub fn kind_bits(kind: u32) -> u32
     ensures { result ≡ kind_bits kind }
 {
@@ -162,7 +161,6 @@ pub fn kind_bits(kind: u32) -> u32
 }
 
 // The first word of an entry of this depth, kind, label and cell.
-// old form: goes when its callers have gone over
 pub fn entry_word(depth: u32, kind: u32, label: u32, cell: u32) -> u32
     requires { (depth < 16) × (label ≤ 1) × (cell < max_cells) }
     ensures { result ≡ entry_word depth kind label cell }
@@ -171,7 +169,6 @@ pub fn entry_word(depth: u32, kind: u32, label: u32, cell: u32) -> u32
 }
 
 // Its second word: a copy's body, or the rule; via parent has 0.
-// old form: goes when its callers have gone over
 pub fn second_of(kind: u32, rule: u32, body: u32) -> u32
     ensures { result ≡ second_word kind rule body }
 {

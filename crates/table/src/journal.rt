@@ -9,7 +9,7 @@ ghost use Rattle.table.specs.Rule.{pairs_ok};
 use words::layout::{
     LIVE_AT, NEXT_AT, PENDING_AT, first_at, handle_at, max_pairs, pairs_at, second_at,
 };
-use words::{remaining, wide, write_pair};
+use words::{wide, write_pair};
 
 // May a pair name this word?
 fn name_ok(first: usize, word: usize) -> bool
@@ -80,6 +80,6 @@ pub fn write_entry(
         at + 2,
         second_at(slots, i) as u32,
         second,
-        remaining(budget, 2),
+        budget.saturating_sub(2),
     );
 }

@@ -67,34 +67,7 @@ pub fn reach_of(table: &[u32]) -> usize
 
 // ---- forms that callers still use
 
-// The first word of entry i: its depth, its label, its kind and its cell.
-// old form: goes when its callers have gone over
-pub fn first_word(table: &[u32], slots: usize, i: usize) -> u32
-    requires { (i < slots) × (slots ≤ max_slots) × (pairs_at slots ≤ length table.now) }
-    ensures { result ≡ word1 slots table.now i }
-{
-    table[first_at(slots, i)]
-}
-
-// The second word of entry i: its body, or its rule.
-// old form: goes when its callers have gone over
-pub fn second_word(table: &[u32], slots: usize, i: usize) -> u32
-    requires { (i < slots) × (slots ≤ max_slots) × (pairs_at slots ≤ length table.now) }
-    ensures { result ≡ word2 slots table.now i }
-{
-    table[second_at(slots, i)]
-}
-
-// No body is marked. A function of its own, so that the checker does not write the list out.
-// old form: goes when its callers have gone over
-pub fn no_bodies() -> [u8; 4096]
-    ensures { result ≡ zeros 4096 }
-{
-    [0u8; 4096]
-}
-
 // Question 4 of a table with no pending pairs, which is its own meaning: no copy is made, and the marks are its own. `top` is how far to pass.
-// old form: goes when its callers have gone over
 pub fn idle_ok(
     table: &[u32],
     cells: usize,
@@ -119,7 +92,6 @@ pub fn idle_ok(
 }
 
 // Question 4: is the table right, pending pairs included?
-// old form: goes when its callers have gone over
 pub fn table_ok(
     table: &[u32],
     cells: usize,
@@ -143,7 +115,6 @@ pub fn table_ok(
 }
 
 // Writes the two pairs that give entry i two new words, at index `at`.
-// old form: goes when its callers have gone over
 pub fn write_entry(
     table: &mut [u32],
     slots: usize,

@@ -55,7 +55,7 @@ pub fn cells_of(bytes: usize) -> usize
 }
 
 // And how many bodies.
-// old form: goes when its callers have gone over to `cells_of`
+// stays: bodies are counted as cells are, and a reader sees which of the two a line counts.
 pub fn bodies_of(bytes: usize) -> usize
     ensures { result ≡ bodies_of bytes }
 {

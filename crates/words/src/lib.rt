@@ -16,24 +16,7 @@ pub mod layout;
 use layout::{CELL_SIZE, PENDING_AT};
 use std::array;
 
-// The lesser of two numbers.
-// old form: goes when its callers have gone over to `min`
-pub fn least(a: usize, b: usize) -> usize
-    ensures { result ≡ min a b }
-{
-    a.min(b)
-}
-
-// What remains of a budget once so many steps are spent, or 0.
-// old form: goes when its callers have gone over to `saturating_sub`
-pub fn remaining(budget: usize, spent: usize) -> usize
-    ensures { result ≡ budget - spent }
-{
-    budget.saturating_sub(spent)
-}
-
-// A word as a usize.
-// old form: goes when its callers have gone over to `as usize`
+// A word as an index.
 pub fn wide(x: u32) -> usize
     ensures { result ≡ x }
 {
