@@ -19,15 +19,15 @@ use Rattle.table.proofs.Rule.{Rule}
 use Rattle.search.specs.Domain.{depth_named}
 use Rattle.search.proofs.Domain.{depth_small}
 use Rattle.model.specs.State.{State}
-use Rattle.model.specs.Answer.{refused, ask, or_else, view}
+use Rattle.model.specs.Answer.{Report, refused, ask, or_else, view}
 use Rattle.model.specs.Calls.{change, or_refuse, viewed_with}
 use Rattle.model.specs.Holdings.{named}
 use Rattle.model.specs.Restore.{restored, cells_put_back, memory_after_steps, restore_view}
 use Rattle.model.specs.Restore as model
-use Rattle.store.specs.Outcome.{Buffers, buffers, outcome, perform, unless}
+use Rattle.store.specs.Outcome.{Buffers, buffers, outcome, perform, unless, Makes}
 use Rattle.store.specs.Checks.{store_check, lent, lent_of}
 use Rattle.store.specs.State.{state_in, state_of, standing}
-use Rattle.store.specs.Means.{or_refused}
+use Rattle.store.specs.Means.{or_refused, Shows}
 use Rattle.store.proofs.Checks.{ask_yes, store_lengths}
 use Rattle.store.proofs.Means.{visible_of, by_check, store_standing}
 use Rattle.store.proofs.Changes.{change_standing}
@@ -183,3 +183,7 @@ restore_means_lem h k b =
     ≡ viewed_with (change (64 * cells_put_back (cells_of (length b.memory)) d (state_of b)) (model.restore_words (cells_of (length b.memory)) d (state_of b)) 0 (restored d (state_of b)))
     k (state_of b) b.memory (memory_after_steps k d (state_of b) b.memory)) (sym name)
     (restore_seen b.memory b.bodies b.table yes (depth_named b.table h) (asked_low b.table h e) (depth_small b.table h) k))))
+
+-- what the call makes shows what it means
+pub restore_shown : (h k : ℕ) (before : Buffers) {r : Report} {after : Buffers} → Makes (restore_call h) k before r after → Shows (restore_means h) k before r after
+restore_shown h k before {r} {after} made = ap visible_of made ∙ restore_means_lem h k before

@@ -17,7 +17,7 @@ loop-r-preserved g c =
     let n : ℕ = min 8 (s.cells - 8 * r) in
     let here : min s.cells (8 * r) ≡ 8 * r = omega (arith, u.0) in
     let next : 8 * r + n ≡ min s.cells (8 * (r + 1)) = omega (arith, u.0) in
-    let before = put_passed s.cells e.slots e.words.now s.depth s.bodies.now s.right s.deep s.mask s.marks.now.directory.seen.now s.told s.cells turn.from _ r u.1 ∙ ap (λ (x : ℕ). gather x plan) here in
+    let before = put_passed s turn.from _ r u.1 ∙ ap (λ (x : ℕ). gather x plan) here in
     record {
       within = omega (arith, u.0);
       long = c.put_run-bytes.auto.memory ∙ turn.invariant.long;
@@ -33,5 +33,5 @@ returns g c =
     let plan : ℕ → List Store = back_plan e.slots e.words.now s.depth s.bodies.now in
     let last : min s.cells (8 * c.div_ceil-runs.result) ≡ s.cells = omega arith in
     put_as
-    (put_passed s.cells e.slots e.words.now s.depth s.bodies.now s.right s.deep s.mask s.marks.now.directory.seen.now s.told s.cells turn.from _ _ c.in_default.ensures ∙ ap (λ (x : ℕ). gather x plan) last)
+    (put_passed s turn.from _ _ c.in_default.ensures ∙ ap (λ (x : ℕ). gather x plan) last)
     (omega arith) turn.invariant.put
