@@ -149,4 +149,3 @@ pub fn spread_mask(mask: u8) -> u64
 {
     u64::from_le_bytes([mask; RUN_SIZE])
 }
-

@@ -14,7 +14,7 @@ ghost use Rattle.store.specs.Lent.{Passes, SoundOf};
 
 use crate::answers::{Answer, Ended, Refusal};
 use marks::{FEW_BLOCKS, SOME_BLOCKS, blocks_wanted};
-use search::find_domain;
+use search::domains::find_domain;
 use table::lent::{Entries, Sound};
 use table::{header_ok, idle_ok, lengths_ok, reach_of, table_ok};
 use words::layout::{LIVE_AT, MAX_BODIES, PENDING_AT, bodies_of, cells_of, slots_of};
@@ -201,8 +201,8 @@ pub fn live_check(table: &[u32], handle: u32) -> Result<u32, Refusal>
     ensures depth { IfOk result (λ d. (d ≡ depth_named table.now handle) × (1 ≤ d) × (d ≤ live table.now)) }
 {
     match find_domain(table, handle) {
-        0 => Err(Refusal::NoSuchDomain),
-        depth => Ok(depth),
+        None => Err(Refusal::NoSuchDomain),
+        Some(depth) => Ok(depth),
     }
 }
 
