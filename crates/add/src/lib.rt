@@ -39,7 +39,7 @@ use changes::head_words::Head;
 use changes::staged::{FEW_BITS, FEW_WORDS, MANY_BITS, MANY_WORDS, Staged};
 use changes::writer::write_staged;
 use checks::New;
-use marks::{FEW_BLOCKS, SOME_BLOCKS, blocks_wanted};
+use marks::{FEW_BLOCKS, FEW_BYTES, MANY_BYTES, SOME_BLOCKS, SOME_BYTES, blocks_wanted};
 use ranges::fitting::Fitting;
 use ranges::{Batch, MAX_RANGES, Range};
 use store::answers::{Answer, Refusal};
@@ -168,14 +168,9 @@ fn add_stores(
 
 // ---- the call
 
-// How many bytes the marks of few blocks take, of some more, and of any memory.
-const FEW_BYTES: usize = 6272;
-
-const SOME_BYTES: usize = 18560;
-
-const MANY_BYTES: usize = 67712;
-
 // The call with room for marks in so many bytes.
+// It is taken into no other function, so that its large frame is made where it begins.
+#[inline(never)]
 fn add_with<const BYTES: usize>(
     memory: &[u8],
     bodies: &mut [u8],

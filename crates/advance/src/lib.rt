@@ -568,6 +568,8 @@ const MANY_NUMBERS: usize = 1025;
 
 // Advance with room for marks in so many bytes, and for two numbers of each of their blocks: clearing those for the most would take longer than all else
 // where there are few.
+// It is taken into no other function, so that its large frame is made where it begins.
+#[inline(never)]
 fn advance_with<const BYTES: usize, const NUMBERS: usize>(
     memory: &[u8],
     bodies: &mut [u8],

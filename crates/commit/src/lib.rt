@@ -139,6 +139,8 @@ fn end_domain(
 // ---- the call
 
 // Commit with marks of its own: the questions leave them made.
+// It is taken into no other function, so that its large frame is made where it begins.
+#[inline(never)]
 fn commit_with<const BYTES: usize>(
     memory: &[u8],
     bodies: &[u8],

@@ -64,6 +64,8 @@ fn none_via(entries: &Entries<'_>, cells: Cells) -> bool
 }
 
 // The questions put to delete, with marks of its own. The call goes on with the cells that are to be freed.
+// It is taken into no other function, so that its large frame is made where it begins.
+#[inline(never)]
 fn check_with<const BYTES: usize>(
     memory: usize,
     bodies: usize,

@@ -217,12 +217,13 @@ pub fn ds_list(
 {
     match begin::list(memory, bodies, table) {
         Ok(listing) => {
-            *handles = listing.handles;
+            let told = listing.handles;
+            handles.copy_from_slice(&told);
             *count = listing.count;
             0
         }
         Err(why) => {
-            *handles = [0u32; 8];
+            handles.fill(0);
             *count = 0;
             why.number()
         }

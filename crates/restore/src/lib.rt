@@ -118,6 +118,8 @@ fn end_domains(table: &mut [u32], top: usize, depth: u32, budget: usize) -> usiz
 // ---- the call
 
 // Restore with marks of its own in so many bytes: the questions leave them made, and the cells are put back by them.
+// It is taken into no other function, so that its large frame is made where it begins.
+#[inline(never)]
 fn restore_with<const BYTES: usize>(
     memory: &mut [u8],
     bodies: &[u8],

@@ -13,7 +13,7 @@ ghost use Rattle.store.specs.Checks.{shape_check, idle_check, table_check, open_
 ghost use Rattle.store.specs.Lent.{Passes, SoundOf};
 
 use crate::answers::{Answer, Ended, Refusal};
-use marks::{FEW_BLOCKS, SOME_BLOCKS, blocks_wanted};
+use marks::{FEW_BLOCKS, FEW_BYTES, MANY_BYTES, SOME_BLOCKS, SOME_BYTES, blocks_wanted};
 use search::domains::find_domain;
 use table::lent::{Entries, Sound};
 use table::{header_ok, idle_ok, lengths_ok, reach_of, table_ok};
@@ -75,13 +75,6 @@ fn table_marked(
         asked(right, Refusal::Corrupt)
     }
 }
-
-// How many bytes the marks of few blocks take, of some more, and of any memory.
-const FEW_BYTES: usize = 6272;
-
-const SOME_BYTES: usize = 18560;
-
-const MANY_BYTES: usize = 67712;
 
 // The same with marks of its own. They come first, in a function that is taken into no other, so that its large frame is made where it begins: behind
 // a question, the compiler made it over a register in use.

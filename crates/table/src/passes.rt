@@ -302,6 +302,8 @@ pub fn idle_ok(
 // ---- pending pairs
 
 // The rule of the table that pending pairs mean: of a copy in which they are in place, with room for so many words.
+// It is taken into no other function, so that the frame with room for the copy is made where it begins.
+#[inline(never)]
 fn pending_ok<const FRONT: usize>(
     table: &Entries<'_>,
     cells: usize,
