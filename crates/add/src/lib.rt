@@ -249,6 +249,7 @@ pub fn add_batch(
 
 // Adds `count` cells from `first` on to the innermost domain, as copies (kind 0), via parent (kind 1) or by a rule (kind 2), read-only (label 0)
 // or read-write (label 1): all of them, or none. It is the list of this one range.
+// stays: kind and label as numbers, of which other numbers are refused with 7: the call asks no more of its callers than it did
 pub fn add(
     memory: &[u8],
     bodies: &mut [u8],

@@ -21,6 +21,7 @@ use ranges::Range;
 use store::answers::{Answer, Ended};
 
 // Tells how a call ended: its steps through the out parameter, its number as the result: 0 when done, 255 when stopped, else the refusal's.
+// stays: numbers here and in the functions below, the C interface
 fn tell(answer: Answer, steps: &mut u64) -> u32
     ensures number { result ≡ number_of (report answer).status (report answer).refusal }
     ensures steps { steps.new ≡ (report answer).steps }

@@ -1,5 +1,6 @@
 // The functions of C: each export calls the function of its name in `domain_store`, and promises the same of it. A crate is built as a library or as a
 // static library and not as both, so what other crates stand on and what C links are two.
+// stays: each is as the function of its name in domain_store, the C interface
 #![tactic(auto)]
 
 ghost use Rattle.std.specs.Prelude.{◌≡◌, length};

@@ -20,6 +20,7 @@ use arrayvec::ArrayVec;
 // What an add names: `count` cells from `first` on, to be held as copies (kind 0), via parent (kind 1) or by a rule (kind 2), which other kinds
 // ignore, read-only (label 0) or read-write (label 1). It is the record that C hands over, so that its kind and its label are numbers here, whatever
 // C put there; question 7 asks whether they are such.
+// stays: kind and label as numbers, the C interface
 #[repr(C)]
 #[derive(Clone, Copy, Default)]
 pub struct Range {
@@ -37,6 +38,7 @@ pub const MAX_RANGES: usize = 64;
 pub const BATCH_ROOM: usize = 65;
 
 // The first ranges of a list that is gathered one by one: all of them, or 65 where they are more than 64.
+// stays: `no_batch`, `keep` with its numbers, and `gather`, which docs/STATEMENTS.md names with `gathered_all` and `gathered_more`
 #[derive(Drop)]
 pub struct Batch {
     pub ranges: ArrayVec<Range, BATCH_ROOM>,
