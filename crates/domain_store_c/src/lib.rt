@@ -5,7 +5,7 @@
 
 ghost use Rattle.std.specs.Prelude.{◌≡◌, length};
 ghost use Rattle.ranges.specs.Ranges.{one_range};
-ghost use Rattle.store.specs.Outcome.{buffers, outcome, report};
+ghost use Rattle.store.specs.Outcome.{buffers, outcome};
 ghost use Rattle.store.specs.Calls.{make_call, open_call, create_call};
 ghost use Rattle.store.specs.Means.{list_means};
 ghost use Rattle.add.specs.Add.{add_call};

@@ -6,7 +6,7 @@ use Rattle.model.specs.State.{State}
 use Rattle.model.specs.Answer.{is_done, Report, done, refused, by_number, View, view, steps_of}
 use Rattle.model.specs.Holdings.{Room}
 use Rattle.model.specs.Calls.{Effect, refuse, change, viewed, make_view, open_view, create_effect, Listed, listed, list_refused}
-use Rattle.store.specs.Outcome.{Buffers, report, Call, Outcome, leaves, outcome}
+use Rattle.store.specs.Outcome.{Buffers, Call, Outcome, leaves, outcome}
 use Rattle.store.specs.Checks.{make_check, open_check, store_check, lent_of}
 use Rattle.store.specs.State.{state_of, standing, slots}
 use Rattle.store.specs.Calls.{opening_after}
