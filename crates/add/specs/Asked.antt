@@ -47,8 +47,8 @@ parent_number q p = parent_check q.memory.now q.bodies.now (slots_in q) (table_o
 abbrev pub rule_number : Asking → Part → ℕ
 rule_number q p = rule_check q.memory.now (newly q p.seen.now) p.range.first p.range.count p.range.rule
 
-abbrev pub value_number : Asking → Part → ℕ → ℕ
-value_number q p k = value_check q.memory.now q.bodies.now (slots_in q) (table_of q) (newly q p.seen.now) p.range.first p.range.count k p.range.rule
+abbrev pub values_number : Asking → Part → ℕ → ℕ
+values_number q p k = value_check q.memory.now q.bodies.now (slots_in q) (table_of q) (newly q p.seen.now) p.range.first p.range.count k p.range.rule
 
 abbrev pub part_number : Asking → Part → ℕ
 part_number q p =

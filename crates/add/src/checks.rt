@@ -10,7 +10,7 @@ ghost use Rattle.store.specs.Answer.{number_in};
 ghost use Rattle.store.specs.State.{state_in};
 ghost use Rattle.add.specs.Add.{is_new, is_new_copy};
 ghost use Rattle.add.specs.Walking.{lacks, follows, told_by, cell_told, Source, Counted, copies_of, room_check};
-ghost use Rattle.add.specs.Asked.{table_of, slots_in, depth_in, newly, Lies, new_count, all_backed, all_follow, same_number, parent_number, rule_number, value_number, part_number};
+ghost use Rattle.add.specs.Asked.{table_of, slots_in, depth_in, newly, Lies, new_count, all_backed, all_follow, same_number, parent_number, rule_number, values_number, part_number};
 
 use crate::asked::Asking;
 use crate::part::Part;
@@ -254,7 +254,7 @@ impl<'a> Asking<'a> {
     // Questions 11, 12, 18 and 19: those on values, by the kind. A copy is put none of them.
     fn value_check(&self, part: &Part<'_>, kind: Kind) -> Result<(), Refusal>
         requires { Lies self.now part.now }
-        ensures { number_in result ≡ value_number self.now part.now (kind_number kind) }
+        ensures { number_in result ≡ values_number self.now part.now (kind_number kind) }
     {
         match kind {
             Kind::Copy => Ok(()),

@@ -246,7 +246,7 @@ fn count_groups(seen: &[u8], bits: &[u64], groups: usize, ends: &mut [u16]) -> u
     let directory = Directory { seen };
     let mut n: usize = 0;
     let mut g = directory.past_blank(0, groups);
-    // stays: the next group is not the next number but where `past_blank` ends.
+    // stays: no plainer as a `for`, since the next group is not the next number but where `past_blank` ends.
     while g < groups {
         let b = directory.block_of(g);
         n += bits[b].count_ones() as usize;

@@ -130,7 +130,7 @@ fn add(
     )
 }
 
-// The ranges are gathered here into such a batch as `add_ranges` and the C function make of theirs. These two are tried from C and from Rust.
+// The ranges are gathered here into a batch. `add_ranges` and the C function, which are lent a list, are tried from C and from Rust.
 fn batch_of(list: &[Listed]) -> ranges::Batch {
     let mut batch = ranges::no_batch();
     for listed in list {

@@ -63,7 +63,7 @@ fn next_held(marks: &Marks<'_>, from: usize, runs: usize, mask: u8) -> Option<us
 {
     let masks = spread_mask(mask);
     let mut r = past_groups(marks, from, runs);
-    // stays: the next run is not the next number but where `past_groups` ends.
+    // stays: no plainer as a `for`, since the next run is not the next number but where `past_groups` ends.
     while r < runs {
         if marks.run_held(RUN_SIZE * r, masks) != 0 {
             return Some(r);
