@@ -11,10 +11,10 @@ use Rattle.words.proofs.Scan.{by_bool}
 use Rattle.words.proofs.Plans.{tab_below}
 use Rattle.model.specs.Answer.{Report}
 use Rattle.model.specs.Calls.{Listed}
-use Rattle.store.specs.Outcome.{Buffers, Call, Outcome, outcome, leaves}
+use Rattle.store.specs.Outcome.{Buffers, Outcome, leaves}
 use Rattle.look.specs.Look.{Placed, Refused, Memory, Bodies, Rule, PlaceWithin}
 use Rattle.look.proofs.Placing.{memory_within, bodies_within}
-use Rattle.domain_store.specs.Boundary.{number_of, returned, returned_by, Returns, eight, listed_in_c, listed_by, looked_in_c, looked_by, OffsetWithin}
+use Rattle.domain_store.specs.Boundary.{number_of, returned, returned_by, eight, listed_in_c, listed_by, looked_in_c, looked_by, OffsetWithin}
 
 pub told : (n s : ℕ) (r : Report) (b : Buffers) (o : Outcome) → n ≡ number_of r.status r.refusal → s ≡ r.steps → leaves r b ≡ o → returned n s b ≡ returned_by o
 told n s r b o e f g = (λ i. returned (e i) (f i) b) ∙ ap returned_by g
