@@ -187,8 +187,8 @@
 //! that, for a mapped file the program does.
 //!
 //! A call takes no heap. Stack of a call at the largest sizes, measured: make 5 KB; create, list,
-//! look, delete 74 KB; open 107 KB; commit 108 KB; add, restore 116 KB; add_ranges 120 KB; advance
-//! 127 KB. A thread of Rust has 2 MiB where nothing else is asked for.
+//! look 74 KB; open, delete, restore 107 KB; add, add_ranges, commit 108 KB; advance 127 KB.
+//! A thread of Rust has 2 MiB where nothing else is asked for.
 
 #![deny(missing_docs)]
 #![deny(unsafe_code)]
