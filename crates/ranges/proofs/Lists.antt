@@ -1,14 +1,26 @@
 -- Laws of lists of ranges, read by index: what a list asks for a cell, by which of its ranges it does. Assumes nothing.
-use Rattle.std.proofs.Common.{◌≡◌, ℕ, zero, suc, ◌+◌, ◌<◌, ◌≤◌, Bool, true, false, cond, ◌&&◌, ◌||◌, eqb, List, [], ◌∷◌, length, take, sym, refl, ap, ◌∙◌, ⊎_elim, le_of_suc-le-suc, eq-or-lt_of_le, arith, add-one, eqb-true}
-use Rattle.std.proofs.lemmas.List.{get_or-take, take_more}
+use Rattle.std.proofs.Common.{◌≡◌, ℕ, zero, suc, ◌+◌, ◌<◌, ◌≤◌, Bool, true, false, cond, ◌&&◌, ◌||◌, eqb, List, [], ◌∷◌, length, take, sym, refl, ap, ◌∙◌, ⊎_elim, le_of_suc-le-suc, eq-or-lt_of_le, arith, add-one, eqb-true, ltb, ltb-true, le-ltb, lt-ltb}
+use Rattle.std.proofs.lemmas.List.{get_or-take, take_more, take_all, length-take-le}
+use mathlib.Core.Bool.{false≢true}
 use Rattle.std.specs.List.{list_any}
 use Rattle.std.proofs.lemmas.List.Recursion.{same_from_clauses, or_at, or_from_places, found_at}
 use borrow.Author.Tests.{eqb-false}
-use Rattle.words.proofs.Scan.{is_false, true≢}
+use Rattle.words.proofs.Scan.{by_bool, by_le, is_false, true≢}
 use Rattle.ranges.specs.declared.Range.{Range}
 use Rattle.ranges.specs.Ranges.{covers, named, kind_for, rule_for, label_for}
-use Rattle.ranges.specs.Lists.{no_range, range_of}
-use Rattle.ranges.proofs.Ranges.{or_none, named_append, label_low}
+use Rattle.ranges.specs.Lists.{no_range, range_of, Within, FirstNaming}
+use Rattle.ranges.proofs.Ranges.{or_none, named_append, label_low, covers_bounds}
+
+pub take_at : (rs : List Range) (n i : ℕ) → i < n → range_of (take n rs) i ≡ range_of rs i
+take_at rs n i h = get_or-take n rs i no_range h
+
+-- a list names a cell by one of its ranges
+pub named_at : (rs : List Range) (c : ℕ) → named rs c ≡ true → (i : ℕ) × (i < length rs) × (covers (range_of rs i) c ≡ true)
+named_at [] c h = absurd (false≢true h)
+named_at (r ∷ rs) c h =
+    by_bool (covers r c)
+    (λ e. (0, omega arith, e))
+    (λ e. let n = named_at rs c (rw e at h) in (suc n.0, omega (arith, n.1), n.2))
 
 module _ (rs : List Range) (c : ℕ) where
   -- a range names it, and none does
@@ -20,6 +32,13 @@ module _ (rs : List Range) (c : ℕ) where
 
   pub not_by : named rs c ≡ false → (i : ℕ) → i < length rs → covers (range_of rs i) c ≡ false
   not_by h i l = is_false (covers (range_of rs i) c) (λ e. true≢ (named_by i l e) h)
+
+  -- a cell that is named lies in memory, where the ranges do
+  pub named_within : (m : ℕ) → Within m rs → named rs c ≡ true → c < m
+  named_within m w h =
+      let n = named_at rs c h in
+      let b = covers_bounds (range_of rs n.0) c n.2 in
+      omega (arith, b.1, w n.0 n.1)
 
   -- the first range that names it fixes its kind and rule
   module _ (k : ℕ) (l : k < length rs) (none : (i : ℕ) → i < k → covers (range_of rs i) c ≡ false) (here : covers (range_of rs k) c ≡ true) where
@@ -56,8 +75,28 @@ module _ (rs : List Range) (c : ℕ) where
       let e = sym (label_any c rs) ∙ or_from_places (list_any (raising c)) (raising c) refl (λ _ _. refl) rs no_range h in
       omega (arith, label_low c rs, eqb-false (label_for rs c) 1 e)
 
-pub take_at : (rs : List Range) (n i : ℕ) → i < n → range_of (take n rs) i ≡ range_of rs i
-take_at rs n i h = get_or-take n rs i no_range h
+-- the first range that names it, where there is one
+module _ (rs : List Range) (c k : ℕ) where
+  pub naming_make : k < length rs → covers (range_of rs k) c ≡ true → ((i : ℕ) → i < k → covers (range_of rs i) c ≡ false) → FirstNaming rs c k
+  naming_make l here none = record {
+    high = omega arith;
+    none = let n = length-take-le k rs (omega arith) in named_nowhere (take k rs) c (λ i h. rw (take_at rs k i (omega arith)) (none i (omega arith)));
+    some = λ _. here;
+  }
+
+  module _ (f : FirstNaming rs c k) where
+    pub naming_none : (i : ℕ) → i < k → covers (range_of rs i) c ≡ false
+    naming_none i l = rw (take_at rs k i l) at (not_by (take k rs) c f.none i (omega (arith, length-take-le k rs f.high)))
+
+    -- the list names the cell where one of its ranges does so first
+    pub naming_some : ltb k (length rs) ≡ named rs c
+    naming_some =
+        by_le (length rs) k
+        (λ l. le-ltb k (length rs) l ∙ sym (ap (λ (xs : List Range). named xs c) (sym (take_all k rs l)) ∙ f.none))
+        (λ l. lt-ltb k (length rs) l ∙ sym (named_by rs c k l (f.some l)))
+
+    pub naming_below : named rs c ≡ true → k < length rs
+    naming_below h = ltb-true k (length rs) (naming_some ∙ h)
 
 -- the first n ranges of a list: one more, and those from the k-th to before the n-th left out, none of which names the cell
 module _ (rs : List Range) (c : ℕ) where

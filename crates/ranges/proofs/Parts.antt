@@ -8,9 +8,9 @@ use Rattle.words.proofs.Scan.{by_bool, by_le, and_join, and_split, is_false, tru
 use Rattle.ranges.specs.declared.Range.{Range}
 use Rattle.ranges.specs.declared.segments.Segment.{Segment}
 use Rattle.ranges.specs.Ranges.{covers, named, kind_for, rule_for, label_for}
-use Rattle.ranges.specs.Lists.{range_of, range_end, number_by, Within, NoneEmpty, Orders, RisingBy, RisesFrom, lowest_from, turn_behind, LeastOf, AllOrNone, Asks, Next, NoneLeft}
+use Rattle.ranges.specs.Lists.{range_of, range_end, number_by, Within, NoneEmpty, Orders, RisingBy, RisesFrom, lowest_from, turn_behind, LeastOf, NextNamed, FirstNaming, AllOrNone, Asks, Next, NoneLeft}
 use Rattle.ranges.proofs.Ranges.{covers_bounds, covers_make, covers_not, label_low}
-use Rattle.ranges.proofs.Lists.{named_by, named_nowhere, kind_by, rule_by, raising, label_by, label_nowhere}
+use Rattle.ranges.proofs.Lists.{named_by, named_nowhere, named_within, naming_make, naming_none, naming_below, kind_by, rule_by, raising, label_by, label_nowhere}
 use Rattle.ranges.proofs.Orders.{by_order, by_order_but}
 
 -- ---- one range
@@ -77,7 +77,7 @@ module _ (c d : ℕ) where
   alike g h z s [] e = z
   alike g h z s (r ∷ rs) e = s c r rs ∙ rw (e 0 (omega arith), alike g h z s rs (λ i l. e (suc i) (omega arith))) (sym (s d r rs))
 
-  asks_alike : (rs : List Range) (k u l : ℕ) → ((i : ℕ) → i < length rs → covers (range_of rs i) c ≡ covers (range_of rs i) d) → Asks rs d k u l → Asks rs c k u l
+  pub asks_alike : (rs : List Range) (k u l : ℕ) → ((i : ℕ) → i < length rs → covers (range_of rs i) c ≡ covers (range_of rs i) d) → Asks rs d k u l → Asks rs c k u l
   asks_alike rs k u l e a = record {
     named = alike (λ e rs. named rs e) (λ r b x. b || x) refl (λ e r rs. refl) rs e ∙ a.named;
     kind = alike (λ e rs. kind_for rs e) (λ r b x. cond b r.kind x) refl (λ e r rs. refl) rs e ∙ a.kind;
@@ -99,7 +99,7 @@ module _ (rs : List Range) (order : List ℕ) (k from : ℕ) (o : RisesFrom rs o
   -- none is left where all are passed
   pub rising_none : length rs ≤ k → NoneLeft rs from
   rising_none l c b =
-      named_nowhere rs c (by_order (length rs) order o.1 (λ i. covers (range_of rs i) c) (λ j h. covers_not (range_of rs (number_by order j)) c (λ x y. omega (arith, o.3.0 j (omega arith) h))))
+      named_nowhere rs c (by_order (length rs) order o.0 (λ i. covers (range_of rs i) c ≡ false) (λ j h. covers_not (range_of rs (number_by order j)) c (λ x y. omega (arith, o.2.0 j (omega arith) h))))
 
   module _ (m : ℕ) (l : k < length rs) (within : Within m rs) (filled : NoneEmpty rs) where
     -- the range, which is one of the list
@@ -107,18 +107,18 @@ module _ (rs : List Range) (order : List ℕ) (k from : ℕ) (o : RisesFrom rs o
     r = number_by order k
 
     is_one : r < length rs
-    is_one = o.1.0 k l
+    is_one = o.0.1 k l
 
     -- no other range names one of its cells
     alone : (c : ℕ) → covers (range_of rs r) c ≡ true → (i : ℕ) → i < length rs → (i ≡ r → ⊥) → covers (range_of rs i) c ≡ false
     alone c h i b ne =
         let e = covers_bounds (range_of rs r) c h in
-        by_order_but (length rs) order o.1 (λ i. covers (range_of rs i) c) r
+        by_order_but (length rs) order o.0 (λ i. covers (range_of rs i) c) r
         (λ j u other.
         let apart : j ≡ k → ⊥ = λ q. other (ap (number_by order) q) in
         by_le k j
-        (λ a. covers_not (range_of rs (number_by order j)) c (λ x y. omega (arith, apart, o.2 k j (omega (arith, apart)) u)))
-        (λ a. covers_not (range_of rs (number_by order j)) c (λ x y. omega (arith, o.2 j k a l))))
+        (λ a. covers_not (range_of rs (number_by order j)) c (λ x y. omega (arith, apart, o.1 k j (omega (arith, apart)) u)))
+        (λ a. covers_not (range_of rs (number_by order j)) c (λ x y. omega (arith, o.1 j k a l))))
         i b ne
 
     label_alone : (c : ℕ) → covers (range_of rs r) c ≡ true → label_for rs c ≡ cond (eqb (range_of rs r).label 1) 1 0
@@ -136,16 +136,16 @@ module _ (rs : List Range) (order : List ℕ) (k from : ℕ) (o : RisesFrom rs o
     from_here j h u =
         by_bool (eqb j k)
         (λ q. let e = eqb-true j k q in rw e (omega arith))
-        (λ q. omega (arith, o.2 k j (omega (arith, eqb-false j k q)) h))
+        (λ q. omega (arith, o.1 k j (omega (arith, eqb-false j k q)) h))
 
     pub rising_next : Next m rs from (record { at = (range_of rs r).first; end = range_end (range_of rs r); range = range_of rs r; writable = eqb (range_of rs r).label 1 })
     rising_next = record {
-      low = o.3.1 k (omega arith) l;
+      low = o.2.1 k (omega arith) l;
       none = λ c a b.
-          named_nowhere rs c (by_order (length rs) order o.1 (λ i. covers (range_of rs i) c) (λ j h.
+          named_nowhere rs c (by_order (length rs) order o.0 (λ i. covers (range_of rs i) c ≡ false) (λ j h.
           by_le k j
           (λ u. covers_not (range_of rs (number_by order j)) c (λ x y. omega (arith, from_here j h u)))
-          (λ u. covers_not (range_of rs (number_by order j)) c (λ x y. omega (arith, o.3.0 j u h)))));
+          (λ u. covers_not (range_of rs (number_by order j)) c (λ x y. omega (arith, o.2.0 j u h)))));
       some = omega (arith, filled r is_one);
       high = within r is_one;
       asks = λ c a b.
@@ -163,29 +163,52 @@ module _ (rs : List Range) (order : List ℕ) (k from : ℕ) (o : RisesFrom rs o
     rising_on = (
       o.0,
       o.1,
-      o.2,
       (
         λ i a b.
             by_le k i
             (λ u. let e : i ≡ k = omega arith in rw e (omega arith))
-            (λ u. omega (arith, o.3.0 i u b, o.3.1 k (omega arith) l)),
-        λ i a b. o.2 k i (omega arith) b,
+            (λ u. omega (arith, o.2.0 i u b, o.2.1 k (omega arith) l)),
+        λ i a b. o.1 k i (omega arith) b,
       ),
     )
 
 -- no range is passed at first
-pub rising_start : (rs : List Range) (b : Bool) (order : Bor (List ℕ)) (kept : Option (Bor (List ℕ))) → length order.now ≡ length rs → Orders (length rs) order.now
+pub rising_start : (rs : List Range) (b : Bool) (order : Bor (List ℕ)) (kept : Option (Bor (List ℕ))) → Orders (length rs) order.now
     → (b ≡ true → RisingBy rs order.now) → kept ≡ then_some b order → IfSome kept (λ keys. RisesFrom rs keys.now 0 0)
-rising_start rs true order kept n o r e = rw e (n, o, r refl, (λ i l. absurd (omega arith), λ i a b. omega arith))
-rising_start rs false order kept n o r e = rw e tt
+rising_start rs true order kept o r e = rw e (o, r refl, (λ i l. absurd (omega arith), λ i a b. omega arith))
+rising_start rs false order kept o r e = rw e tt
 
 -- what is said of the order of a list that has one
 pub rising_ahead : (rs : List Range) (order : Bor (List ℕ)) (kept : Option (Bor (List ℕ))) → kept ≡ Some order → (k : ℕ) (N : Type 0) (P : Segment → Type 0) (o : Option Segment)
-    → MatchOption o N (λ s. P s × RisesFrom rs order.now k s.end) → MatchOption o N (λ s. P s × IfSome kept (λ keys. RisesFrom rs keys.now k s.end))
+    → MatchOption o N (λ s. P s × (k < length rs) × RisesFrom rs order.now (k + 1) s.end)
+    → MatchOption o N (λ s. P s × IfSome kept (λ keys. (k < length rs) × RisesFrom rs keys.now (k + 1) s.end))
 rising_ahead rs order kept e k N P None h = h
-rising_ahead rs order kept e k N P (Some s) h = (h.0, rw e h.1)
+rising_ahead rs order kept e k N P (Some s) h = (h.0, rw e (h.1, h.2))
 
--- of any list, the lowest cell that is named, up to where a range begins or ends
+-- of any list, the lowest cell that is named, up to where each range names all cells or none
+pub mixed_next : (m : ℕ) (rs : List Range) (from at end k : ℕ) (w : Bool) → NextNamed m rs from at → at < m
+    → (at < end) × (end ≤ m) × ((i : ℕ) → i < length rs → AllOrNone (range_of rs i) at end) → FirstNaming rs at k → w ≡ eqb (label_for rs at) 1
+    → Next m rs from (record { at = at; end = end; range = range_of rs k; writable = w })
+mixed_next m rs from at end k w found l run f e =
+    let here = found.some l in
+    let below = naming_below rs at k f here in
+    let none = naming_none rs at k f in
+    record {
+      low = found.low;
+      none = found.none;
+      some = run.0;
+      high = run.1;
+      asks = λ c a b.
+          asks_alike c at rs _ _ _ (λ i h. run.2 i h c a b)
+          (record {
+            named = here;
+            kind = kind_by rs at k below none (f.some below);
+            rule = rule_by rs at k below none (f.some below);
+            label = label_bit (label_for rs at) w (label_low at rs) e;
+          });
+    }
+
+-- the same of what the code finds, the least of what each range gives
 module _ (m : ℕ) (rs : List Range) (within : Within m rs) (from at : ℕ) (found : LeastOf (λ r. lowest_from r from) rs m at) where
   before : (c : ℕ) → from ≤ c → c < at → named rs c ≡ false
   before c l b = named_nowhere rs c (λ i k. lowest_low (range_of rs i) from at c (λ y q. found.below i y k q) l b)
@@ -204,24 +227,17 @@ module _ (m : ℕ) (rs : List Range) (within : Within m rs) (from at : ℕ) (fou
       absurd (true≢ (lowest_some (range_of rs g.0) from at g.2).1 (none g.0 g.1))))
       (λ u. before c l u)
 
-  pub mixed_next : (end k : ℕ) (writable : Bool) → LeastOf (λ r. turn_behind r at) rs m end
+  pub mixed_least : (end k : ℕ) (writable : Bool) → LeastOf (λ r. turn_behind r at) rs m end
       → k < length rs → covers (range_of rs k) at ≡ true → ((i : ℕ) → i < k → covers (range_of rs i) at ≡ false) → writable ≡ eqb (label_for rs at) 1
       → Next m rs from (record { at = at; end = end; range = range_of rs k; writable = writable })
-  mixed_next end k writable run b here none w =
-      let bounds = covers_bounds (range_of rs k) at here in
-      let inside : at < m = omega (arith, bounds.1, within k b) in
+  mixed_least end k writable run b here none w =
+      let inside = named_within rs at m within (named_by rs at k b here) in
       let g = found.is inside in
-      record {
-        low = (lowest_some (range_of rs g.0) from at g.2).0;
-        none = before;
-        some = by_le m end (λ u. omega arith) (λ u. let t = run.is u in (turn_some (range_of rs t.0) at end t.2).0);
-        high = run.high;
-        asks = λ c x y.
-            asks_alike c at rs _ _ _ (λ i h. turn_alike (range_of rs i) at end (λ v q. run.below i v h q) c x y)
-            (record {
-              named = named_by rs at k b here;
-              kind = kind_by rs at k b none here;
-              rule = rule_by rs at k b none here;
-              label = label_bit (label_for rs at) writable (label_low at rs) w;
-            });
-      }
+      mixed_next m rs from at end k writable
+      (record { low = (lowest_some (range_of rs g.0) from at g.2).0; high = found.high; none = before; some = λ _. named_by rs at k b here })
+      inside (
+        by_le m end (λ u. omega arith) (λ u. let t = run.is u in (turn_some (range_of rs t.0) at end t.2).0),
+        run.high,
+        λ i h. turn_alike (range_of rs i) at end (λ v q. run.below i v h q),
+      )
+      (naming_make rs at k b here none) w

@@ -1,5 +1,5 @@
 -- A lent list of ranges in the order of the cells, and the parts of memory that it falls into.
-use Rattle.std.specs.Prelude.{◌≡◌, ℕ, ◌+◌, ◌%◌, ◌<◌, ◌≤◌, max, Bool, true, false, cond, List, length, nat_lt, slice_index, slice_index_or, Option, None, Some}
+use Rattle.std.specs.Prelude.{◌≡◌, ℕ, ◌+◌, ◌%◌, ◌<◌, ◌≤◌, max, Bool, true, false, cond, List, length, take, nat_lt, slice_index, slice_index_or, Option, None, Some}
 use Rattle.ranges.specs.declared.Range.{Range}
 use Rattle.ranges.specs.declared.segments.Segment.{Segment}
 use Rattle.ranges.specs.Ranges.{covers, named, kind_for, rule_for, label_for, max_ranges}
@@ -35,7 +35,8 @@ number_by order k = slice_index order k % max_ranges
 -- the first n keys name n ranges, and all of them: what is so of each that a key names is so of all n
 abbrev pub Orders : ℕ → List ℕ → Type 0
 Orders n order =
-    ((k : ℕ) → k < n → number_by order k < n)
+    (n ≤ length order)
+    × ((k : ℕ) → k < n → number_by order k < n)
     × ((p : ℕ → Bool) → ((k : ℕ) → k < n → p (number_by order k) ≡ true) → (i : ℕ) → i < n → p i ≡ true)
 
 -- so ordered, every range ends before the next one begins: of the first n, and of all
@@ -51,9 +52,9 @@ Passed rs order k c =
     ((i : ℕ) → i < k → i < length rs → range_end (range_of rs (number_by order i)) ≤ c)
     × ((i : ℕ) → k ≤ i → i < length rs → c ≤ (range_of rs (number_by order i)).first)
 
--- the keys name all ranges of a list, which so ordered rises and of which so many are passed
+-- the first keys name all ranges of a list, which so ordered rises and of which so many are passed
 abbrev pub RisesFrom : List Range → List ℕ → (k c : ℕ) → Type 0
-RisesFrom rs order k c = (length order ≡ length rs) × Orders (length rs) order × RisingBy rs order × Passed rs order k c
+RisesFrom rs order k c = Orders (length rs) order × RisingBy rs order × Passed rs order k c
 
 -- ---- segments
 
@@ -70,6 +71,19 @@ pub record LeastOf (h : Range → Option ℕ) (rs : List Range) (a m : ℕ) : Ty
   pub high : m ≤ a
   pub below : (i y : ℕ) → i < length rs → h (range_of rs i) ≡ Some y → m ≤ y
   pub is : m < a → (i : ℕ) × (i < length rs) × (h (range_of rs i) ≡ Some m)
+
+-- x is the lowest cell from cell `from` of m on that the list names, or m
+pub record NextNamed (m : ℕ) (rs : List Range) (from x : ℕ) : Type 0 where
+  pub low : from ≤ x
+  pub high : x ≤ m
+  pub none : (c : ℕ) → from ≤ c → c < x → named rs c ≡ false
+  pub some : x < m → named rs x ≡ true
+
+-- the first range that names cell c is the k-th, or k is how many there are
+pub record FirstNaming (rs : List Range) (c k : ℕ) : Type 0 where
+  pub high : k ≤ length rs
+  pub none : named (take k rs) c ≡ false
+  pub some : k < length rs → covers (range_of rs k) c ≡ true
 
 -- a range names each of the cells from `at` to before `end`, or none of them
 abbrev pub AllOrNone : Range → ℕ → ℕ → Type 0

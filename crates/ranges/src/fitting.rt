@@ -1,6 +1,5 @@
 // A list of ranges that an add may take.
 ghost use Rattle.std.specs.Prelude.{◌≤◌, length};
-ghost use Rattle.words.specs.Layout.{max_cells};
 ghost use Rattle.ranges.specs.Ranges.{max_ranges};
 ghost use Rattle.ranges.specs.Lists.{Within, NoneEmpty};
 
@@ -12,7 +11,6 @@ pub struct Fitting<'a> {
     pub ranges: &'a [Range],
     pub cells: usize,
     ghost few: { length ranges.now ≤ max_ranges },
-    ghost small: { cells ≤ max_cells },
     ghost within: { Within cells ranges.now },
     ghost filled: { NoneEmpty ranges.now },
 }

@@ -1,5 +1,5 @@
 // What a lent list of ranges asks, read off its ranges where they stand.
-ghost use Rattle.std.specs.Prelude.{◌≡◌, ℕ, ◌<◌, true, false, length, take, EachIndex, MatchOption, eqb};
+ghost use Rattle.std.specs.Prelude.{◌≡◌, ℕ, ◌<◌, ◌≤◌, true, false, length, take, EachIndex, MatchOption, eqb};
 ghost use Rattle.ranges.specs.Ranges.{covers, named, label_for};
 ghost use Rattle.ranges.specs.Lists.{range_end, range_of, Apart};
 
@@ -61,11 +61,12 @@ fn last_met(list: &[Range], range: &Range) -> Option<usize>
     list.iter().rposition(|r| r.meets(range))
 }
 
-// Those of the ranges before the i-th that must be asked whether they name one of its cells: up to the last that shares one with it. In most
-// lists none does, and then no cell of it needs to be asked about. More than needed costs time alone.
+// Those of the ranges before the i-th that must be asked whether they name one of its cells: the first ones, up to the last that shares one with
+// it. In most lists none does, and then no cell of it needs to be asked about. More than needed costs time alone.
 pub fn earlier(list: &[Range], i: usize) -> &[Range]
     requires { i < length list.now }
-    ensures { (c : ℕ) → covers (range_of list.now i) c ≡ true → named result.now c ≡ named (take i list.now) c }
+    ensures first { (length result.now ≤ i) × (result.now ≡ take (length result.now) list.now) }
+    ensures asked { (c : ℕ) → covers (range_of list.now i) c ≡ true → named result.now c ≡ named (take i list.now) c }
 {
     match last_met(&list[..i], &list[i]) {
         Some(k) => &list[..k + 1],

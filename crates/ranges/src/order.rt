@@ -2,9 +2,8 @@
 ghost use Rattle.std.specs.Prelude.{◌≡◌, ℕ, ◌+◌, ◌%◌, ◌<◌, ◌≤◌, true, length};
 ghost use Rattle.words.specs.Layout.{max_cells};
 ghost use Rattle.ranges.specs.Ranges.{max_ranges};
-ghost use Rattle.ranges.specs.Lists.{Orders, RisingBy};
+ghost use Rattle.ranges.specs.Lists.{Within, Orders, RisingBy};
 
-use crate::fitting::Fitting;
 use crate::{MAX_RANGES, Range};
 
 // What a range is ordered by: its first cell, then its number, which the key so names.
@@ -23,25 +22,26 @@ pub(crate) fn number_of(key: u32) -> usize
 }
 
 // The keys of a list in the order of the cells. Only that they name every range is promised; whether the ranges so ordered rise is asked below.
-pub fn order_of(list: &Fitting) -> [u32; MAX_RANGES]
-    ensures { Orders (length list.now.ranges.now) result }
+pub fn order_of(list: &[Range]) -> [u32; MAX_RANGES]
+    requires { (length list.now ≤ max_ranges) × Within max_cells list.now }
+    ensures { Orders (length list.now) result }
 {
     let mut keys = [0u32; MAX_RANGES];
-    for (i, range) in list.ranges.iter().enumerate() {
+    for (i, range) in list.iter().enumerate() {
         keys[i] = key_of(range, i);
     }
-    keys[..list.ranges.len()].sort_unstable();
+    keys[..list.len()].sort_unstable();
     keys
 }
 
 // Does, in this order, each range end before the next one begins? A no costs time alone, so nothing is promised of it.
-pub(crate) fn is_rising(list: &Fitting, order: &[u32]) -> bool
-    requires { Orders (length list.now.ranges.now) order.now × (length order.now ≡ length list.now.ranges.now) }
-    ensures { result ≡ true → RisingBy list.now.ranges.now order.now }
+pub fn is_rising(list: &[Range], order: &[u32]) -> bool
+    requires { Orders (length list.now) order.now }
+    ensures { result ≡ true → RisingBy list.now order.now }
 {
     let mut end = 0;
-    for key in order {
-        let range = &list.ranges[number_of(*key)];
+    for key in &order[..list.len()] {
+        let range = &list[number_of(*key)];
         if (range.first as usize) < end {
             return false;
         }

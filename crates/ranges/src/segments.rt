@@ -1,13 +1,13 @@
 // The segments of a list, one after the other in the order of the cells.
-ghost use Rattle.std.specs.Prelude.{◌≡◌, ℕ, ◌+◌, ◌<◌, ◌≤◌, true, false, length, EachIndex, MatchOption, IfSome};
+ghost use Rattle.std.specs.Prelude.{◌≡◌, ℕ, ◌+◌, ◌<◌, ◌≤◌, true, false, length, EachIndex, MatchOption, IfSome, None};
 ghost use Rattle.std.proofs.Props.{props};
 ghost use Rattle.ranges.specs.Ranges.{covers};
 ghost use Rattle.ranges.specs.Lists.{range_of, Orders, RisesFrom, lowest_from, turn_behind, LeastOf, Next, NoneLeft};
 
+use crate::Range;
 use crate::fitting::Fitting;
 use crate::list::is_writable;
 use crate::order::{is_rising, number_of};
-use crate::{MAX_RANGES, Range};
 
 // Cells from `at` to before `end`, for each of which the list asks the same: the kind and the rule of `range`, the first that names them, and
 // whether they may be written.
@@ -28,7 +28,6 @@ pub struct Segments<'a> {
     pub passed: usize,
     pub at: usize,
     ghost low: { at ≤ list.cells },
-    ghost counted: { passed ≤ at },
     ghost rising: { IfSome order (λ keys. RisesFrom list.ranges.now keys.now passed at) } by { Prim.hlevel props },
 }
 
@@ -79,11 +78,15 @@ fn run_end(list: &[Range], at: usize, cells: usize) -> usize
 
 // Of a list that rises in this order, and whose first ranges are passed: the next range.
 fn rising_segment(list: &Fitting, order: &[u32], passed: usize) -> Option<Segment>
-    requires { Orders (length list.now.ranges.now) order.now × (length order.now ≡ length list.now.ranges.now) }
+    requires { Orders (length list.now.ranges.now) order.now }
     ensures { (from : ℕ) → RisesFrom list.now.ranges.now order.now passed from → MatchOption result (NoneLeft list.now.ranges.now from)
-        (λ s. Next list.now.cells list.now.ranges.now from s × RisesFrom list.now.ranges.now order.now (passed + 1) s.end) }
+        (λ s. Next list.now.cells list.now.ranges.now from s × (passed < length list.now.ranges.now)
+        × RisesFrom list.now.ranges.now order.now (passed + 1) s.end) }
 {
-    let range = list.ranges[number_of(*order.get(passed)?)];
+    if list.ranges.len() <= passed {
+        return None;
+    }
+    let range = list.ranges[number_of(order[passed])];
     Some(Segment {
         at: range.first as usize,
         end: range.end(),
@@ -108,14 +111,13 @@ fn mixed_segment(list: &Fitting, from: usize) -> Option<Segment>
 
 impl<'a> Segments<'a> {
     // All segments of a list, of which this is the order.
-    pub fn of(list: Fitting<'a>, order: &'a [u32; MAX_RANGES]) -> Segments<'a>
+    pub fn of(list: Fitting<'a>, order: &'a [u32]) -> Segments<'a>
         requires { Orders (length list.ranges.now) order.now }
         ensures { (result.at ≡ 0) × (result.list ≡ list.entry) }
     {
-        let order = &order[..list.ranges.len()];
         Segments {
             list,
-            order: is_rising(&list, order).then_some(order),
+            order: is_rising(list.ranges, order).then_some(order),
             passed: 0,
             at: 0,
         }
@@ -124,7 +126,8 @@ impl<'a> Segments<'a> {
     // The segment ahead.
     fn ahead(&self) -> Option<Segment>
         ensures { MatchOption result (NoneLeft self.now.list.ranges.now self.now.at) (λ s. Next self.now.list.cells self.now.list.ranges.now self.now.at s
-            × IfSome self.now.order (λ keys. RisesFrom self.now.list.ranges.now keys.now (self.now.passed + 1) s.end)) }
+            × IfSome self.now.order (λ keys. (self.now.passed < length self.now.list.ranges.now)
+            × RisesFrom self.now.list.ranges.now keys.now (self.now.passed + 1) s.end)) }
     {
         match self.order {
             Some(order) => rising_segment(&self.list, order, self.passed),
@@ -137,9 +140,10 @@ impl<'a> Segments<'a> {
         ensures same { self.new.list ≡ self.old.list }
         ensures next { MatchOption result (NoneLeft self.old.list.ranges.now self.old.at)
             (λ s. Next self.old.list.cells self.old.list.ranges.now self.old.at s × (self.new.at ≡ s.end)) }
+        ensures stays { result ≡ None → self.new ≡ self.old }
     {
         let segment = self.ahead()?;
-        self.passed += 1;
+        self.passed = self.passed.saturating_add(1);
         self.at = segment.end;
         Some(segment)
     }

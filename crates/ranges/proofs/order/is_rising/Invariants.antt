@@ -5,6 +5,6 @@ use Rattle.ranges.proofs.order.is_rising.Given as goal
 
 abbrev pub invariant-loop-key : goal.invariant-loop-key
 invariant-loop-key l = record {
-  rising : RisingTo l.key-index l.list.ranges.now l.order;
-  ended : (i : ℕ) → i < l.key-index → range_end (range_of l.list.ranges.now (number_by l.order i)) ≤ l.end;
+  rising : RisingTo l.key-index l.list l.order;
+  ended : (i : ℕ) → i < l.key-index → range_end (range_of l.list (number_by l.order i)) ≤ l.end;
 }

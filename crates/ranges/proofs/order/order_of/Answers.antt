@@ -1,5 +1,4 @@
 use Rattle.std.proofs.Common.{ℕ, ◌%◌, length, ap, ◌∙◌, arith, rules, get_or-set_other, get_or-set_same, below_more}
-use Rattle.std.proofs.lemmas.List.{length-take-le}
 use Rattle.ranges.proofs.Orders.{orders_keys, orders_sorted}
 use Rattle.ranges.proofs.order.order_of.Goals as goal
 
@@ -17,7 +16,7 @@ loop-i-preserved c =
 
 pub returns : goal.returns
 returns c =
-    let n = length c.args.list.now.ranges.now in
+    let n = length c.args.list.now in
     let s = c.loop-i.keys in
-    orders_sorted n s c.sort_unstable.new.self _ (omega arith) (c.sort_unstable.ensures.len ∙ length-take-le n s (omega arith)) c.sort_unstable.ensures.permutation
-    (orders_keys n s (λ k l. c.loop-i.invariant.named k (omega arith)))
+    orders_sorted n _ s c.sort_unstable.new.self _ (omega arith) c.sort_unstable.ensures.len c.sort_unstable.ensures.permutation
+    (orders_keys n s (omega (arith, c.requires.0)) (λ k l. c.loop-i.invariant.named k (omega arith)))

@@ -3,7 +3,7 @@ use Rattle.ranges.proofs.Parts.{rising_ahead}
 use Rattle.ranges.proofs.segments.Segments.ahead.Goals as goal
 
 pub rising_segment-requires : goal.rising_segment-requires
-rising_segment-requires c = let h = rw c.in-Some.is at c.args.self.now.rising in (h.1, h.0)
+rising_segment-requires c = let h = rw c.in-Some.is at c.args.self.now.rising in h.0
 
 pub returns-in-Some : goal.returns-in-Some
 returns-in-Some c =
