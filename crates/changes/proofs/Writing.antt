@@ -14,9 +14,10 @@ use Rattle.words.proofs.Gather.{each_gather, pairs_more}
 use Rattle.words.proofs.Phases.{journal_ready, journal_steps_lem, journal_whole, steps_small}
 use Rattle.table.specs.Changes.{Change, keep, put, entry_stores, entry_changes}
 use Rattle.table.proofs.Entries.{upto_few}
-use Rattle.changes.specs.Head.{word_store}
+use Rattle.changes.specs.declared.head_words.Head.{Head}
+use Rattle.changes.specs.Head.{word_store, head_stores}
 use Rattle.std.specs.Prelude.{map}
-use Rattle.std.proofs.lemmas.List.{length-map, length-take-le, take_more, map-append}
+use Rattle.std.proofs.lemmas.List.{length-map, length-take-le, get_or-take, take_more, map-append}
 use Rattle.changes.specs.Staged.{head_room, Journaled}
 
 -- ---- the head
@@ -71,6 +72,15 @@ pub record Heads (e p : ℕ) (hs : List Store) : Type 0 where
 pub heads : (e p : ℕ) (words : List (ℕ × ℕ)) → p ≡ length words → p ≤ head_room
     → ((j : ℕ) → j < length words → (get_or words j (0, 0)).0 < handle_at max_live) → Heads e p (map word_store words)
 heads e p words number few low = record { number = number ∙ sym (length-map words word_store); few = few; low = words_below e words low }
+
+-- and those of a head
+pub heads_of : (e : ℕ) (head : Head) → Heads e head.count (head_stores head)
+heads_of e head =
+    let number : head.count ≡ length (take head.count head.words) = sym (length-take-le head.count head.words (omega (arith, head.few, head.long))) in
+    heads e head.count (take head.count head.words) number head.few
+    (λ j l.
+    let b : j < head.count = omega (arith, number) in
+    rw (get_or-take head.count head.words j (0, 0) b) (head.low j b))
 
 module _ {e p : ℕ} {hs : List Store} (h : Heads e p hs) (f : ℕ → Change) (n : ℕ) (counted : n ≡ length (entry_changes e f)) where
   both_number : p + n ≡ length (hs ++ entry_changes e f)

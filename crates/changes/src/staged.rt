@@ -2,7 +2,7 @@
 ghost use Rattle.std.specs.Prelude.{◌≡◌, true, ℕ, ◌+◌, ◌*◌, ◌≤◌, ◌<◌, Option, length};
 ghost use Rattle.words.specs.Layout.{max_slots, group_size, group_at};
 ghost use Rattle.table.specs.Changes.{Change, put};
-ghost use Rattle.changes.specs.Staged.{change_of, Tells, Restaged, Stages};
+ghost use Rattle.changes.specs.Staged.{with_bit, with_words, change_of, Tells, Restaged, Stages};
 
 use words::layout::GROUP_SIZE;
 
@@ -14,6 +14,43 @@ pub const FEW_BITS: usize = 4;
 pub const MANY_WORDS: usize = 8192;
 
 pub const MANY_BITS: usize = 64;
+
+// A word of bits with bit j set too, if it is to be. It takes no branch.
+pub fn with_bit(bits: u64, j: usize, changed: bool) -> u64
+    requires { j < group_size }
+    ensures { result ≡ with_bit changed j bits }
+{
+    if changed {
+        return bits | (1u64 << j);
+    }
+    bits
+}
+
+// Stages two new words for entry i, but not its bit.
+pub fn stage_words(words: &mut [u32], i: usize, first: u32, second: u32)
+    requires { 2 * i + 1 < length words.old }
+    ensures { words.new ≡ with_words (put first second) i words.old }
+{
+    words[2 * i] = first;
+    words[2 * i + 1] = second;
+}
+
+// Stages two new words for entry i, in place of what was staged for it before.
+pub fn stage_entry(words: &mut [u32], changed: &mut [u64], i: usize, first: u32, second: u32)
+    requires { (2 * i + 1 < length words.old) × (i < group_at (length changed.old)) }
+    ensures { Restaged words.old changed.old i (put first second) words.new changed.new }
+{
+    stage_words(words, i, first, second);
+    changed[i / GROUP_SIZE] |= 1 << (i % GROUP_SIZE);
+}
+
+// What is staged of entries, lent to be read, whatever room there is: two words for each bit.
+#[derive(Clone, Copy)]
+pub struct Lent<'a> {
+    pub words: &'a [u32],
+    pub changed: &'a [u64],
+    ghost room: { 2 * group_at (length changed.now) ≤ length words.now },
+}
 
 // The new words of entry i stand at 2i and 2i + 1 of the words, and bit i says that they are there.
 #[derive(Drop)]
@@ -38,14 +75,22 @@ impl<const WORDS: usize, const BITS: usize> Staged<WORDS, BITS> {
         }
     }
 
+    // The words and the bits, lent to the writer.
+    pub fn lent(&self) -> Lent<'_>
+        ensures { (result.words.now ≡ self.now.words) × (result.changed.now ≡ self.now.changed) }
+    {
+        Lent {
+            words: &self.words,
+            changed: &self.changed,
+        }
+    }
+
     // Stages two new words for entry i, in place of what was staged for it before.
     pub fn stage_entry(&mut self, i: usize, first: u32, second: u32)
         requires { i < group_at BITS }
         ensures { Restaged self.old.words self.old.changed i (put first second) self.new.words self.new.changed }
     {
-        self.words[2 * i] = first;
-        self.words[2 * i + 1] = second;
-        self.changed[i / GROUP_SIZE] |= 1 << (i % GROUP_SIZE);
+        stage_entry(&mut self.words, &mut self.changed, i, first, second);
     }
 
     // Stages what `change` says of the entries of group k below `end`. Their bits are gathered in a number that is stored once: each bit set in memory
@@ -59,8 +104,7 @@ impl<const WORDS: usize, const BITS: usize> Staged<WORDS, BITS> {
         let mut bits: u64 = 0;
         for i in GROUP_SIZE * k..end {
             if let Some((first, second)) = change(i) {
-                self.words[2 * i] = first;
-                self.words[2 * i + 1] = second;
+                stage_words(&mut self.words, i, first, second);
                 bits |= 1 << (i % GROUP_SIZE);
             }
         }

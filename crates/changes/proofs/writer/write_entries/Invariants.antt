@@ -9,8 +9,8 @@ use Rattle.changes.specs.Staged.{staged}
 use Rattle.changes.proofs.writer.write_entries.Given as goal
 
 abbrev pub invariant-loop-k : goal.invariant-loop-k
-invariant-loop-k g l = record {
+invariant-loop-k l = record {
   few : l.n ≤ 2 * l.slots;
-  counted : l.n ≡ length (gather (64 * l.k) (λ i. entry_stores l.slots i (staged l.staged.words l.staged.changed i)));
-  made : l.table ≡ stores (take l.budget (pair_plans l.at (gather (64 * l.k) (λ i. entry_stores l.slots i (staged l.staged.words l.staged.changed i))))) l.initial.table;
+  counted : l.n ≡ length (gather (64 * l.k) (λ i. entry_stores l.slots i (staged l.staged.words.now l.staged.changed.now i)));
+  made : l.table ≡ stores (take l.budget (pair_plans l.at (gather (64 * l.k) (λ i. entry_stores l.slots i (staged l.staged.words.now l.staged.changed.now i))))) l.initial.table;
 }

@@ -15,7 +15,7 @@ loop-i-preserved g c = λ f says stages.
     let i = c.loop-i.i in
     let room : 2 * i + 1 < length c.loop-i.self.words = omega arith in
     elim c.match-change.branch [
-      | in-Some w ↦ rw (w.self-is, w.bits-is) (gather_put w.in-Some.first w.in-Some.second so (says i (omega arith) _ w.in-Some.ensures) (omega arith) room)
+      | in-Some w ↦ rw (w.self-is, w.bits-is, w.stage_words.ensures) (gather_put w.in-Some.first w.in-Some.second so (says i (omega arith) _ w.in-Some.ensures) (omega arith) room)
       | in_default w ↦ rw (w.self-is, w.bits-is) (gather_kept so (says i (omega arith) _ w.in_default.ensures))
     ]
 
