@@ -1,10 +1,11 @@
 // The search for an entry by its depth and its cell.
 ghost use Rattle.std.specs.Prelude.{◌≡◌, ℕ, ◌+◌, ◌<◌, ◌≤◌, true, false, MatchOption};
 ghost use Rattle.table.specs.Entry.{word1, find_in};
+ghost use Rattle.table.specs.Marks.{CellsOnce};
 ghost use Rattle.search.specs.Search.{IsKey, named_by, Unnamed, Found};
 
 use crate::key::Key;
-use table::lent::{Entries, Sound};
+use table::lent::Entries;
 
 // The key of a depth and a cell; none where no word can hold them, so that none of these words is an entry of theirs.
 fn key_in(words: &[u32], depth: u32, cell: u32) -> Option<Key>
@@ -85,11 +86,11 @@ fn find_named(entries: &Entries<'_>, key: Key, from: usize, end: usize) -> Optio
 // and goes on from the front: no depth has a cell twice, so that it finds the same entry wherever it begins, and a good place only saves time. It
 // ends at the last entry in use. It is copied into the one search that calls it.
 #[inline(always)]
-pub fn find_entry(table: &Sound<'_>, depth: u32, cell: u32, begin: usize) -> Option<usize>
-    requires { 1 ≤ depth }
-    ensures { Found table.now.entries.slots (find_in table.now.entries.slots table.now.entries.words.now depth cell) result }
+pub fn find_entry(entries: &Entries<'_>, depth: u32, cell: u32, begin: usize) -> Option<usize>
+    requires depth { 1 ≤ depth }
+    requires once { CellsOnce entries.now.slots entries.now.words.now entries.now.slots }
+    ensures { Found entries.now.slots (find_in entries.now.slots entries.now.words.now depth cell) result }
 {
-    let entries = &table.entries;
     let key = key_in(entries.words, depth, cell)?;
     let start = start_at(entries.top, begin);
     if let Some(i) = find_named(entries, key, start, entries.top) {

@@ -1,12 +1,13 @@
 // The search inwards for the first holder of a cell, and the value behind it: its own, or for via parent the one at the end of the chain outwards.
 ghost use Rattle.std.specs.Prelude.{◌≡◌, ◌<◌, ◌≤◌};
 ghost use Rattle.table.specs.Entry.{word1, word2, depth_of, cell_of};
+ghost use Rattle.table.specs.Marks.{CellsOnce};
 ghost use Rattle.search.specs.Search.{HasSource, source_in, Found};
 ghost use Rattle.search.specs.Holders.{holder_in, value_of, value_from};
 
 use crate::entries::{find_entry, pass_over, start_at};
 use crate::key::Key;
-use crate::notes::Notes;
+use crate::notes::Noted;
 use table::domains::parent_of;
 use table::fields::{cell_of, depth_of, is_pattern, is_via};
 use table::lent::{Entries, Sound};
@@ -67,17 +68,12 @@ pub fn find_holder(table: &Sound<'_>, from: u32, cell: u32, begin: usize) -> Opt
 
 // The entry of the copy or the rule behind the cell held at this depth: outwards past the via parent entries. The notes of places to begin at may
 // be wrong.
-pub fn find_source<const N: usize>(
-    table: &Sound<'_>,
-    depth: u32,
-    cell: u32,
-    notes: &Notes<N>,
-) -> Option<usize>
-    ensures { Found table.now.entries.slots (source_in table.now.entries.slots table.now.entries.words.now depth cell) result }
+pub fn find_source(entries: &Entries<'_>, depth: u32, cell: u32, notes: Noted<'_>) -> Option<usize>
+    requires { CellsOnce entries.now.slots entries.now.words.now entries.now.slots }
+    ensures { Found entries.now.slots (source_in entries.now.slots entries.now.words.now depth cell) result }
 {
-    let entries = &table.entries;
     for d in (1..=depth).rev() {
-        let i = find_entry(table, d, cell, notes.begin_at(entries, d, cell))?;
+        let i = find_entry(entries, d, cell, notes.begin_at(entries, d, cell))?;
         if !is_via(entries.first_word(i)) {
             return Some(i);
         }
@@ -88,7 +84,7 @@ pub fn find_source<const N: usize>(
 // The entry that has the value of entry i, which is in use: itself, or for via parent the one at the end of the chain outwards. It is copied into
 // its callers, since mostly there is nothing to search for.
 #[inline(always)]
-pub fn source_of<const N: usize>(table: &Sound<'_>, i: usize, notes: &Notes<N>) -> Option<usize>
+pub fn source_of(table: &Sound<'_>, i: usize, notes: Noted<'_>) -> Option<usize>
     requires slot { i < table.now.entries.slots }
     requires used { 1 ≤ depth_of (word1 table.now.entries.slots table.now.entries.words.now i) }
     ensures { let w = word1 table.now.entries.slots table.now.entries.words.now i in
@@ -99,7 +95,7 @@ pub fn source_of<const N: usize>(table: &Sound<'_>, i: usize, notes: &Notes<N>) 
         return Some(i);
     }
     find_source(
-        table,
+        &table.entries,
         parent_of(depth_of(word)),
         cell_of(word) as u32,
         notes,
@@ -120,12 +116,7 @@ pub fn value_at(entries: &Entries<'_>, i: usize) -> Value
 }
 
 // What the first holder of a cell, from this depth to the innermost, has of it; with notes of places to begin at.
-pub fn find_value<const N: usize>(
-    table: &Sound<'_>,
-    from: u32,
-    cell: u32,
-    notes: &Notes<N>,
-) -> Option<Held>
+pub fn find_value(table: &Sound<'_>, from: u32, cell: u32, notes: Noted<'_>) -> Option<Held>
     requires depth { 1 ≤ from }
     requires source { HasSource table.now.entries.slots table.now.entries.words.now from cell }
     ensures { result ≡ value_from table.now.entries.slots table.now.entries.words.now from cell }

@@ -3,12 +3,12 @@ ghost use Rattle.std.specs.Prelude.{◌≡◌, ◌/◌, ◌^◌, ◌≤◌};
 ghost use Rattle.words.specs.Layout.{max_live};
 ghost use Rattle.table.specs.Entry.{depth_of};
 ghost use Rattle.marks.specs.Blocks.{Kept};
-ghost use Rattle.table.specs.Marks.{mark_at, Marked};
+ghost use Rattle.table.specs.Marks.{mark_at, Marked, CellsOnce};
 ghost use Rattle.search.specs.Writable.{taken_by, KeepsCell, TellWritable};
 
 use marks::{change_mark, mark_of};
 use table::fields::{cell_of, depth_of, writable_of};
-use table::lent::Sound;
+use table::lent::Entries;
 
 // What an entry of this depth takes out of its cell's mark: the depth's bit if the entry is read-only, else nothing. The product takes no
 // branch, where mixed labels would be guessed wrong.
@@ -35,12 +35,12 @@ pub fn keep_entry(seen: &mut [u8], word: u32, depth: u32)
 
 // Takes this depth out of the mark of each cell that the domain at this depth holds read-only, so that the marks tell of this depth which
 // cells it holds read-write.
-pub fn keep_writable(table: &Sound<'_>, depth: u32, seen: &mut [u8])
+pub fn keep_writable(entries: &Entries<'_>, depth: u32, seen: &mut [u8])
     requires depth { (1 ≤ depth) × (depth ≤ max_live) }
-    requires marked { Kept seen.old × Marked table.now.entries.slots table.now.entries.words.now table.now.entries.slots seen.old }
-    ensures { TellWritable table.now.entries.slots table.now.entries.words.now depth seen.old seen.new }
+    requires marked { Kept seen.old × Marked entries.now.slots entries.now.words.now entries.now.slots seen.old }
+    requires once { CellsOnce entries.now.slots entries.now.words.now entries.now.slots }
+    ensures { TellWritable entries.now.slots entries.now.words.now depth seen.old seen.new }
 {
-    let entries = &table.entries;
     for i in 0..entries.top {
         keep_entry(seen, entries.first_word(i), depth);
     }

@@ -9,7 +9,7 @@ ghost use Rattle.values.specs.Values.{unchanged, writes, entry_changed};
 
 use patterns::pattern_bytes;
 use search::holders::{Value, source_of, value_at};
-use search::notes::Notes;
+use search::notes::Noted;
 use table::fields::{cell_of, depth_of, is_writable};
 use table::lent::Sound;
 use words::same_cell;
@@ -27,13 +27,7 @@ fn has_own(memory: &[u8], cell: usize, bodies: &[u8], value: Value) -> bool
 }
 
 // Has memory the value of the cell of entry i, which is in use?
-fn is_unchanged<const N: usize>(
-    memory: &[u8],
-    bodies: &[u8],
-    table: &Sound<'_>,
-    i: usize,
-    notes: &Notes<N>,
-) -> bool
+fn is_unchanged(memory: &[u8], bodies: &[u8], table: &Sound<'_>, i: usize, notes: Noted<'_>) -> bool
     requires slot { i < table.now.entries.slots }
     requires used { 1 ≤ depth_of (word1 table.now.entries.slots table.now.entries.words.now i) }
     requires rule { rule_ok (cells_of (length memory.now)) table.now.entries.slots (bodies_of (length bodies.now)) table.now.entries.words.now ≡ true }
@@ -56,13 +50,13 @@ pub fn writes_word(word: u32, depth: u32) -> bool
 }
 
 // Is entry i a read-write one of this depth, and has memory other bytes than its value?
-pub fn entry_changed<const N: usize>(
+pub fn entry_changed(
     memory: &[u8],
     bodies: &[u8],
     table: &Sound<'_>,
     depth: u32,
     i: usize,
-    notes: &Notes<N>,
+    notes: Noted<'_>,
 ) -> bool
     requires sizes { (i < table.now.entries.slots) × (1 ≤ depth) }
     requires rule { rule_ok (cells_of (length memory.now)) table.now.entries.slots (bodies_of (length bodies.now)) table.now.entries.words.now ≡ true }

@@ -4,12 +4,12 @@ use Rattle.search.proofs.Holding.{no_holder, holder_slot, holder_used, chain_end
 use Rattle.search.proofs.holders.find_value.Goals as goal
 
 pub returns-in_err-holder : goal.returns-in_err-holder
-returns-in_err-holder g c =
+returns-in_err-holder c =
     let e = c.args.table.now.entries in
     c.from_residual.ensures ∙ sym (no_holder e.slots e.words.now c.args.from c.args.cell (sym c.in_err-holder.ensures))
 
 pub source_of-requires : goal.source_of-requires
-source_of-requires g c =
+source_of-requires c =
     let e = c.args.table.now.entries in
     let h = c.in_ok-holder.holder in
     let slot : h.entry < e.slots = holder_slot e.slots e.words.now c.args.from c.args.cell h (sym c.in_ok-holder.ensures) in
@@ -17,12 +17,12 @@ source_of-requires g c =
     search rules
 
 pub returns-in_err-source : goal.returns-in_err-source
-returns-in_err-source g c =
+returns-in_err-source c =
     let e = c.args.table.now.entries in
     absurd (chain_ends e.slots e.words.now c.args.from c.args.cell _ (sym c.in_ok-holder.ensures) c.requires.source c.in_err-source.ensures)
 
 pub returns : goal.returns
-returns g c =
+returns c =
     let e = c.args.table.now.entries in
     rw c.value_at.ensures
     (sym (value_there e.slots e.words.now c.args.from c.args.cell _ (sym c.in_ok-holder.ensures) _ c.in_ok-source.ensures.1))

@@ -6,7 +6,7 @@ use Rattle.search.proofs.Value.{source_own_at, source_via_at}
 use Rattle.search.proofs.holders.source_of.Goals as goal
 
 pub returns-then-not-is_via : goal.returns-then-not-is_via
-returns-then-not-is_via g c =
+returns-then-not-is_via c =
     let t = c.args.table.now in
     let e = t.entries in
     let w = word1 e.slots e.words.now c.args.i in (
@@ -16,7 +16,7 @@ returns-then-not-is_via g c =
     )
 
 pub returns : goal.returns
-returns g c =
+returns c =
     let t = c.args.table.now in
     let e = t.entries in
     let w = word1 e.slots e.words.now c.args.i in
