@@ -4,7 +4,7 @@
 // compare each entry with each; it passes over them again only to ask via parent entries for their parent. Entries that follow a rule are marked
 // after that, in a pass of their own, since via parent never rests on one. The caller lends the room for marks and has the marks afterwards.
 // While pairs are pending it looks at a copy in which they are in place.
-ghost use Rattle.std.specs.Prelude.{◌≡◌, true, false, not, ℕ, ◌+◌, ◌<◌, ◌≤◌, length, MatchOption};
+ghost use Rattle.std.specs.Prelude.{◌≡◌, true, false, not, ℕ, ◌+◌, ◌<◌, ◌≤◌, length, get_or, MatchOption};
 ghost use Rattle.words.specs.Layout.{pairs_at, table_words, max_bodies, max_cells, max_live, handle_at, group_of};
 ghost use Rattle.words.specs.Scan.{all};
 ghost use Rattle.words.specs.Journal.{effective, pending};
@@ -189,9 +189,9 @@ fn pass_entry(
 
 // What the pass over the entries counted: how many are via parent, and how many follow a rule.
 #[derive(Clone, Copy, PartialEq, Eq, Debug)]
-struct Pass {
-    vias: usize,
-    rules: usize,
+pub struct Pass {
+    pub vias: usize,
+    pub rules: usize,
 }
 
 // Passes over all entries in use, up to the first that is not right, by itself or beside others, and marks their cells and bodies.
@@ -301,6 +301,16 @@ pub fn idle_ok(
 
 // ---- pending pairs
 
+// Copies the words in front of the pairs, one by one: the library's method for it would have the archive ask for one function more of C's.
+fn copy_words(words: &[u32], count: usize, copy: &mut [u32])
+    requires { (count ≤ length words.now) × (count ≤ length copy.old) }
+    ensures { (k : ℕ) → k < count → get_or copy.new k 0 ≡ get_or words.now k 0 }
+{
+    for i in 0..count {
+        copy[i] = words[i];
+    }
+}
+
 // The rule of the table that pending pairs mean: of a copy in which they are in place, with room for so many words.
 // It is taken into no other function, so that the frame with room for the copy is made where it begins.
 #[inline(never)]
@@ -319,7 +329,7 @@ fn pending_ok<const FRONT: usize>(
     let slots = table.slots;
     let first = pairs_at(slots);
     let mut copy = [0u32; FRONT];
-    copy[..first].copy_from_slice(&table.words[..first]);
+    copy_words(table.words, first, &mut copy);
     put_pairs(table.words, first, wide(table.words[PENDING_AT]), &mut copy);
     let meant = Entries {
         words: &copy,

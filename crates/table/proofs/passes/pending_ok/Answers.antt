@@ -1,6 +1,5 @@
 -- `table::passes::pending_ok` meets its contract. The copy agrees with the effective table in every word that the rule reads (proofs/Agree.antt). Assumes nothing.
-use Rattle.std.proofs.Common.{◌≡◌, ℕ, ◌<◌, length, get_or, sym, ap, ◌∙◌, arith, length-take, length-append, get_or-take}
-use Rattle.std.proofs.lemmas.List.{get_or_append_left, length-replicate}
+use Rattle.std.proofs.Common.{ℕ, get_or, sym, ap, ◌∙◌, arith}
 use Rattle.words.specs.Layout.{pairs_at}
 use Rattle.words.specs.Stores.{stores}
 use Rattle.words.specs.Journal.{pairs}
@@ -9,21 +8,16 @@ use Rattle.table.proofs.Pairs.{pairs_few, pairs_fine, effective_same}
 use Rattle.table.proofs.passes.pending_ok.Goals as goal
 
 pub put_pairs-requires-clause-sizes : goal.put_pairs-requires-clause-sizes
-put_pairs-requires-clause-sizes g c =
-    let long : length c.copy_from_slice.new.self ≡ c.pairs_at-first.result =
-    c.copy_from_slice.ensures.len ∙ simp (length-take, length-replicate) (omega (arith, c.requires.front.0, c.pairs_at-first.ensures)) in (
-      omega (arith, c.requires.pairs.0, c.pairs_at-first.ensures, c.wide.ensures, pairs_few c.args.table.now.slots c.args.table.now.words.now c.requires.pairs.1),
-      rw length-append (omega (arith, long)),
-    )
+put_pairs-requires-clause-sizes g c = (
+  omega (arith, c.requires.pairs.0, c.pairs_at-first.ensures, c.wide.ensures, pairs_few c.args.table.now.slots c.args.table.now.words.now c.requires.pairs.1),
+  omega (arith, c.requires.front.0, c.pairs_at-first.ensures),
+)
 
 pub put_pairs-requires-clause-pairs : goal.put_pairs-requires-clause-pairs
 put_pairs-requires-clause-pairs g c =
-    let e = c.args.table.now in
-    let copied = c.copy_from_slice.ensures.after in
-    let long : length c.copy_from_slice.new.self ≡ c.pairs_at-first.result =
-    c.copy_from_slice.ensures.len ∙ simp (length-take, length-replicate) (omega (arith, c.requires.front.0, c.pairs_at-first.ensures)) in (
+    let e = c.args.table.now in (
       (λ j l. rw c.pairs_at-first.ensures (pairs_fine e.slots e.words.now c.requires.pairs.1 j (rw c.wide.ensures at l)).0),
-      (λ k l. let low : k < length c.copy_from_slice.new.self = omega (arith, l, long) in rw (get_or_append_left, copied) (get_or-take c.pairs_at-first.result e.words.now k 0 l)),
+      c.copy_words.ensures,
     )
 
 pub returns : goal.returns
