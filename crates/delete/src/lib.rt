@@ -149,6 +149,8 @@ fn none_freed(entries: &Entries<'_>, cells: Cells, from: usize, end: usize) -> b
 // ---- the words
 
 // Frees the cells. Gives the steps uncut.
+// It is taken into no other function, so that its large frame is made where it begins, and not beside the marks, which no longer stand then.
+#[inline(never)]
 fn free_with<const WORDS: usize, const BITS: usize>(
     table: &mut [u32],
     slots: usize,
@@ -172,7 +174,7 @@ fn free_with<const WORDS: usize, const BITS: usize>(
         |from, end| none_freed(&entries, cells, from, end),
         |i| free_entry(&entries, cells, i),
     );
-    write_staged(table, slots, &Head::none(), &staged, budget)
+    write_staged(table, slots, &Head::none(), staged.lent(), budget)
 }
 
 // Frees the cells, and gives the steps uncut. The arrays are chosen by how far the entries in use reach, whatever the marks were, so that a
