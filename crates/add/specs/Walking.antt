@@ -38,10 +38,11 @@ new_to e t rs c = not (holds_in e t (innermost t) c) && not (named rs c)
 abbrev pub fresh_to : List ℕ → ℕ → List Range → ℕ → Bool
 fresh_to held d rs c = lacks held d c && not (named rs c)
 
--- ---- a range taken out of the list, and those of the ranges before it that need be asked
+-- ---- a range taken out of the list, and the first ones of the ranges before it, which alone need be asked
 
 pub record PartOf (rs : List Range) (i : ℕ) (p : Part) : Type 0 where
   pub range : p.range ≡ range_of rs i
+  pub seen : (length p.seen.now ≤ i) × (p.seen.now ≡ take (length p.seen.now) rs)
   pub same : (c : ℕ) → covers (range_of rs i) c ≡ true → named p.seen.now c ≡ named (take i rs) c
 
 -- ---- the questions, `new` telling which cells are new

@@ -189,7 +189,7 @@ impl<'a, 't> Taking<'a, 't> {
         ensures steps { (result ≡ length (bytes_of self.now.memory.now bodies.old (words_lent self.now) (ranges_lent self.now)))
             × (result ≤ cell_size * cells_of (length self.now.memory.now)) }
     {
-        let order = order_of(&self.list);
+        let order = order_of(self.list.ranges);
         let mut segments = Segments::of(self.list, &order);
         let mut walk = Cursors::START;
         while let Some(part) = segments.next_segment() {

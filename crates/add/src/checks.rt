@@ -125,7 +125,7 @@ impl<'a> Asking<'a> {
         ensures { result ≡ cell_told self.now.memory.now self.now.bodies.now (slots_in self.now) (table_of self.now) (depth_in self.now) (λ c. true) cell }
     {
         let depth = parent_of(self.depth());
-        let Some(source) = find_source(&self.table, depth, cell as u32, notes) else {
+        let Some(source) = find_source(&self.table.entries, depth, cell as u32, notes.lent()) else {
             unreachable!()
         };
         match value_at(&self.table.entries, source) {

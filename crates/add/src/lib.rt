@@ -38,8 +38,10 @@ use asked::Asking;
 use changes::head_words::Head;
 use changes::staged::{FEW_BITS, FEW_WORDS, MANY_BITS, MANY_WORDS, Staged};
 use changes::writer::write_staged;
-use checks::New;
+pub use checks::New;
+pub use cursors::Cursors;
 use marks::{FEW_BLOCKS, FEW_BYTES, MANY_BYTES, SOME_BLOCKS, SOME_BYTES, blocks_wanted};
+pub use part::Part;
 use ranges::fitting::Fitting;
 use ranges::{Batch, MAX_RANGES, Range};
 use store::answers::{Answer, Refusal};
@@ -50,6 +52,9 @@ use taking::Taking;
 use words::layout::{MAX_BODIES, cells_of, slots_of};
 
 // ---- the questions
+
+// What the questions tell: the first no, or how many cells are newly held and how many of them by copy.
+pub type Tally = Result<New, Refusal>;
 
 // All the questions put to add; the entries from `top` on are free. Where no question refuses it, the marks are those of all entries.
 #[tactic(auto, using(store::proofs::Refused::asking))]
@@ -62,7 +67,7 @@ fn add_check(
     used: &mut [u8],
     handle: u32,
     list: &[Range],
-) -> Result<New, Refusal>
+) -> Tally
     requires { RoomForMarks table.now (cells_of (length memory.now)) top seen.old used.old }
     ensures no { number_in result ≡ add_check (buffers memory.now bodies.now table.now) handle list.now }
     ensures marks { OnOk result (AllMarked (slots_of (length table.now)) table.now seen.new used.new) }
@@ -128,7 +133,7 @@ fn write_with<'a, const WORDS: usize, const BITS: usize>(
     let bytes = taking.take_cells(bodies, &mut staged, budget);
     taking.raise_entries(&mut staged);
     let left = budget.saturating_sub(bytes);
-    bytes + write_staged(table, slots, &Head::none(), &staged, left)
+    bytes + write_staged(table, slots, &Head::none(), staged.lent(), left)
 }
 
 // All of add's stores, once no question refuses it, for so many new cells. Returns their number, uncut.

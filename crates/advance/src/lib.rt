@@ -13,7 +13,7 @@
 #![tactic(auto)]
 
 ghost use Rattle.std.specs.Prelude.{◌≡◌, true, cond, ℕ, ◌+◌, ◌*◌, ◌≤◌, ◌<◌, min, eqb, length, take, get_or, IfOk};
-ghost use Rattle.words.specs.Layout.{cell_at, cells_of, bodies_of, slots_of, max_slots, max_cells, max_bodies, max_live, cell_size, group_at, group_of, group_size};
+ghost use Rattle.words.specs.Layout.{cell_at, cells_of, bodies_of, slots_of, max_slots, max_cells, max_bodies, max_live, cell_size, group_at, group_of};
 ghost use Rattle.words.specs.Scan.{all, count, nth};
 ghost use Rattle.words.specs.Stores.{stores, gather};
 ghost use Rattle.words.specs.Cells.{cell_plan};
@@ -23,7 +23,7 @@ ghost use Rattle.table.specs.Marks.{Blank, CellsOnce, EndsAt, Reached, RoomForMa
 ghost use Rattle.table.specs.Changes.{keep, put};
 ghost use Rattle.search.specs.Free.{free_from, end_of, unmarked};
 ghost use Rattle.values.specs.Values.{entry_changed};
-ghost use Rattle.changes.specs.Staged.{with_bit, Inside, Restaged, Stages};
+ghost use Rattle.changes.specs.Staged.{Inside, Restaged, Stages};
 ghost use Rattle.store.specs.Answer.{number_in, report};
 ghost use Rattle.store.specs.Outcome.{buffers, Makes};
 ghost use Rattle.store.specs.Means.{Shows};
@@ -31,7 +31,7 @@ ghost use Rattle.advance.specs.Advance.{advances, turns as turnsBy, advance_chec
 ghost use Rattle.advance.specs.Notes.{entry_given, entries_check, lacks_it, gives_it, Comparable, by_group, has_bit, BlockBits, mark_turning, ChangedBits, Ready, Told, performed, Ends, list_slot, ListedSlots, InOrder, RoomForListed, change_to, Givable, GivenOne, GivenListed, Outwards};
 
 use changes::head_words::Head;
-use changes::staged::{FEW_BITS, FEW_WORDS, MANY_BITS, MANY_WORDS, Staged};
+use changes::staged::{FEW_BITS, FEW_WORDS, MANY_BITS, MANY_WORDS, Staged, with_bit};
 use changes::writer::write_staged;
 use marks::lent::Directory;
 use marks::{
@@ -51,17 +51,6 @@ use words::copy_cell;
 use words::layout::{CELL_SIZE, GROUP_SIZE, LIVE_AT, MAX_BODIES, bodies_of, cells_of, slots_of};
 
 // ---- the questions
-
-// A word with bit j set too, if it is to be. It takes no branch.
-fn with_bit(bits: u64, j: usize, set: bool) -> u64
-    requires { j < group_size }
-    ensures { result ≡ with_bit set j bits }
-{
-    if set {
-        return bits | (1u64 << j);
-    }
-    bits
-}
 
 // Sets the bit of an entry's cell where the entry advances, in the number of its group's block. Any other entry sets no bit: also a free one, whose
 // word names cell 0.
@@ -95,7 +84,7 @@ fn mark_changed<const N: usize>(
     notes.note(&table.entries);
     let mut n: usize = 0;
     for i in 0..table.entries.top {
-        let goes = entry_changed(memory, bodies, table, live, i, &notes);
+        let goes = entry_changed(memory, bodies, table, live, i, notes.lent());
         n += goes as usize;
         mark_turning(bits, seen, table.entries.first_word(i), goes);
     }
@@ -469,7 +458,7 @@ fn store_listed<const WORDS: usize, const BITS: usize>(
     );
     give_listed(&entries, places, n, given, seen, &mut staged);
     let left = budget.saturating_sub(CELL_SIZE * n);
-    let steps = write_staged(table, slots, &Head::none(), &staged, left);
+    let steps = write_staged(table, slots, &Head::none(), staged.lent(), left);
     answer_of(CELL_SIZE * n + steps, 0, budget)
 }
 

@@ -69,7 +69,7 @@ fn tell_writable(table: &Sound<'_>, innermost: Innermost, seen: &mut [u8])
     if !is_inner(innermost.depth) {
         return;
     }
-    keep_writable(table, innermost.depth, seen);
+    keep_writable(&table.entries, innermost.depth, seen);
 }
 
 // ---- the words
@@ -112,7 +112,7 @@ fn end_with<const WORDS: usize, const BITS: usize>(
     };
     // No group is left out: that an entry stays is told by its first word as fast.
     staged.stage_below(entries.top, |_, _| false, |i| ending.commit_entry(i));
-    write_staged(table, slots, &commit_head(innermost), &staged, budget)
+    write_staged(table, slots, &commit_head(innermost), staged.lent(), budget)
 }
 
 // The same in arrays chosen by how far the entries in use reach, so that a large table of few entries clears no more than a small one. They are

@@ -63,7 +63,7 @@ fn find_place(table: &Sound<'_>, depth: u32, cell: u32) -> Place
     requires source { HasSource table.now.entries.slots table.now.entries.words.now depth cell }
     ensures { placed_at result ≡ place_in table.now.entries.slots table.now.entries.words.now depth cell }
 {
-    match find_value(table, depth, cell, &Notes::<1>::none()) {
+    match find_value(table, depth, cell, Notes::<1>::none().lent()) {
         None => Place::Memory(cell_at(cell as usize)),
         Some(held) => match held.value {
             Value::Body(body) => Place::Bodies(cell_at(body as usize)),

@@ -134,7 +134,12 @@ impl<'a, const N: usize> Holdings<'a, N> {
         if held == 0 {
             return 0;
         }
-        let Some(found) = find_value(self.table, first_depth(held), cell as u32, self.notes) else {
+        let Some(found) = find_value(
+            self.table,
+            first_depth(held),
+            cell as u32,
+            self.notes.lent(),
+        ) else {
             return 0;
         };
         put_value(found.value, self.bodies, memory, cell, budget);

@@ -93,7 +93,13 @@ fn end_with<const WORDS: usize, const BITS: usize>(
         |from, end| none_deeper(&entries, depth, from, end),
         |i| end_entry(&entries, depth, i),
     );
-    write_staged(table, slots, &head_where_end(depth, live), &staged, budget)
+    write_staged(
+        table,
+        slots,
+        &head_where_end(depth, live),
+        staged.lent(),
+        budget,
+    )
 }
 
 // Restore's part on the table, and its steps uncut. Where no domain ends, which is the usual case, nothing is staged, so the arrays for it are

@@ -5,7 +5,6 @@ use Rattle.marks.proofs.Blocks.{blank_zeros, kept_cells}
 use Rattle.table.specs.Marks.{zeros}
 use Rattle.table.proofs.Marks.{marked_holds}
 use Rattle.search.proofs.Free.{unmarked_free}
-use Rattle.store.proofs.Checks.{store_lengths}
 use Rattle.store.proofs.Checked.{checked_ends}
 use Rattle.store.proofs.Refused.{question_no, answer_refused}
 use Rattle.add.proofs.Readied.{add_ready}
@@ -35,8 +34,7 @@ invariant_of-fitting g c =
     let a = c.args in
     let good = sym c.in_ok-new.ensures.no in
     let f = list_facts a.memory.now a.bodies.now a.table.now a.handle a.list.now good in
-    let sizes = store_lengths _ _ a.table.now (add_ready a.memory.now a.bodies.now a.table.now a.handle a.list.now good).store in
-    record { few = f.1; small = omega (arith, c.cells_of.ensures, sizes.cells_high); within = rw c.cells_of.ensures f.2; filled = f.3 }
+    record { few = f.1; within = rw c.cells_of.ensures f.2; filled = f.3 }
 
 pub add_stores-steps-requires-clause-able : goal.add_stores-steps-requires-clause-able
 add_stores-steps-requires-clause-able g c =

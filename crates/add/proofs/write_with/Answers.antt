@@ -22,18 +22,18 @@ write_staged-requires g c =
     let f = store_lengths _ _ a.table.now c.requires.able.ready.store in
     let q = c.slots_of-slots.ensures in
     let st = c.raise_entries.ensures.of (cells_of (length a.memory.now)) (bodies_of (length a.bodies.now)) c.take_cells-bytes.ensures.staged in
-    (omega arith, ((omega (arith, q, f.slots_high), omega (arith, q, f.table_exact)), rw q (stages_inside st)))
+    record { small = (omega (arith, q, f.slots_high), omega (arith, q, f.table_exact)); inside = rw (q, c.lent.ensures.1) (stages_inside st) }
 
 pub returns-clause-steps : goal.returns-clause-steps
 returns-clause-steps g c =
     let a = c.args in
     let st = c.raise_entries.ensures.of (cells_of (length a.memory.now)) (bodies_of (length a.bodies.now)) c.take_cells-bytes.ensures.staged in
-    let j = rw (c.slots_of-slots.ensures, stages_words c.none.ensures.stored st, words_same a.memory.now a.bodies.now a.table.now a.held.now a.used.now a.list.ranges.now c.requires.able) at c.write_staged.ensures in
+    let j = rw (c.slots_of-slots.ensures, c.lent.ensures.0, c.lent.ensures.1, stages_words c.none.ensures.stored st, words_same a.memory.now a.bodies.now a.table.now a.held.now a.used.now a.list.ranges.now c.requires.able) at c.write_staged.ensures in
     stored_steps a.memory.now a.bodies.now a.table.now a.list.ranges.now _ c.take_cells-bytes.ensures.steps.0 _ _ _ j
 
 pub returns-clause-words : goal.returns-clause-words
 returns-clause-words g c =
     let a = c.args in
     let st = c.raise_entries.ensures.of (cells_of (length a.memory.now)) (bodies_of (length a.bodies.now)) c.take_cells-bytes.ensures.staged in
-    let j = rw (c.slots_of-slots.ensures, stages_words c.none.ensures.stored st, words_same a.memory.now a.bodies.now a.table.now a.held.now a.used.now a.list.ranges.now c.requires.able) at c.write_staged.ensures in
+    let j = rw (c.slots_of-slots.ensures, c.lent.ensures.0, c.lent.ensures.1, stages_words c.none.ensures.stored st, words_same a.memory.now a.bodies.now a.table.now a.held.now a.used.now a.list.ranges.now c.requires.able) at c.write_staged.ensures in
     stored_words a.memory.now a.bodies.now a.table.now a.list.ranges.now _ c.take_cells-bytes.ensures.steps.0 _ _ _ j a.budget c.saturating_sub-left.ensures

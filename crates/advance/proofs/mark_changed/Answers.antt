@@ -28,7 +28,7 @@ loop-i-init g c =
 pub entry_changed-goes-requires : goal.entry_changed-goes-requires
 entry_changed-goes-requires g c =
     let p = c.requires.comparable in
-    (omega arith, ((omega (arith, p.ends.0), p.low), p.right))
+    record { sizes = (omega (arith, p.ends.0), p.low); rule = p.right }
 
 pub overflow_add-n : goal.overflow_add-n
 overflow_add-n g c =

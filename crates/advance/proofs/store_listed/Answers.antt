@@ -69,7 +69,7 @@ write_staged-steps-requires g c =
     let out = outwards_kept a.memory.now a.bodies.now a.table.now a.used.now ready a.given a.seen.now _ _ (c.copy_listed.new.staged.wide ∙ sym (length-replicate {A = ℕ} _ 0)) c.requires.outwards in
     let stages = ready_given a.memory.now a.bodies.now a.table.now a.used.now ready a.n a.places.now c.requires.listed.0 c.requires.counted a.given a.seen.now _ _ _ _ out
     (rw q at c.give_listed.ensures) (rw q at c.copy_listed.ensures.staged) in
-    (omega (arith, c.requires.room.1, c.requires.room.2), ((omega (arith, q, f.slots_high), rw q f.table_exact), rw q (stages_inside stages)))
+    record { small = (omega (arith, q, f.slots_high), rw q f.table_exact); inside = rw (q, c.lent.ensures.1) (stages_inside stages) }
 
 pub returns : goal.returns
 unfolding zeros
@@ -80,6 +80,6 @@ returns g c =
     let out = outwards_kept a.memory.now a.bodies.now a.table.now a.used.now ready a.given a.seen.now _ _ (c.copy_listed.new.staged.wide ∙ sym (length-replicate {A = ℕ} _ 0)) c.requires.outwards in
     let stages = ready_given a.memory.now a.bodies.now a.table.now a.used.now ready a.n a.places.now c.requires.listed.0 c.requires.counted a.given a.seen.now _ _ _ _ out
     (rw q at c.give_listed.ensures) (rw q at c.copy_listed.ensures.staged) in
-    let written = rw (q, c.saturating_sub-left.ensures) at c.write_staged-steps.ensures in
+    let written = rw (q, c.saturating_sub-left.ensures, c.lent.ensures.0, c.lent.ensures.1) at c.write_staged-steps.ensures in
     ready_performed a.memory.now a.bodies.now a.table.now a.used.now ready a.n a.places.now c.requires.listed.0 a.budget _ _ _ _ _ _ _ c.requires.counted
     c.copy_listed.ensures.bytes stages c.none.ensures.stored written.made written.words c.answer_of.ensures

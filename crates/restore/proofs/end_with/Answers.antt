@@ -23,7 +23,7 @@ all_staged g c =
     (c.none-staged.ensures f)
 
 pub write_staged-requires : goal.write_staged-requires
-write_staged-requires g c = (omega arith, ((c.requires.sizes.0, c.requires.sizes.1), stages_inside (all_staged g (goal.at.write_staged-requires g c).After-stage_below)))
+write_staged-requires g c = record { small = (c.requires.sizes.0, c.requires.sizes.1); inside = rw c.lent.ensures.1 (stages_inside (all_staged g (goal.at.write_staged-requires g c).After-stage_below)) }
 
 pub returns : goal.returns
-returns g c = rw (stages_words c.head_where_end.ensures (all_staged g (goal.at.returns g c).After-stage_below)) at c.write_staged.ensures
+returns g c = rw (c.lent.ensures.0, c.lent.ensures.1, stages_words c.head_where_end.ensures (all_staged g (goal.at.returns g c).After-stage_below)) at c.write_staged.ensures

@@ -16,7 +16,7 @@ returns-in_err-kind-clause-no c =
     let rs = c.args.list.now in
     let p : Part = record { range = range_of rs c.loop-i.i; seen = c.earlier.result } in
     handed_on _ _ c.from_residual.ensures.1
-    ∙ passing_stop q.memory.now q.bodies.now (table_of q) q.held.now rs q.store q.inner q.told c.loop-i.i c.loop-i-test.true p (record { range = refl; same = c.earlier.ensures })
+    ∙ passing_stop q.memory.now q.bodies.now (table_of q) q.held.now rs q.store q.inner q.told c.loop-i.i c.loop-i-test.true p (record { range = refl; seen = c.earlier.ensures.first; same = c.earlier.ensures.asked })
     _ c.in_err-kind.ensures.no c.loop-i.cells c.loop-i.copies c.loop-i.invariant (question_no _)
 
 pub overflow_add-cells : goal.overflow_add-cells
@@ -24,7 +24,7 @@ overflow_add-cells c =
     let q = c.args.self.now in
     let rs = c.args.list.now in
     let p : Part = record { range = range_of rs c.loop-i.i; seen = c.earlier.result } in
-    let next = passing_more q.memory.now q.bodies.now (table_of q) q.held.now rs q.store q.inner q.told c.loop-i.i c.loop-i-test.true p (record { range = refl; same = c.earlier.ensures })
+    let next = passing_more q.memory.now q.bodies.now (table_of q) q.held.now rs q.store q.inner q.told c.loop-i.i c.loop-i-test.true p (record { range = refl; seen = c.earlier.ensures.first; same = c.earlier.ensures.asked })
     0 c.in_ok-kind.ensures.no c.loop-i.cells c.loop-i.copies c.count_new-more.result c.loop-i.invariant refl c.count_new-more.ensures (copies_of p.range.kind c.count_new-more.result) refl in
     omega (arith, (passing_few q.memory.now q.bodies.now (table_of q) q.held.now rs q.store _ _ _ next).0)
 
@@ -33,7 +33,7 @@ overflow_add-copies c =
     let q = c.args.self.now in
     let rs = c.args.list.now in
     let p : Part = record { range = range_of rs c.loop-i.i; seen = c.earlier.result } in
-    let next = passing_more q.memory.now q.bodies.now (table_of q) q.held.now rs q.store q.inner q.told c.loop-i.i c.loop-i-test.true p (record { range = refl; same = c.earlier.ensures })
+    let next = passing_more q.memory.now q.bodies.now (table_of q) q.held.now rs q.store q.inner q.told c.loop-i.i c.loop-i-test.true p (record { range = refl; seen = c.earlier.ensures.first; same = c.earlier.ensures.asked })
     0 c.in_ok-kind.ensures.no c.loop-i.cells c.loop-i.copies c.count_new-more.result c.loop-i.invariant refl c.count_new-more.ensures c.copies_of-taken.result (c.copies_of-taken.ensures ∙ ap (λ (k : ℕ). copies_of k c.count_new-more.result) c.in_ok-kind.ensures.kind.0) in
     omega (arith, (passing_few q.memory.now q.bodies.now (table_of q) q.held.now rs q.store _ _ _ next).1)
 
@@ -42,7 +42,7 @@ loop-i-preserved c =
     let q = c.args.self.now in
     let rs = c.args.list.now in
     let p : Part = record { range = range_of rs c.loop-i.i; seen = c.earlier.result } in
-    passing_more q.memory.now q.bodies.now (table_of q) q.held.now rs q.store q.inner q.told c.loop-i.i c.loop-i-test.true p (record { range = refl; same = c.earlier.ensures })
+    passing_more q.memory.now q.bodies.now (table_of q) q.held.now rs q.store q.inner q.told c.loop-i.i c.loop-i-test.true p (record { range = refl; seen = c.earlier.ensures.first; same = c.earlier.ensures.asked })
     0 c.in_ok-kind.ensures.no c.loop-i.cells c.loop-i.copies c.count_new-more.result c.loop-i.invariant refl c.count_new-more.ensures c.copies_of-taken.result (c.copies_of-taken.ensures ∙ ap (λ (k : ℕ). copies_of k c.count_new-more.result) c.in_ok-kind.ensures.kind.0)
 
 pub returns-clause-no : goal.returns-clause-no

@@ -2,10 +2,16 @@ use Rattle.std.proofs.Common.{ℕ, length, refl, sym, ◌∙◌, arith}
 use Rattle.words.specs.Layout.{cells_of}
 use Rattle.add.specs.Walking.{stand}
 use Rattle.add.specs.Took.{words_lent, ranges_lent}
+use Rattle.add.proofs.Lending.{small}
 use Rattle.add.proofs.Taken.{same_stands, skip_stands, start_stands, copied_none, copied_length, copied_join}
 use Rattle.add.proofs.Storing.{taken_all, bytes_made, bytes_stored}
 use Rattle.add.proofs.taking.Taking.take_cells.Invariants.{begins}
 use Rattle.add.proofs.taking.Taking.take_cells.Goals as goal
+
+pub order_of-order-requires : goal.order_of-order-requires
+order_of-order-requires g c =
+    let q = c.args.self.now in
+    (q.list.few, λ i l. omega (arith, q.list.within i l, q.cells, small _ _ _ _ _ _ q.able))
 
 pub loop-part-init : goal.loop-part-init
 loop-part-init g c =

@@ -15,6 +15,9 @@ entry_word-word-requires g c =
     let q = c.args.self.now in
     (omega (arith, deep _ _ _ _ _ _ q.able), omega (arith, c.requires.cell.0, small _ _ _ _ _ _ q.able))
 
+pub overflow_cast-cell : goal.overflow_cast-cell
+overflow_cast-cell g c = let q = c.args.self.now in omega (arith, c.requires.cell.0, small _ _ _ _ _ _ q.able)
+
 pub overflow_cast-body : goal.overflow_cast-body
 overflow_cast-body g c =
     let q = c.args.self.now in
