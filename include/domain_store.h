@@ -16,8 +16,8 @@
  * leave no store; and a restore that was cut and is found not made may leave memory mixed in the cells that it was putting back. After ds_open restore
  * the same domain again, or one around it: going back to a domain inside it promises nothing until then.
  *
- * Stack of a call at the largest sizes: ds_make 5 KB; ds_create, ds_list, ds_look 74 KB;
- * ds_open, ds_delete, ds_restore 107 KB; ds_add, ds_add_ranges, ds_commit 108 KB; ds_advance 127 KB.
+ * Stack of a call at the largest sizes: ds_make 5 KB; ds_create, ds_delete, ds_list, ds_look 74 KB;
+ * ds_open, ds_restore 107 KB; ds_add, ds_add_ranges, ds_commit 108 KB; ds_advance 127 KB.
  *
  * What the caller owes, and no proof can see:
  *

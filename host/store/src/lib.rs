@@ -186,8 +186,8 @@
 //! writes through [`Store::memory_mut`] may change a buffer of a store: for slices Rust sees to
 //! that, for a mapped file the program does.
 //!
-//! A call takes no heap. Stack of a call at the largest sizes, measured: make 5 KB; create, list,
-//! look 74 KB; open, delete, restore 107 KB; add, add_ranges, commit 108 KB; advance 127 KB.
+//! A call takes no heap. Stack of a call at the largest sizes, measured: make 5 KB; create, delete,
+//! list, look 74 KB; open, restore 107 KB; add, add_ranges, commit 108 KB; advance 127 KB.
 //! A thread of Rust has 2 MiB where nothing else is asked for.
 
 #![deny(missing_docs)]
