@@ -137,7 +137,7 @@ impl<'a> Segments<'a> {
 
     // The next cells that the list names, and what it asks for them.
     pub fn next_segment(&mut self) -> Option<Segment>
-        ensures same { self.new.list ≡ self.old.list }
+        ensures same { (self.new.list ≡ self.old.list) × (self.new.order ≡ self.old.order) }
         ensures next { MatchOption result (NoneLeft self.old.list.ranges.now self.old.at)
             (λ s. Next self.old.list.cells self.old.list.ranges.now self.old.at s × (self.new.at ≡ s.end)) }
         ensures stays { result ≡ None → self.new ≡ self.old }

@@ -49,7 +49,9 @@ pub fn writes_word(word: u32, depth: u32) -> bool
     (depth_of(word) == depth) & is_writable(word)
 }
 
-// Is entry i a read-write one of this depth, and has memory other bytes than its value?
+// Is entry i a read-write one of this depth, and has memory other bytes than its value? It is copied into its callers: most entries are told by their
+// first word, and a call for each would cost as much again.
+#[inline(always)]
 pub fn entry_changed(
     memory: &[u8],
     bodies: &[u8],

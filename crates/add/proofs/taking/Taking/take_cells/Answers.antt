@@ -53,7 +53,7 @@ loop-part-preserved g c =
     c.loop-part.bodies n.low refl n.none in
     let long = copied_length q.memory.now (words_lent q) (ranges_lent q) c.args.budget (stand c.in-Some.part.at c.loop-part.walk) (stand c.in-Some.part.end c.take_part-walk.result)
     c.loop-part.bodies c.take_part-walk.new.bodies y.copied in (
-      c.in-Some.ensures.same ∙ i.0,
+      c.in-Some.ensures.same.0 ∙ i.0,
       rw c.in-Some.ensures.next.1 y.stands,
       rw c.in-Some.ensures.next.1
           (copied_join q.memory.now (words_lent q) (ranges_lent q) c.args.budget (stand 0 begins) (stand c.in-Some.part.at c.loop-part.walk) (stand c.in-Some.part.end c.take_part-walk.result)
