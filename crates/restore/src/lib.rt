@@ -70,6 +70,8 @@ fn none_deeper(entries: &Entries<'_>, depth: u32, from: usize, end: usize) -> bo
 }
 
 // Ends the domains inside this depth. Gives the steps uncut.
+// It is taken into no other function, so that its large frame is made where it begins.
+#[inline(never)]
 fn end_with<const WORDS: usize, const BITS: usize>(
     table: &mut [u32],
     slots: usize,
