@@ -6,10 +6,13 @@ ghost use Rattle.table.specs.Marks.{FreeRun, Reaches};
 use crate::lent::Entries;
 use words::layout::{MAX_SLOTS, PENDING_AT, slots_of};
 
-// So many entries are asked at once between others, and then so many in the room to spare behind the last one in use.
+// So many entries are asked at once between others, and so many in a long run and in the room to spare behind the last one in use.
 const RUN: usize = 4;
 
 const LONG_RUN: usize = 16;
+
+// A run of fewer free entries is short, and asked by fours alone: sixteens would cost it more than they save.
+const SHORT: usize = 64;
 
 impl<'a> Entries<'a> {
     // Are the entries from i on, so many of them, free? All are asked, with no branch, so that the compiler can ask many words at once.
@@ -24,19 +27,30 @@ impl<'a> Entries<'a> {
         free
     }
 
-    // Passes over free entries from `from` on and before the top, four at a time.
-    fn past_free(&self, from: usize) -> usize
-        requires { from ≤ self.now.top }
+    // Passes over free entries from `from` on and before the top, so many at a time and so often at most.
+    fn past_free<const MANY: usize>(&self, from: usize, most: usize) -> usize
+        requires { (0 < MANY) × (from ≤ self.now.top) }
         ensures { (from ≤ result) × (result ≤ self.now.top) × FreeRun self.now.slots self.now.words.now from result }
     {
-        let runs = (self.top - from) / RUN;
+        let runs = ((self.top - from) / MANY).min(most);
         for k in 0..runs {
-            let at = from + RUN * k;
-            if !self.are_free::<RUN>(at) {
+            let at = from + MANY * k;
+            if !self.are_free::<MANY>(at) {
                 return at;
             }
         }
-        from + RUN * runs
+        from + MANY * runs
+    }
+
+    // Passes over the rest of a long run, by sixteens and then by fours. It is taken into no other function: there it would take registers from the
+    // pass over entries in use.
+    #[inline(never)]
+    fn past_long(&self, from: usize) -> usize
+        requires { from ≤ self.now.top }
+        ensures { (from ≤ result) × (result ≤ self.now.top) × FreeRun self.now.slots self.now.words.now from result }
+    {
+        let far = self.past_free::<LONG_RUN>(from, MAX_SLOTS);
+        self.past_free::<RUN>(far, MAX_SLOTS)
     }
 
     // The entry to pass next, from `from` on and before the top: that one where it is in use, which is asked first, since entries in use mostly
@@ -52,7 +66,12 @@ impl<'a> Entries<'a> {
         if self.first_word(from) != 0 {
             return Some(from);
         }
-        let next = self.past_free(from);
+        let near = self.past_free::<RUN>(from, SHORT / RUN);
+        let next = if near - from < SHORT {
+            near
+        } else {
+            self.past_long(near)
+        };
         if next == self.top { None } else { Some(next) }
     }
 

@@ -36,7 +36,7 @@ impl<'a> Entries<'a> {
 }
 
 // The entries of a table in which no depth has a cell twice and no more domains are live than there may be, which is so of every table that
-// question 4 lets pass: only in such a one is an entry searched for.
+// question 4 lets pass.
 #[derive(Clone, Copy)]
 pub struct Sound<'a> {
     pub entries: Entries<'a>,

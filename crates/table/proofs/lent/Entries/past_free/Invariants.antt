@@ -4,4 +4,4 @@ use Rattle.table.specs.Marks.{FreeRun}
 use Rattle.table.proofs.lent.Entries.past_free.Given as goal
 
 abbrev pub invariant-loop-k : goal.invariant-loop-k
-invariant-loop-k l = FreeRun l.self.slots l.self.words.now l.from (l.from + 4 * l.k)
+invariant-loop-k g l = FreeRun l.self.slots l.self.words.now l.from (l.from + g.row.MANY * l.k)
