@@ -1,5 +1,5 @@
 // Runs of free entries, which no pass need look at: those behind the last entry in use, and those between others.
-ghost use Rattle.std.specs.Prelude.{◌≡◌, true, ◌+◌, ◌<◌, ◌≤◌, MatchOption, length};
+ghost use Rattle.std.specs.Prelude.{◌≡◌, true, ◌+◌, ◌<◌, ◌≤◌, MatchOption, MatchResult, length};
 ghost use Rattle.words.specs.Layout.{slots_of, max_slots};
 ghost use Rattle.table.specs.Marks.{FreeRun, Reaches};
 
@@ -27,30 +27,38 @@ impl<'a> Entries<'a> {
         free
     }
 
-    // Passes over free entries from `from` on and before the top, so many at a time and so often at most.
-    fn past_free<const MANY: usize>(&self, from: usize, most: usize) -> usize
+    // Passes over free entries from `from` on and before the top, so many at a time and so often at most: Ok is how far all are free, Err is where the
+    // first so many stand that are not. How often is asked last, so that short runs are not slower for it.
+    fn past_free<const MANY: usize>(&self, from: usize, most: usize) -> Result<usize, usize>
         requires { (0 < MANY) × (from ≤ self.now.top) }
-        ensures { (from ≤ result) × (result ≤ self.now.top) × FreeRun self.now.slots self.now.words.now from result }
+        ensures { MatchResult result
+            (λ end. (from ≤ end) × (end ≤ self.now.top) × FreeRun self.now.slots self.now.words.now from end)
+            (λ at. (from ≤ at) × (at < self.now.top) × FreeRun self.now.slots self.now.words.now from at) }
     {
-        let runs = ((self.top - from) / MANY).min(most);
+        let runs = (self.top - from) / MANY;
         for k in 0..runs {
             let at = from + MANY * k;
             if !self.are_free::<MANY>(at) {
-                return at;
+                return Err(at);
+            }
+            if k + 1 == most {
+                return Ok(at + MANY);
             }
         }
-        from + MANY * runs
+        Ok(from + MANY * runs)
     }
 
-    // Passes over the rest of a long run, by sixteens and then by fours. It is taken into no other function: there it would take registers from the
-    // pass over entries in use.
+    // The entry to pass next, from `from` on, in a long run of free ones: they are passed over by sixteens and then by fours. It is taken into no other
+    // function: there it would take registers from the pass over entries in use.
     #[inline(never)]
-    fn past_long(&self, from: usize) -> usize
+    fn past_long(&self, from: usize) -> Option<usize>
         requires { from ≤ self.now.top }
-        ensures { (from ≤ result) × (result ≤ self.now.top) × FreeRun self.now.slots self.now.words.now from result }
+        ensures { MatchOption result (FreeRun self.now.slots self.now.words.now from self.now.top)
+            (λ i. (from ≤ i) × (i < self.now.top) × FreeRun self.now.slots self.now.words.now from i) }
     {
-        let far = self.past_free::<LONG_RUN>(from, MAX_SLOTS);
-        self.past_free::<RUN>(far, MAX_SLOTS)
+        let (Ok(far) | Err(far)) = self.past_free::<LONG_RUN>(from, MAX_SLOTS);
+        let (Ok(next) | Err(next)) = self.past_free::<RUN>(far, MAX_SLOTS);
+        if next == self.top { None } else { Some(next) }
     }
 
     // The entry to pass next, from `from` on and before the top: that one where it is in use, which is asked first, since entries in use mostly
@@ -66,13 +74,10 @@ impl<'a> Entries<'a> {
         if self.first_word(from) != 0 {
             return Some(from);
         }
-        let near = self.past_free::<RUN>(from, SHORT / RUN);
-        let next = if near - from < SHORT {
-            near
-        } else {
-            self.past_long(near)
-        };
-        if next == self.top { None } else { Some(next) }
+        match self.past_free::<RUN>(from, SHORT / RUN) {
+            Ok(near) => self.past_long(near),
+            Err(at) => Some(at),
+        }
     }
 
     // The same entries with a lower top, from which on all are free: so many are asked at once, so that it may be too high by one less.
