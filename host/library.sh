@@ -54,7 +54,7 @@ echo "library: the library is proved before it is built, with all that it rests 
 if [ -f host/lib/seconds ]; then
     echo "library: that took up to $(minutes "$(cat host/lib/seconds)") here; what has not changed since is not proved again"
 else
-    echo "library: from nothing that takes some 12 minutes; a line appears for each crate when it is proved"
+    echo "library: from nothing that takes some 13 minutes; a line appears for each crate when it is proved"
 fi
 begin=$SECONDS
 # A line for each crate is enough to follow; the log has a line for each function.
