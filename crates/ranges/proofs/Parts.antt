@@ -8,7 +8,7 @@ use Rattle.words.proofs.Scan.{by_bool, by_le, and_join, and_split, is_false, tru
 use Rattle.ranges.specs.declared.Range.{Range}
 use Rattle.ranges.specs.declared.segments.Segment.{Segment}
 use Rattle.ranges.specs.Ranges.{covers, named, kind_for, rule_for, label_for}
-use Rattle.ranges.specs.Lists.{range_of, range_end, number_by, Within, NoneEmpty, Orders, RisingBy, RisesFrom, lowest_from, turn_behind, LeastOf, NextNamed, FirstNaming, AllOrNone, Asks, Next, NoneLeft}
+use Rattle.ranges.specs.Lists.{range_of, range_end, number_by, Within, NoneEmpty, Orders, RisingBy, RisingFrom, RisesFrom, lowest_from, turn_behind, LeastOf, NextNamed, FirstNaming, AllOrNone, Asks, Next, NoneLeft}
 use Rattle.ranges.proofs.Ranges.{covers_bounds, covers_make, covers_not, label_low}
 use Rattle.ranges.proofs.Lists.{named_by, named_nowhere, named_within, naming_make, naming_none, naming_below, kind_by, rule_by, raising, label_by, label_nowhere}
 use Rattle.ranges.proofs.Orders.{by_order, by_order_but}
@@ -95,11 +95,11 @@ label_bit l w b e =
     (λ t. let other = eqb-false l 1 t in rw (e, t) (omega arith))
 
 -- of a list that rises in this order, the range that follows those passed
-module _ (rs : List Range) (order : List ℕ) (k from : ℕ) (o : RisesFrom rs order k from) where
+module _ (rs : List Range) (order : List ℕ) (k from : ℕ) (o : RisingFrom rs order k from) where
   -- none is left where all are passed
   pub rising_none : length rs ≤ k → NoneLeft rs from
   rising_none l c b =
-      named_nowhere rs c (by_order (length rs) order o.0 (λ i. covers (range_of rs i) c ≡ false) (λ j h. covers_not (range_of rs (number_by order j)) c (λ x y. omega (arith, o.2.0 j (omega arith) h))))
+      named_nowhere rs c (by_order (length rs) order o.0.1 (λ i. covers (range_of rs i) c ≡ false) (λ j h. covers_not (range_of rs (number_by order j)) c (λ x y. omega (arith, o.2.0 j (omega arith) h))))
 
   module _ (m : ℕ) (l : k < length rs) (within : Within m rs) (filled : NoneEmpty rs) where
     -- the range, which is one of the list
@@ -107,13 +107,13 @@ module _ (rs : List Range) (order : List ℕ) (k from : ℕ) (o : RisesFrom rs o
     r = number_by order k
 
     is_one : r < length rs
-    is_one = o.0.1 k l
+    is_one = o.0.1.0 k l
 
     -- no other range names one of its cells
     alone : (c : ℕ) → covers (range_of rs r) c ≡ true → (i : ℕ) → i < length rs → (i ≡ r → ⊥) → covers (range_of rs i) c ≡ false
     alone c h i b ne =
         let e = covers_bounds (range_of rs r) c h in
-        by_order_but (length rs) order o.0 (λ i. covers (range_of rs i) c) r
+        by_order_but (length rs) order o.0.1 (λ i. covers (range_of rs i) c) r
         (λ j u other.
         let apart : j ≡ k → ⊥ = λ q. other (ap (number_by order) q) in
         by_le k j
@@ -142,7 +142,7 @@ module _ (rs : List Range) (order : List ℕ) (k from : ℕ) (o : RisesFrom rs o
     rising_next = record {
       low = o.2.1 k (omega arith) l;
       none = λ c a b.
-          named_nowhere rs c (by_order (length rs) order o.0 (λ i. covers (range_of rs i) c ≡ false) (λ j h.
+          named_nowhere rs c (by_order (length rs) order o.0.1 (λ i. covers (range_of rs i) c ≡ false) (λ j h.
           by_le k j
           (λ u. covers_not (range_of rs (number_by order j)) c (λ x y. omega (arith, from_here j h u)))
           (λ u. covers_not (range_of rs (number_by order j)) c (λ x y. omega (arith, o.2.0 j u h)))));
@@ -159,7 +159,7 @@ module _ (rs : List Range) (order : List ℕ) (k from : ℕ) (o : RisesFrom rs o
           };
     }
 
-    pub rising_on : RisesFrom rs order (k + 1) (range_end (range_of rs r))
+    pub rising_on : RisingFrom rs order (k + 1) (range_end (range_of rs r))
     rising_on = (
       o.0,
       o.1,
@@ -174,16 +174,21 @@ module _ (rs : List Range) (order : List ℕ) (k from : ℕ) (o : RisesFrom rs o
 
 -- no range is passed at first
 pub rising_start : (rs : List Range) (b : Bool) (order : Bor (List ℕ)) (kept : Option (Bor (List ℕ))) → Orders (length rs) order.now
-    → (b ≡ true → RisingBy rs order.now) → kept ≡ then_some b order → IfSome kept (λ keys. RisesFrom rs keys.now 0 0)
+    → (b ≡ true → RisingBy rs order.now) → kept ≡ then_some b order → IfSome kept (λ keys. RisingFrom rs keys.now 0 0)
 rising_start rs true order kept o r e = rw e (o, r refl, (λ i l. absurd (omega arith), λ i a b. omega arith))
 rising_start rs false order kept o r e = rw e tt
 
+-- and none of the keys is more than those of the ranges, where none was
+pub rising_whole : (rs : List Range) (b : Bool) (order : Bor (List ℕ)) (kept : Option (Bor (List ℕ))) → kept ≡ then_some b order → length order.now ≡ length rs → (k c : ℕ)
+    → IfSome kept (λ keys. RisingFrom rs keys.now k c) → IfSome kept (λ keys. RisesFrom rs keys.now k c)
+rising_whole rs true order kept e n k c o = rw e (n, rw e at o)
+rising_whole rs false order kept e n k c o = rw e tt
+
 -- what is said of the order of a list that has one
-pub rising_ahead : (rs : List Range) (order : Bor (List ℕ)) (kept : Option (Bor (List ℕ))) → kept ≡ Some order → (k : ℕ) (N : Type 0) (P : Segment → Type 0) (o : Option Segment)
-    → MatchOption o N (λ s. P s × (k < length rs) × RisesFrom rs order.now (k + 1) s.end)
-    → MatchOption o N (λ s. P s × IfSome kept (λ keys. (k < length rs) × RisesFrom rs keys.now (k + 1) s.end))
-rising_ahead rs order kept e k N P None h = h
-rising_ahead rs order kept e k N P (Some s) h = (h.0, rw e (h.1, h.2))
+pub rising_ahead : (order : Bor (List ℕ)) (kept : Option (Bor (List ℕ))) → kept ≡ Some order → (N : Type 0) (P : Segment → Type 0) (Q : Bor (List ℕ) → Segment → Type 0)
+    (o : Option Segment) → MatchOption o N (λ s. P s × Q order s) → MatchOption o N (λ s. P s × IfSome kept (λ keys. Q keys s))
+rising_ahead order kept e N P Q None h = h
+rising_ahead order kept e N P Q (Some s) h = (h.0, rw e h.1)
 
 -- of any list, the lowest cell that is named, up to where each range names all cells or none
 pub mixed_next : (m : ℕ) (rs : List Range) (from at end k : ℕ) (w : Bool) → NextNamed m rs from at → at < m

@@ -33,11 +33,14 @@ abbrev pub number_by : List ℕ → ℕ → ℕ
 number_by order k = slice_index order k % max_ranges
 
 -- the first n keys name n ranges, and all of them: what is so of each that a key names is so of all n
-abbrev pub Orders : ℕ → List ℕ → Type 0
-Orders n order =
-    (n ≤ length order)
-    × ((k : ℕ) → k < n → number_by order k < n)
+abbrev pub Names : ℕ → List ℕ → Type 0
+Names n order =
+    ((k : ℕ) → k < n → number_by order k < n)
     × ((p : ℕ → Bool) → ((k : ℕ) → k < n → p (number_by order k) ≡ true) → (i : ℕ) → i < n → p i ≡ true)
+
+-- and there are as many
+abbrev pub Orders : ℕ → List ℕ → Type 0
+Orders n order = (n ≤ length order) × Names n order
 
 -- so ordered, every range ends before the next one begins: of the first n, and of all
 abbrev pub RisingTo : ℕ → List Range → List ℕ → Type 0
@@ -53,8 +56,12 @@ Passed rs order k c =
     × ((i : ℕ) → k ≤ i → i < length rs → c ≤ (range_of rs (number_by order i)).first)
 
 -- the first keys name all ranges of a list, which so ordered rises and of which so many are passed
+abbrev pub RisingFrom : List Range → List ℕ → (k c : ℕ) → Type 0
+RisingFrom rs order k c = Orders (length rs) order × RisingBy rs order × Passed rs order k c
+
+-- and there are no other keys
 abbrev pub RisesFrom : List Range → List ℕ → (k c : ℕ) → Type 0
-RisesFrom rs order k c = Orders (length rs) order × RisingBy rs order × Passed rs order k c
+RisesFrom rs order k c = (length order ≡ length rs) × RisingFrom rs order k c
 
 -- ---- segments
 

@@ -2,7 +2,7 @@
 ghost use Rattle.std.specs.Prelude.{◌≡◌, ℕ, ◌+◌, ◌<◌, ◌≤◌, true, false, length, EachIndex, MatchOption, IfSome, None};
 ghost use Rattle.std.proofs.Props.{props};
 ghost use Rattle.ranges.specs.Ranges.{covers};
-ghost use Rattle.ranges.specs.Lists.{range_of, Orders, RisesFrom, lowest_from, turn_behind, LeastOf, Next, NoneLeft};
+ghost use Rattle.ranges.specs.Lists.{range_of, Orders, RisingFrom, RisesFrom, lowest_from, turn_behind, LeastOf, Next, NoneLeft};
 
 use crate::Range;
 use crate::fitting::Fitting;
@@ -28,7 +28,7 @@ pub struct Segments<'a> {
     pub passed: usize,
     pub at: usize,
     ghost low: { at ≤ list.cells },
-    ghost rising: { IfSome order (λ keys. RisesFrom list.ranges.now keys.now passed at) } by { Prim.hlevel props },
+    ghost rising: { IfSome order (λ keys. RisingFrom list.ranges.now keys.now passed at) } by { Prim.hlevel props },
 }
 
 impl Range {
@@ -79,9 +79,9 @@ fn run_end(list: &[Range], at: usize, cells: usize) -> usize
 // Of a list that rises in this order, and whose first ranges are passed: the next range.
 fn rising_segment(list: &Fitting, order: &[u32], passed: usize) -> Option<Segment>
     requires { Orders (length list.now.ranges.now) order.now }
-    ensures { (from : ℕ) → RisesFrom list.now.ranges.now order.now passed from → MatchOption result (NoneLeft list.now.ranges.now from)
-        (λ s. Next list.now.cells list.now.ranges.now from s × (passed < length list.now.ranges.now)
-        × RisesFrom list.now.ranges.now order.now (passed + 1) s.end) }
+    ensures { (from : ℕ) → RisingFrom list.now.ranges.now order.now passed from → MatchOption result (NoneLeft list.now.ranges.now from)
+        (λ s. Next list.now.cells list.now.ranges.now from s
+        × ((passed < length list.now.ranges.now) × RisingFrom list.now.ranges.now order.now (passed + 1) s.end)) }
 {
     if list.ranges.len() <= passed {
         return None;
@@ -110,10 +110,11 @@ fn mixed_segment(list: &Fitting, from: usize) -> Option<Segment>
 }
 
 impl<'a> Segments<'a> {
-    // All segments of a list, of which this is the order.
+    // All segments of a list, of which this is the order. No range is passed yet; where the order has no other keys, the one kept has none.
     pub fn of(list: Fitting<'a>, order: &'a [u32]) -> Segments<'a>
         requires { Orders (length list.ranges.now) order.now }
-        ensures { (result.at ≡ 0) × (result.list ≡ list.entry) }
+        ensures begins { (result.at ≡ 0) × (result.list ≡ list.entry) × (result.passed ≡ 0) }
+        ensures whole { length order.now ≡ length list.entry.ranges.now → IfSome result.order (λ keys. RisesFrom list.entry.ranges.now keys.now 0 0) }
     {
         Segments {
             list,
@@ -127,7 +128,7 @@ impl<'a> Segments<'a> {
     fn ahead(&self) -> Option<Segment>
         ensures { MatchOption result (NoneLeft self.now.list.ranges.now self.now.at) (λ s. Next self.now.list.cells self.now.list.ranges.now self.now.at s
             × IfSome self.now.order (λ keys. (self.now.passed < length self.now.list.ranges.now)
-            × RisesFrom self.now.list.ranges.now keys.now (self.now.passed + 1) s.end)) }
+            × RisingFrom self.now.list.ranges.now keys.now (self.now.passed + 1) s.end)) }
     {
         match self.order {
             Some(order) => rising_segment(&self.list, order, self.passed),
@@ -135,12 +136,13 @@ impl<'a> Segments<'a> {
         }
     }
 
-    // The next cells that the list names, and what it asks for them.
+    // The next cells that the list names, and what it asks for them. At most one range more is passed.
     pub fn next_segment(&mut self) -> Option<Segment>
         ensures same { (self.new.list ≡ self.old.list) × (self.new.order ≡ self.old.order) }
         ensures next { MatchOption result (NoneLeft self.old.list.ranges.now self.old.at)
             (λ s. Next self.old.list.cells self.old.list.ranges.now self.old.at s × (self.new.at ≡ s.end)) }
         ensures stays { result ≡ None → self.new ≡ self.old }
+        ensures counted { self.new.passed ≤ self.old.passed + 1 }
     {
         let segment = self.ahead()?;
         self.passed = self.passed.saturating_add(1);

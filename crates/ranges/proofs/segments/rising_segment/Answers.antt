@@ -9,7 +9,7 @@ pub returns-then-list-passed : goal.returns-then-list-passed
 returns-then-list-passed c = λ from o. rising_none _ _ _ from o (omega arith)
 
 pub bounds-list-number_of : goal.bounds-list-number_of
-bounds-list-number_of c = omega (arith, c.number_of.ensures, c.requires.1 c.args.passed (omega arith))
+bounds-list-number_of c = omega (arith, c.number_of.ensures, c.requires.1.0 c.args.passed (omega arith))
 
 pub returns : goal.returns
 returns c = λ from o.
@@ -19,6 +19,5 @@ returns c = λ from o.
     let e = ap (range_of list.ranges.now) c.number_of.ensures in
     rw (c.is_writable.ensures, c.end.ensures, e) (
       rising_next list.ranges.now order k from o list.cells (omega arith) list.within list.filled,
-      omega arith,
-      rising_on list.ranges.now order k from o list.cells (omega arith) list.within list.filled,
+      (omega arith, rising_on list.ranges.now order k from o list.cells (omega arith) list.within list.filled),
     )

@@ -17,9 +17,9 @@ pub loop-part-init : goal.loop-part-init
 loop-part-init g c =
     let q = c.args.self.now in
     let s = c.args.staged.now in (
-      c.of-segments.ensures.1,
-      rw c.of-segments.ensures.0 (start_stands q.memory.now c.args.bodies.now (words_lent q) (ranges_lent q) s.words s.changed c.requires.blank),
-      rw c.of-segments.ensures.0
+      c.of-segments.ensures.begins.1,
+      rw c.of-segments.ensures.begins.0 (start_stands q.memory.now c.args.bodies.now (words_lent q) (ranges_lent q) s.words s.changed c.requires.blank),
+      rw c.of-segments.ensures.begins.0
           (copied_none q.memory.now (words_lent q) (ranges_lent q) c.args.budget (stand 0 begins) (stand 0 begins) c.args.bodies.now (omega arith) refl (λ y lo hi. absurd (omega arith))),
       c.requires.bodies,
     )
