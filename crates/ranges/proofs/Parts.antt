@@ -178,11 +178,11 @@ pub rising_start : (rs : List Range) (b : Bool) (order : Bor (List ℕ)) (kept :
 rising_start rs true order kept o r e = rw e (o, r refl, (λ i l. absurd (omega arith), λ i a b. omega arith))
 rising_start rs false order kept o r e = rw e tt
 
--- and none of the keys is more than those of the ranges, where none was
-pub rising_whole : (rs : List Range) (b : Bool) (order : Bor (List ℕ)) (kept : Option (Bor (List ℕ))) → kept ≡ then_some b order → length order.now ≡ length rs → (k c : ℕ)
-    → IfSome kept (λ keys. RisingFrom rs keys.now k c) → IfSome kept (λ keys. RisesFrom rs keys.now k c)
-rising_whole rs true order kept e n k c o = rw e (n, rw e at o)
-rising_whole rs false order kept e n k c o = rw e tt
+-- and where the order has no other keys, the one that is kept has none
+pub rises_start : (rs : List Range) (b : Bool) (order : Bor (List ℕ)) (kept : Option (Bor (List ℕ))) → length order.now ≡ length rs → Orders (length rs) order.now
+    → (b ≡ true → RisingBy rs order.now) → kept ≡ then_some b order → IfSome kept (λ keys. RisesFrom rs keys.now 0 0)
+rises_start rs true order kept n o r e = rw e (n, rw e at (rising_start rs true order kept o r e))
+rises_start rs false order kept n o r e = rw e tt
 
 -- what is said of the order of a list that has one
 pub rising_ahead : (order : Bor (List ℕ)) (kept : Option (Bor (List ℕ))) → kept ≡ Some order → (N : Type 0) (P : Segment → Type 0) (Q : Bor (List ℕ) → Segment → Type 0)

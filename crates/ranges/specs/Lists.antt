@@ -38,7 +38,7 @@ Names n order =
     ((k : ℕ) → k < n → number_by order k < n)
     × ((p : ℕ → Bool) → ((k : ℕ) → k < n → p (number_by order k) ≡ true) → (i : ℕ) → i < n → p i ≡ true)
 
--- and there are as many
+-- and there are so many keys
 abbrev pub Orders : ℕ → List ℕ → Type 0
 Orders n order = (n ≤ length order) × Names n order
 
@@ -59,7 +59,7 @@ Passed rs order k c =
 abbrev pub RisingFrom : List Range → List ℕ → (k c : ℕ) → Type 0
 RisingFrom rs order k c = Orders (length rs) order × RisingBy rs order × Passed rs order k c
 
--- and there are no other keys
+-- and there are no keys but these
 abbrev pub RisesFrom : List Range → List ℕ → (k c : ℕ) → Type 0
 RisesFrom rs order k c = (length order ≡ length rs) × RisingFrom rs order k c
 

@@ -110,7 +110,7 @@ fn mixed_segment(list: &Fitting, from: usize) -> Option<Segment>
 }
 
 impl<'a> Segments<'a> {
-    // All segments of a list, of which this is the order. No range is passed yet; where the order has no other keys, the one kept has none.
+    // All segments of a list, of which this is the order. No range is passed yet. An order with no keys but those of the ranges is kept whole, if it is.
     pub fn of(list: Fitting<'a>, order: &'a [u32]) -> Segments<'a>
         requires { Orders (length list.ranges.now) order.now }
         ensures begins { (result.at ≡ 0) × (result.list ≡ list.entry) × (result.passed ≡ 0) }

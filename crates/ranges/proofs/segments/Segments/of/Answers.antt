@@ -1,6 +1,6 @@
 -- `ranges::segments::Segments::of` meets its contract: no range is passed yet. Assumes nothing.
 use Rattle.std.proofs.Common.{rules}
-use Rattle.ranges.proofs.Parts.{rising_start, rising_whole}
+use Rattle.ranges.proofs.Parts.{rising_start, rises_start}
 use Rattle.ranges.proofs.segments.Segments.of.Goals as goal
 
 pub invariant_of-result : goal.invariant_of-result
@@ -10,5 +10,4 @@ invariant_of-result c = record {
 }
 
 pub returns-clause-whole : goal.returns-clause-whole
-returns-clause-whole c = λ n. rising_whole c.args.list.ranges.now c.is_rising.result _ c.then_some.result c.then_some.ensures n 0 0
-    (rising_start c.args.list.ranges.now c.is_rising.result _ c.then_some.result c.requires c.is_rising.ensures c.then_some.ensures)
+returns-clause-whole c = λ n. rises_start c.args.list.ranges.now c.is_rising.result _ c.then_some.result n c.requires c.is_rising.ensures c.then_some.ensures
